@@ -1,0 +1,20 @@
+use Rattle.std.proofs.Common.{◌≡◌, ◌≤◌, ◌+◌, ◌-◌, Some, true, vec_len}
+use Rattle.odd_base.specs.Shelf.{FileMap}
+use Rattle.odd_base.proofs.ReadSoFar.{ReadSoFar}
+use Rattle.odd_base.proofs.reading.slurp.Given as goal
+
+abbrev pub invariant-reading : goal.invariant-reading
+invariant-reading g l =
+    let F = g.F.Shelf in
+    record {
+      same_files : F.holds l.shelf ≡ F.holds l.fn.shelf;
+      same_steady : F.steady l.shelf ≡ F.steady l.fn.shelf;
+      begun : F.begun l.shelf ≡ true;
+      never_falls : F.faults l.fn.shelf ≤ F.faults l.shelf;
+      few_reads : F.reads l.shelf ≤ F.reads l.fn.shelf + vec_len l.bytes;
+      within : vec_len l.bytes ≤ l.limit;
+      sofar : (files : FileMap) → F.holds l.fn.shelf ≡ Some files → ReadSoFar files l.name l.bytes.items (F.rest l.shelf);
+    }
+
+abbrev pub decreases-reading : goal.decreases-reading
+decreases-reading g l = l.limit - vec_len l.bytes

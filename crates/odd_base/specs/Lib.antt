@@ -1,0 +1,9 @@
+pub mod Count
+pub mod Key
+pub mod KeyOrder
+pub mod Map
+pub mod Memory
+pub mod Shelf
+pub mod Sink
+pub mod Text
+pub mod formers

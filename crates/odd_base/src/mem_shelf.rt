@@ -1,0 +1,153 @@
+ghost use Rattle.std.specs.Prelude.{◌≡◌, ◌≤◌, ◌<◌, ◌+◌, ◌^◌, Some, false, length, IfSome};
+ghost use Rattle.std.specs.FinMap as finite;
+ghost use Rattle.odd_base.specs.Text.{text_cmp};
+ghost use Rattle.odd_base.specs.Memory.{files_of, pairs_of, bytes_at, rest_of, is_empty};
+
+use crate::bytes::Bytes;
+use crate::count::next_count;
+use crate::seq::Seq;
+use crate::shelf::{Shelf, ShelfFault};
+use crate::text::Text;
+
+/// A file in memory.
+#[derive(Debug, Drop)]
+pub struct File {
+    pub name: Text,
+    pub bytes: Bytes,
+}
+
+/// A list of files. Of two files of one name the first counts.
+pub type Files = Seq<File>;
+
+/// A list of the numbers of calls, counted from 1.
+pub type Calls = Seq<u64>;
+
+/// The number of a file, and how many of its bytes were read.
+#[derive(Clone, Copy, Debug, PartialEq, Eq)]
+struct Place {
+    number: usize,
+    at: usize,
+}
+
+/// Files in memory, of which a read brings at most `chunk` bytes. Beside the faults of a steady shelf, the calls
+/// whose numbers are in `fail` fault; calls of `begin` and `read` are counted together.
+#[derive(Drop)]
+pub struct MemShelf {
+    files: Files,
+    chunk: usize,
+    fail: Calls,
+    begun: bool,
+    place: Option<Place>,
+    calls: u64,
+    faults: u64,
+    reads: u64,
+    ghost some: { 1 ≤ chunk },
+}
+
+impl MemShelf {
+    /// A shelf that holds the files. `chunk` is a number of bytes.
+    pub fn new(files: Files, chunk: usize, fail: Calls) -> MemShelf
+        requires { 1 ≤ chunk }
+        ensures holds { ⟦<MemShelf as Shelf>⟧.holds result ≡ Some (files_of files) }
+        ensures not_begun { ⟦<MemShelf as Shelf>⟧.begun result ≡ false }
+        ensures no_faults { ⟦<MemShelf as Shelf>⟧.faults result ≡ 0 }
+        ensures no_reads { ⟦<MemShelf as Shelf>⟧.reads result ≡ 0 }
+        ensures steady { ⟦<MemShelf as Shelf>⟧.steady result ≡ is_empty fail }
+    {
+        MemShelf {
+            files,
+            chunk,
+            fail,
+            begun: false,
+            place: None,
+            calls: 0,
+            faults: 0,
+            reads: 0,
+        }
+    }
+}
+
+// The number of the first file of a name.
+fn find_file(files: &[File], name: &Text) -> Option<usize>
+    ensures bytes { bytes_at files.now result ≡ finite.find text_cmp name.now (pairs_of files.now) }
+    ensures within { IfSome result (λ number. number < length files.now) }
+{
+    for (number, file) in files.iter().enumerate() {
+        if file.name == *name {
+            return Some(number);
+        }
+    }
+    None
+}
+
+// What is unread at a place.
+fn rest_at<'a>(files: &'a [File], place: Option<Place>) -> &'a [u8]
+    ensures value { result.now ≡ rest_of files.now place }
+    ensures fits { IfSome place (λ p. 0 < length result.now → p.at + length result.now < 2 ^ 64) }
+{
+    match place {
+        None => &[],
+        Some(Place { number, at }) => match files.get(number) {
+            None => &[],
+            Some(file) => {
+                let bytes = file.bytes.as_slice();
+                if at <= bytes.len() { &bytes[at..] } else { &[] }
+            }
+        },
+    }
+}
+
+impl Shelf for MemShelf {
+    ghost use Rattle.std.specs.Prelude.{Some};
+    ghost use Rattle.odd_base.specs.Memory.{files_of, rest_of, is_empty};
+
+    ghost holds = { λ s. Some (files_of s.files) };
+
+    ghost rest = { λ s. Some (rest_of s.files s.place) };
+
+    ghost faults = { λ s. s.faults };
+
+    ghost reads = { λ s. s.reads };
+
+    ghost begun = { λ s. s.begun };
+
+    ghost steady = { λ s. is_empty s.fail };
+
+    fn begin(&mut self, name: &Text) -> Result<(), ShelfFault> {
+        self.begun = true;
+        self.place = None;
+        self.calls = next_count(self.calls);
+        if self.fail.as_slice().contains(&self.calls) {
+            self.faults = next_count(self.faults);
+            return Err(ShelfFault);
+        }
+        match find_file(self.files.as_slice(), name) {
+            Some(number) => {
+                self.place = Some(Place { number, at: 0 });
+                Ok(())
+            }
+            None => {
+                self.faults = next_count(self.faults);
+                Err(ShelfFault)
+            }
+        }
+    }
+
+    fn read(&mut self, buf: &mut [u8]) -> Result<usize, ShelfFault> {
+        self.calls = next_count(self.calls);
+        if !self.begun || self.fail.as_slice().contains(&self.calls) {
+            self.faults = next_count(self.faults);
+            return Err(ShelfFault);
+        }
+        let rest = rest_at(self.files.as_slice(), self.place);
+        let n = rest.len().min(self.chunk).min(buf.len());
+        buf[..n].copy_from_slice(&rest[..n]);
+        if n > 0 {
+            self.reads = next_count(self.reads);
+            if let Some(Place { number, at }) = self.place {
+                self.place = Some(Place { number, at: at + n });
+            }
+        }
+        Ok(n)
+    }
+}
