@@ -11,7 +11,6 @@ use Rattle.std.specs.declared.cmp.Ordering.{Ordering}
 use Rattle.std.specs.declared.cmp.Ordering.TheVariants.{Less, Equal, Greater}
 use Rattle.odd_base.specs.Memory.{pairs_of, bytes_at, rest_of, files_of}
 use Rattle.odd_base.specs.declared.mem_shelf.File.{File}
-use Rattle.odd_base.specs.declared.mem_shelf.Place.{Place}
 
 equal_only : (r : Ordering) → is_eq r ≡ true → r ≡ Equal
 equal_only Less e = cc

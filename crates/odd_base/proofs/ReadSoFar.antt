@@ -1,6 +1,6 @@
 use Rattle.std.specs.Prelude.{if◌then◌else◌}
 use Rattle.odd_base.specs.Count.{next_count}
-use Rattle.std.proofs.Common.{◌≡◌, ℕ, Bool, true, false, ◌+◌, ◌<◌, ◌≤◌, List, [], ◌∷◌, ◌++◌, length, take, drop, Option, Some, None, refl, sym, ap, subst, ◌∙◌, arith, append_assoc, length-append, length-take}
+use Rattle.std.proofs.Common.{◌≡◌, ℕ, Bool, true, false, ◌+◌, ◌<◌, ◌≤◌, List, [], ◌++◌, length, take, drop, Option, Some, refl, sym, ap, subst, ◌∙◌, arith, append_assoc, length-take}
 use Rattle.std.proofs.lemmas.List.{take-append-drop, take-append-le, append-nil, take_all}
 use Rattle.odd_base.specs.Shelf.{FileMap, Held, TakesFront}
 

@@ -2,7 +2,6 @@
 use Rattle.std.specs.Prelude.{ℕ, Bool, true, false, List, [], ◌∷◌, Option, Some, None, drop, map, slice_get}
 use Rattle.std.specs.Option.{option_map}
 use Rattle.std.specs.FinMap as finite
-use Rattle.odd_base.specs.Text.{text_cmp}
 use Rattle.odd_base.specs.Shelf.{FileMap}
 use Rattle.odd_base.specs.declared.mem_shelf.File.{File}
 use Rattle.odd_base.specs.declared.mem_shelf.Place.{Place}

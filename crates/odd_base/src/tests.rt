@@ -37,7 +37,11 @@ fn files(alloc: Global) -> Result<Files, NoMemory> {
 
 #[test]
 fn texts_and_bytes_keep_what_they_are_given(rt: HostRuntime) -> Result<(), Fail> {
-    assert_eq!(rt; text(rt.alloc(), "ä<b")?.as_str(), "ä<b");
+    let mut made = Text::new(rt.alloc());
+    made.push('ä')?;
+    made.push_str("<b")?;
+    assert_eq!(rt; made.as_str(), "ä<b");
+    assert!(rt; text(rt.alloc(), "ä<b")? == made);
     assert_eq!(rt;
         Bytes::from_slice(rt.alloc(), &[0, 255])?.as_slice(),
         [0, 255].as_slice()

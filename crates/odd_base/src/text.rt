@@ -1,4 +1,4 @@
-ghost use Rattle.std.specs.Prelude.{◌≡◌, ◌↔◌, IsTrue, IfOk};
+ghost use Rattle.std.specs.Prelude.{◌≡◌, ◌↔◌, ◌++◌, [], IsTrue, IfOk, OnOk, OnErr, encode_utf8};
 ghost use Rattle.odd_base.specs.Text.{text_cmp};
 
 use crate::copy::TryCopy;
@@ -27,6 +27,15 @@ impl Model for Text {
 }
 
 impl Text {
+    /// The empty text. It takes no memory before the first push.
+    pub fn new(alloc: Global) -> Text
+        ensures { result ≡ [] }
+    {
+        Text {
+            inner: String::new(alloc),
+        }
+    }
+
     /// A text of its own with the bytes of `text`.
     pub fn from_str(alloc: Global, text: &str) -> Result<Text, NoMemory>
         ensures { IfOk result (λ made. made ≡ text.now) }
@@ -40,6 +49,24 @@ impl Text {
         ensures { result.now ≡ self.now }
     {
         self.inner.as_str()
+    }
+
+    /// Puts a text at the end. Without memory the text stays as it was.
+    pub fn push_str(&mut self, text: &str) -> Result<(), NoMemory>
+        ensures ok { OnOk result (self.new ≡ self.old ++ text.now) }
+        ensures err { OnErr result (self.new ≡ self.old) }
+    {
+        self.inner.push_str(text)?;
+        Ok(())
+    }
+
+    /// Puts a character at the end, in UTF-8. Without memory the text stays as it was.
+    pub fn push(&mut self, character: char) -> Result<(), NoMemory>
+        ensures ok { OnOk result (self.new ≡ self.old ++ encode_utf8 character) }
+        ensures err { OnErr result (self.new ≡ self.old) }
+    {
+        self.inner.push(character)?;
+        Ok(())
     }
 }
 

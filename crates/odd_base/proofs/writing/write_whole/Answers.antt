@@ -1,4 +1,4 @@
-use Rattle.std.proofs.Common.{rules, ◌≡◌, ◌+◌, ◌-◌, ◌++◌, List, ℕ, length-drop, Some, take, drop, length, sym, ap, ◌∙◌, append_assoc, take-add, arith}
+use Rattle.std.proofs.Common.{rules, ◌≡◌, ◌-◌, ◌++◌, List, ℕ, length-drop, Some, take, drop, length, sym, ap, ◌∙◌, append_assoc, take-add, arith}
 use Rattle.std.proofs.lemmas.List.{take_all}
 use Rattle.odd_base.proofs.writing.write_whole.Goals as goal
 

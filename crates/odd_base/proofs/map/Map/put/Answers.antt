@@ -1,6 +1,6 @@
-use Rattle.std.proofs.Common.{◌≡◌, sym, subst, ap, ◌∙◌, refl}
+use Rattle.std.proofs.Common.{sym, subst, ap, ◌∙◌, refl}
 use Rattle.std.specs.FinMap.{put}
-use Rattle.odd_base.specs.Map.{IsAt, IsGap, SetsOnly}
+use Rattle.odd_base.specs.Map.{IsAt, IsGap}
 use Rattle.odd_base.proofs.Entries.{written, inserted, put_sets, put_rises}
 use Rattle.odd_base.proofs.map.Map.put.Goals as goal
 
