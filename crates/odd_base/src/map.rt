@@ -108,6 +108,7 @@ impl<K: ExactOrd + Drop, V: Drop> Map<K, V> {
     pub fn put(&mut self, key: K, value: V) -> Result<(), NoMemory>
         ensures ok { OnOk result (self.new ≡ put K.cmp key value self.old) }
         ensures finds { OnOk result (SetsOnly K.cmp self.old self.new key value) }
+        ensures rising { IsTrue (is_sorted K.cmp self.new) }
         ensures err { OnErr result (self.new ≡ self.old) }
     {
         match search(self.entries(), &key) {
