@@ -1,0 +1,10 @@
+pub mod Bare
+pub mod Characters
+pub mod Fitting
+pub mod Keeping
+pub mod Machine
+pub mod Markup
+pub mod Names
+pub mod Spelled
+pub mod Tokens
+pub mod Trees

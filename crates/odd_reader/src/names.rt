@@ -1,0 +1,66 @@
+ghost use Rattle.std.specs.Prelude.{◌≡◌, ◌↔◌, IsTrue};
+ghost use Rattle.std.specs.List.{list_any};
+ghost use Rattle.odd_reader.specs.Characters.{IsNCName, is_name_char as a_name_char, is_name_start as a_name_start, is_within as a_within};
+
+use odd_base::Text;
+
+// The characters that begin an NCName, as ranges from the first to the last of each.
+const STARTS: [(char, char); 15] = [
+    ('A', 'Z'),
+    ('_', '_'),
+    ('a', 'z'),
+    ('\u{C0}', '\u{D6}'),
+    ('\u{D8}', '\u{F6}'),
+    ('\u{F8}', '\u{2FF}'),
+    ('\u{370}', '\u{37D}'),
+    ('\u{37F}', '\u{1FFF}'),
+    ('\u{200C}', '\u{200D}'),
+    ('\u{2070}', '\u{218F}'),
+    ('\u{2C00}', '\u{2FEF}'),
+    ('\u{3001}', '\u{D7FF}'),
+    ('\u{F900}', '\u{FDCF}'),
+    ('\u{FDF0}', '\u{FFFD}'),
+    ('\u{10000}', '\u{EFFFF}'),
+];
+
+// The further characters that an NCName goes on with.
+const OTHERS: [(char, char); 6] = [
+    ('-', '-'),
+    ('.', '.'),
+    ('0', '9'),
+    ('\u{B7}', '\u{B7}'),
+    ('\u{300}', '\u{36F}'),
+    ('\u{203F}', '\u{2040}'),
+];
+
+// Whether one of the ranges has the character.
+fn is_in(ranges: &[(char, char)], c: char) -> bool
+    ensures { result ≡ list_any (λ r. a_within r.0 r.1 c) ranges.now }
+{
+    ranges.iter().any(|range| range.0 <= c && c <= range.1)
+}
+
+/// Whether a character may begin an NCName (Namespaces in XML 1.0, section 3; XML 1.0, section 2.3).
+pub fn is_name_start(c: char) -> bool
+    ensures { result ≡ a_name_start c }
+{
+    is_in(&STARTS, c)
+}
+
+/// Whether an NCName may go on with a character.
+pub fn is_name_char(c: char) -> bool
+    ensures { result ≡ a_name_char c }
+{
+    is_name_start(c) || is_in(&OTHERS, c)
+}
+
+/// Whether a text is an NCName: a name without a colon.
+pub fn is_ncname(text: &Text) -> bool
+    ensures { IsTrue result ↔ IsNCName text.now }
+{
+    let mut chars = text.as_str().chars();
+    match chars.next() {
+        Some(first) => is_name_start(first) && chars.all(is_name_char),
+        None => false,
+    }
+}
