@@ -1,0 +1,3 @@
+pub mod Odd
+pub mod Reading
+pub mod Library

@@ -1,0 +1,14 @@
+//! What an ODD file declares, and the library of components.
+#![tactic(auto)]
+
+pub mod content;
+pub mod library;
+pub mod odd;
+pub mod reading;
+pub mod spec;
+
+pub use content::Content;
+pub use library::{Component, ElementPart, Library, Parts, library_of};
+pub use odd::{Entries, Entry, OddDoc};
+pub use reading::{OddRefusal, read_odd};
+pub use spec::Spec;
