@@ -1,0 +1,24 @@
+use Rattle.std.proofs.Common.{ap, Err}
+use Rattle.odd_cli.specs.Reply.{no_job, too_long}
+use Rattle.odd_cli.proofs.Replies.{schema_replies, refusal_replies}
+use Rattle.odd_cli.proofs.running.reply_text.Goals as goal
+
+pub returns-in_default-clause-err : goal.returns-in_default-clause-err
+returns-in_default-clause-err g c = λ files h replied. no_job c.in_default.ensures
+
+pub returns-in-Ok-clause-ok : goal.returns-in-Ok-clause-ok
+returns-in-Ok-clause-ok g c = λ files h.
+    schema_replies c.args.words.now files c.in-Ok.bytes
+    (record { file = c.in-Some.name.now; compiles = c.in-Some.ensures; held = c.in-Ok.ensures.ok files h; within = c.in-Ok.ensures.within })
+    c.schema_of_file.result c.schema_of_file.ensures.ok
+
+pub returns-in-Ok-clause-err : goal.returns-in-Ok-clause-err
+returns-in-Ok-clause-err g c = λ files h.
+    refusal_replies c.args.words.now files c.in-Ok.bytes
+    (record { file = c.in-Some.name.now; compiles = c.in-Some.ensures; held = c.in-Ok.ensures.ok files h; within = c.in-Ok.ensures.within })
+    c.schema_of_file.result c.schema_of_file.ensures.err
+
+pub returns-in-Err-TooLong-clause-err : goal.returns-in-Err-TooLong-clause-err
+returns-in-Err-TooLong-clause-err g c = λ files h replied.
+    let long = c.in-Err-TooLong.ensures.too_long files h (ap Err c.in-Err-TooLong.field-0-is) in
+    too_long c.in-Some.name.now long.0 c.in-Some.ensures long.1 long.2

@@ -1,0 +1,14 @@
+use Rattle.std.proofs.Common.{◌≡◌, ap, ◌∙◌, Err}
+use Rattle.odd_cli.specs.Reply.{start_offence}
+use Rattle.odd_cli.proofs.running.schema_of_library.Goals as goal
+
+pub returns-in-Err-Offence-clause-err : goal.returns-in-Err-Offence-clause-err
+returns-in-Err-Offence-clause-err c =
+    let refused = c.in-Err-Offence.ensures.offence c.in-Err-Offence.offence (ap Err c.in-Err-Offence.field-0-is) in
+    let moved = rw c.in-Err-Offence.field-0-is at c.in_file.ensures in
+    let same : c.in_file.result ≡ start_offence refused.word = λ n. record {
+      file = moved.file n;
+      who = (moved.who ∙ refused.who) n;
+      rule = (moved.rule ∙ refused.rule) n;
+    } in
+    (refused.word, refused.is_least, same)

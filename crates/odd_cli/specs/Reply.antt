@@ -1,0 +1,55 @@
+-- What the program answers to words and files: the bytes of the reply and the status.
+use Rattle.std.specs.Prelude.{◌≡◌, ◌≤◌, ◌<◌, ℕ, List, [], length}
+use Rattle.odd_base.specs.Shelf.{FileMap, Held, NotHeld}
+use Rattle.odd_base.specs.declared.offence.Offence.{Offence}
+use Rattle.odd_base.specs.declared.offence.Who.TheVariants as who
+use Rattle.odd_reader.specs.declared.tree.Tree.{Tree}
+use Rattle.odd_reader.specs.Spelled.{Spells}
+use Rattle.odd_reader.specs.Bare.{IsBare}
+use Rattle.odd_decls.specs.declared.odd.OddDoc.{OddDoc}
+use Rattle.odd_decls.specs.declared.library.Library.{Library}
+use Rattle.odd_decls.specs.Odd.{Declares}
+use Rattle.odd_decls.specs.Library.{IsLibraryOf}
+use Rattle.compile_core.specs.Schema.{schema_text, IsMissing, IsLeastMissing, Among}
+use Rattle.odd_cli.specs.declared.running.TheConstants.{FILE_BYTES}
+use Rattle.odd_cli.specs.declared.status.Status.{Status}
+use Rattle.odd_cli.specs.declared.status.Status.TheVariants as status
+use Rattle.odd_cli.specs.declared.status.LimitKind.TheVariants as limit
+use Rattle.odd_cli.specs.declared.words.Job.{Job}
+use Rattle.odd_cli.specs.Words.{WordsMean, Compiles}
+
+-- the words name a file that is held with these bytes, within the limit
+pub record Reads (words : List (List ℕ)) (files : FileMap) (bytes : List ℕ) : Type 0 where
+  pub file : List ℕ
+  pub compiles : Compiles words file
+  pub held : Held files file bytes
+  pub within : length bytes ≤ FILE_BYTES
+
+-- the file is bare, and the library is what its tree declares
+pub record Gives (bytes : List ℕ) (library : Library) : Type 0 where
+  pub bare : IsBare bytes
+  pub tree : Tree
+  pub spelled : Spells bytes tree
+  pub doc : OddDoc
+  pub declared : Declares tree doc
+  pub is_library : IsLibraryOf doc library
+
+abbrev pub GivesNone : List ℕ → Type 0
+GivesNone bytes = (library : Library) → Gives bytes library → ⊥
+
+-- each start word is a held element
+abbrev pub HoldsStart : Library → Type 0
+HoldsStart library = (word : List ℕ) → Among word library.start → IsMissing library word → ⊥
+
+abbrev pub start_offence : List ℕ → Offence
+start_offence word = record { file = 1; who = who.Start word; rule = 20 }
+
+pub data Reply (words : List (List ℕ)) (files : FileMap) : List ℕ → Status → Type 0 where
+  no_job : ((job : Job) → WordsMean words job → ⊥) → Reply words files [] status.Usage
+  no_file : (file : List ℕ) → Compiles words file → NotHeld files file → Reply words files [] (status.ReadFault 1)
+  too_long : (file bytes : List ℕ) → Compiles words file → Held files file bytes → FILE_BYTES < length bytes → Reply words files [] (status.Limit (limit.Bytes 1))
+  not_yet : (bytes : List ℕ) → Reads words files bytes → GivesNone bytes → Reply words files [] (status.NotYet 1)
+  refused : {offence : Offence} (bytes word : List ℕ) (library : Library) → Reads words files bytes → Gives bytes library
+      → IsLeastMissing library library.start word → offence ≡ start_offence word → Reply words files [] (status.Refused offence)
+  done : {text : List ℕ} (bytes : List ℕ) (library : Library) → Reads words files bytes → Gives bytes library
+      → HoldsStart library → text ≡ schema_text library library.start → Reply words files text status.Done

@@ -1,0 +1,265 @@
+//! The program over files and outputs in memory.
+
+use crate::note::write_note;
+use crate::running::run;
+use crate::status::{LimitKind, Status};
+use odd_base::{
+    Bytes, Calls, File, Files, Key, Kind, MemShelf, MemSink, NoMemory, Offence, Text, Who, Words,
+};
+use std::alloc::Global;
+use std::test::Fail;
+
+const ONE_ELEMENT: &str =
+    "<schemaSpec xmlns=\"http://www.tei-c.org/ns/1.0\" ident=\"s\" start=\"a\"><elementSpec ident=\"a\"/></schemaSpec>";
+
+const SCHEMA: &str =
+    "<?xml version=\"1.0\" encoding=\"UTF-8\"?>\n<grammar xmlns=\"http://relaxng.org/ns/structure/1.0\" datatypeLibrary=\"http://www.w3.org/2001/XMLSchema-datatypes\">\n<start>\n<ref name=\"e.a\"/>\n</start>\n<define name=\"e.a\">\n<element name=\"a\" ns=\"http://www.tei-c.org/ns/1.0\">\n<empty/>\n</element>\n</define>\n</grammar>\n";
+
+// How a run is set up: its words, the file `f`, where there is one, and the calls that fail.
+#[derive(Clone, Copy)]
+struct Setting<'a> {
+    words: &'a str,
+    file: Option<&'a str>,
+    shelf_fails: u64,
+    out_fails: u64,
+    note_fails: u64,
+}
+
+// What a run left: its status, and what is on the output and on the note.
+#[derive(Drop)]
+struct Outcome {
+    status: Status,
+    out: Text,
+    note: Text,
+}
+
+fn compiling(file: &str) -> Setting<'_> {
+    Setting {
+        words: "compile f",
+        file: Some(file),
+        shelf_fails: 0,
+        out_fails: 0,
+        note_fails: 0,
+    }
+}
+
+fn failing(alloc: Global, call: u64) -> Result<Calls, NoMemory> {
+    let mut calls = Calls::new(alloc);
+    if call > 0 {
+        calls.push(call)?;
+    }
+    Ok(calls)
+}
+
+fn sink(alloc: Global, call: u64) -> Result<MemSink, NoMemory> {
+    MemSink::new(alloc, 1_000_000, 10, failing(alloc, call)?)
+}
+
+fn written(alloc: Global, sink: &MemSink) -> Result<Text, NoMemory> {
+    match str::from_utf8(sink.written()) {
+        Ok(text) => Text::from_str(alloc, text),
+        Err(_) => Text::from_str(alloc, "not UTF-8"),
+    }
+}
+
+fn run_with(alloc: Global, setting: &Setting) -> Result<Outcome, NoMemory> {
+    let mut words = Words::new(alloc);
+    for word in setting.words.split_whitespace() {
+        words.push(Text::from_str(alloc, word)?)?;
+    }
+    let mut files = Files::new(alloc);
+    if let Some(bytes) = setting.file {
+        let name = Text::from_str(alloc, "f")?;
+        let bytes = Bytes::from_slice(alloc, bytes.as_bytes())?;
+        files.push(File { name, bytes })?;
+    }
+    let mut shelf = MemShelf::new(files, 16, failing(alloc, setting.shelf_fails)?);
+    let mut out = sink(alloc, setting.out_fails)?;
+    let mut note = sink(alloc, setting.note_fails)?;
+    let status = run(alloc, &words, &mut shelf, &mut out, &mut note);
+    Ok(Outcome {
+        status,
+        out: written(alloc, &out)?,
+        note: written(alloc, &note)?,
+    })
+}
+
+#[test]
+fn words_without_a_job_are_usage(rt: HostRuntime) -> Result<(), Fail> {
+    for words in [
+        "",
+        "compile",
+        "compile --",
+        "compile f g",
+        "merge f",
+        "trial 010",
+    ] {
+        let mut setting = compiling(ONE_ELEMENT);
+        setting.words = words;
+        let left = run_with(rt.alloc(), &setting)?;
+        assert_eq!(rt; left.status, Status::Usage);
+        assert_eq!(rt; left.status.code(), 4);
+        assert_eq!(rt; left.out.as_str(), "");
+        assert_eq!(rt; left.note.as_str(), "odd: usage\n");
+    }
+    Ok(())
+}
+
+#[test]
+fn a_file_has_its_answer(rt: HostRuntime) -> Result<(), Fail> {
+    for (items, code, note) in [
+        ("<elementSpec ident=\"a\"/>", 0, ""),
+        (
+            "\n <elementSpec ident=\"b\"/><elementSpec ident=\"a\"></elementSpec>",
+            0,
+            "",
+        ),
+        (
+            "<elementSpec ident=\"a\"><content><empty/></content></elementSpec>",
+            0,
+            "",
+        ),
+        ("", 2, "odd: start a: rule 20\n"),
+        ("<elementSpec ident=\"b\"/>", 2, "odd: start a: rule 20\n"),
+        ("<!--c-->", 10, "odd: file 1: not yet\n"),
+        (
+            "<elementSpec ident=\"a\"/><elementSpec ident=\"a\"/>",
+            10,
+            "odd: file 1: not yet\n",
+        ),
+        (
+            "<elementSpec ident=\"a\" mode=\"add\"/>",
+            10,
+            "odd: file 1: not yet\n",
+        ),
+        (
+            "<elementSpec ident=\"a\"></a>",
+            10,
+            "odd: file 1: not yet\n",
+        ),
+        ("<elementSpec ident=\"a b\"/>", 10, "odd: file 1: not yet\n"),
+    ] {
+        let file = format!(in rt.alloc();
+            "<schemaSpec xmlns=\"http://www.tei-c.org/ns/1.0\" ident=\"s\" start=\"a\">{items}</schemaSpec>"
+        )?;
+        let left = run_with(rt.alloc(), &compiling(file.as_str()))?;
+        assert_eq!(rt; left.status.code(), code, "{items}");
+        assert_eq!(rt; left.note.as_str(), note, "{items}");
+        assert_eq!(rt; left.out.as_str().is_empty(), code != 0, "{items}");
+    }
+    Ok(())
+}
+
+#[test]
+fn the_schema_is_written_define_by_define(rt: HostRuntime) -> Result<(), Fail> {
+    let left = run_with(rt.alloc(), &compiling(ONE_ELEMENT))?;
+    assert_eq!(rt; left.status, Status::Done);
+    assert_eq!(rt; left.out.as_str(), SCHEMA);
+    assert_eq!(rt; left.note.as_str(), "");
+    let mut text = compiling(
+        "<schemaSpec xmlns=\"http://www.tei-c.org/ns/1.0\" ident=\"s\" start=\"a\"><elementSpec ident=\"a\"><content><textNode/></content></elementSpec></schemaSpec>",
+    );
+    let left = run_with(rt.alloc(), &text)?;
+    assert!(rt; left.out.as_str().contains("\n<text/>\n"));
+    text.file = None;
+    let left = run_with(rt.alloc(), &text)?;
+    assert_eq!(rt; left.status, Status::ReadFault { file: 1 });
+    assert_eq!(rt; left.note.as_str(), "odd: read fault file 1\n");
+    Ok(())
+}
+
+#[test]
+fn a_shelf_that_faults_at_any_call_is_a_read_fault(rt: HostRuntime) -> Result<(), Fail> {
+    let mut setting = compiling(ONE_ELEMENT);
+    for call in 1..=9 {
+        setting.shelf_fails = call;
+        let left = run_with(rt.alloc(), &setting)?;
+        assert_eq!(rt; left.status, Status::ReadFault { file: 1 }, "{call}");
+        assert_eq!(rt; left.status.code(), 6);
+        assert_eq!(rt; left.out.as_str(), "");
+        assert_eq!(rt; left.note.as_str(), "odd: read fault file 1\n");
+    }
+    setting.shelf_fails = 10;
+    assert_eq!(rt; run_with(rt.alloc(), &setting)?.status, Status::Done);
+    Ok(())
+}
+
+#[test]
+fn an_output_that_faults_at_any_call_keeps_a_front_of_the_reply(
+    rt: HostRuntime,
+) -> Result<(), Fail> {
+    let mut setting = compiling(ONE_ELEMENT);
+    for call in 1..=31 {
+        setting.out_fails = call;
+        let left = run_with(rt.alloc(), &setting)?;
+        assert_eq!(rt; left.status, Status::WriteFault, "{call}");
+        assert_eq!(rt; left.status.code(), 7);
+        assert_eq!(rt;
+            Some(left.out.as_str()),
+            SCHEMA.get(..(call as usize - 1) * 10),
+            "{call}"
+        );
+        assert_eq!(rt; left.note.as_str(), "odd: write fault\n");
+    }
+    setting.out_fails = 32;
+    assert_eq!(rt; run_with(rt.alloc(), &setting)?.status, Status::Done);
+    Ok(())
+}
+
+#[test]
+fn a_note_that_faults_changes_nothing_else(rt: HostRuntime) -> Result<(), Fail> {
+    let mut setting = compiling(
+        "<schemaSpec xmlns=\"http://www.tei-c.org/ns/1.0\" ident=\"s\" start=\"a\"></schemaSpec>",
+    );
+    for (call, note) in [
+        (1, ""),
+        (2, "odd: "),
+        (3, "odd: start "),
+        (4, "odd: start a"),
+        (5, "odd: start a: rule "),
+        (6, "odd: start a: rule 20"),
+        (7, "odd: start a: rule 20\n"),
+    ] {
+        setting.note_fails = call;
+        let left = run_with(rt.alloc(), &setting)?;
+        assert_eq!(rt; left.status.code(), 2, "{call}");
+        assert_eq!(rt; left.out.as_str(), "", "{call}");
+        assert_eq!(rt; left.note.as_str(), note, "{call}");
+    }
+    Ok(())
+}
+
+#[test]
+fn each_status_has_its_line(rt: HostRuntime) -> Result<(), Fail> {
+    let ident = || Text::from_str(rt.alloc(), "x");
+    let offence = |who, rule| Status::Refused(Offence { file: 3, who, rule });
+    let part = Key {
+        kind: Kind::Datatype,
+        ident: ident()?,
+    };
+    for (status, code, line) in vec![in rt.alloc();
+        (
+            Status::Limit(LimitKind::Bytes { file: 2 }),
+            5,
+            "odd: limit bytes file 2\n"
+        ),
+        (Status::NoMemory, 8, "odd: no memory\n"),
+        (offence(Who::At(89), 1), 2, "odd: file 3: byte 89: rule 1\n"),
+        (
+            offence(Who::Part(part), 14),
+            2,
+            "odd: file 3: datatype x: rule 14\n"
+        ),
+        (
+            offence(Who::Asked(ident()?), 21),
+            2,
+            "odd: explain x: rule 21\n"
+        ),
+    ]? {
+        let mut note = sink(rt.alloc(), 0)?;
+        assert!(rt; write_note(&mut note, &status).is_ok());
+        assert_eq!(rt; written(rt.alloc(), &note)?.as_str(), line);
+        assert_eq!(rt; status.code(), code, "{line}");
+    }
+    Ok(())
+}
