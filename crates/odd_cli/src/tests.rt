@@ -3,9 +3,12 @@
 use crate::note::write_note;
 use crate::running::run;
 use crate::status::{LimitKind, Status};
+use compile_core::{CompileRefusal, compile, print_rng};
 use odd_base::{
-    Bytes, Calls, File, Files, Key, Kind, MemShelf, MemSink, NoMemory, Offence, Text, Who, Words,
+    Bytes, Calls, File, Files, Key, Kind, MemShelf, MemSink, NoMemory, Offence, Text, TryCopy, Who,
+    Words,
 };
+use odd_decls::{Component, Content, ElementPart, Library, Spec};
 use std::alloc::Global;
 use std::test::Fail;
 
@@ -261,5 +264,88 @@ fn each_status_has_its_line(rt: HostRuntime) -> Result<(), Fail> {
         assert_eq!(rt; written(rt.alloc(), &note)?.as_str(), line);
         assert_eq!(rt; status.code(), code, "{line}");
     }
+    Ok(())
+}
+
+// The empty library with the elements `a` and `b`.
+fn two_elements(alloc: Global) -> Result<Library, NoMemory> {
+    let mut library = Library::empty(alloc)?;
+    for (ident, content) in [("b", Content::Empty), ("a", Content::Text)] {
+        let ident = Text::from_str(alloc, ident)?;
+        let kind = Kind::Element;
+        let part = ElementPart { content };
+        library
+            .parts
+            .put(Key { kind, ident }, Component::Element(part))?;
+    }
+    Ok(library)
+}
+
+// The schema of `a` and `b` with these start words, or the start word that is refused.
+fn schema_from(alloc: Global, start: &str) -> Result<Text, NoMemory> {
+    let library = two_elements(alloc)?;
+    let mut words = Words::new(alloc);
+    for word in start.split_whitespace() {
+        words.push(Text::from_str(alloc, word)?)?;
+    }
+    match compile(alloc, &library, &words) {
+        Ok(grammar) => print_rng(alloc, &grammar),
+        Err(CompileRefusal::Offence(offence)) => match offence.who {
+            Who::Start(word) => Ok(word),
+            _ => Text::from_str(alloc, "another offence"),
+        },
+        Err(CompileRefusal::NoMemory) => Err(NoMemory),
+    }
+}
+
+#[test]
+fn a_library_compiles_with_any_number_of_start_words(rt: HostRuntime) -> Result<(), Fail> {
+    for (words, start) in [
+        (
+            "",
+            "<start>\n<notAllowed/>\n</start>\n<define name=\"e.a\">",
+        ),
+        ("b", "<start>\n<ref name=\"e.b\"/>\n</start>\n"),
+        (
+            "a b",
+            "<start>\n<choice>\n<ref name=\"e.a\"/>\n<ref name=\"e.b\"/>\n</choice>\n</start>\n",
+        ),
+    ] {
+        let text = schema_from(rt.alloc(), words)?;
+        assert!(rt; text.as_str().contains(start), "{words}");
+    }
+    assert_eq!(rt; schema_from(rt.alloc(), "a d c")?.as_str(), "c");
+    Ok(())
+}
+
+#[test]
+fn the_empty_library_has_a_start_word_alone(rt: HostRuntime) -> Result<(), Fail> {
+    let library = Library::empty(rt.alloc())?;
+    assert_eq!(rt; library.ident.as_str(), "bare");
+    assert_eq!(rt; library.start.len(), 1);
+    for word in library.start.as_slice() {
+        assert_eq!(rt; word.as_str(), "TEI");
+    }
+    assert!(rt; library.parts.is_empty());
+    Ok(())
+}
+
+#[test]
+fn components_and_specs_are_copied(rt: HostRuntime) -> Result<(), Fail> {
+    let parts = two_elements(rt.alloc())?.parts.copy(rt.alloc())?;
+    let content = Content::Text;
+    assert_eq!(rt; parts.len(), 2);
+    assert_eq!(rt;
+        parts.value(0),
+        Some(&Component::Element(ElementPart { content }))
+    );
+    let key = Key {
+        kind: Kind::Element,
+        ident: Text::from_str(rt.alloc(), "a")?,
+    };
+    let content = Some(content);
+    let spec = Spec { key, content }.copy(rt.alloc())?;
+    assert_eq!(rt; spec.key.ident.as_str(), "a");
+    assert_eq!(rt; spec.content, Some(Content::Text));
     Ok(())
 }
