@@ -1,5 +1,6 @@
 -- What the machine ends with is the tree of a bare file, and it ends so with each.
-use Rattle.std.proofs.Common.{◌≡◌, ℕ, List, Some, sym, ap, subst, ◌∙◌}
+use Rattle.std.proofs.Common.{◌≡◌, ℕ, List, sym, ap, subst, ◌∙◌}
+use Rattle.std.proofs.lemmas.Option.{same_Some}
 use Rattle.odd_reader.specs.declared.tree.Tree.{Tree}
 use Rattle.odd_reader.specs.Bare.{IsBare}
 use Rattle.odd_reader.specs.Spelled.{Spells}
@@ -9,14 +10,11 @@ use Rattle.odd_reader.proofs.AcceptingTrees.{with_tree}
 use Rattle.odd_reader.proofs.BareSpelled.{bare_spells}
 use Rattle.odd_reader.proofs.Sound.{sound}
 
-some_same : {A : Type 0} (x y : A) → Some x ≡ Some y → x ≡ y
-some_same x y e = cc
-
 -- the machine ends in one way
 one_end : (bytes : List ℕ) (t u : Tree) → Ends bytes t → Ends bytes u → t ≡ u
 one_end bytes t u p q =
-    let kept : p.kept ≡ q.kept = some_same _ _ (sym p.takes ∙ q.takes) in
-    some_same t u (sym p.rooted ∙ ap (λ k. k.root) kept ∙ q.rooted)
+    let kept : p.kept ≡ q.kept = same_Some _ _ (sym p.takes ∙ q.takes) in
+    same_Some t u (sym p.rooted ∙ ap (λ k. k.root) kept ∙ q.rooted)
 
 pub bare_ends : (bytes : List ℕ) → IsBare bytes → (t : Tree) × Ends bytes t
 bare_ends bytes bare = let w = with_tree bytes bare in (w.0, accepted bytes w.0 w.1)
