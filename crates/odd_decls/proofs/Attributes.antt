@@ -2,8 +2,7 @@
 use Rattle.std.proofs.Common.{◌≡◌, ℕ, ◌+◌, ◌<◌, ◌≤◌, true, false, if◌then◌else◌, List, ◌∷◌, length, drop, get_or, Some, None, sym, ap, ◌∙◌}
 use Rattle.std.proofs.lemmas.List.{drop_more, drop_all}
 use Rattle.odd_reader.specs.declared.tree.Attr.{Attr}
-use Rattle.odd_decls.specs.Odd.{attribute_value}
-use Rattle.odd_decls.specs.Reading.{is_named}
+use Rattle.odd_decls.specs.Odd.{attribute_value, is_named}
 
 -- the list from a place on begins with what stands there
 pub begins : {X : Type 0} (xs : List X) (i : ℕ) (x : X) → i < length xs → x ≡ get_or xs i x → drop i xs ≡ x ∷ drop (i + 1) xs

@@ -3,25 +3,24 @@ use Rattle.std.proofs.Common.{◌≡◌, List, [], Option, Some, None, Bor, sym,
 use Rattle.odd_reader.specs.declared.tree.Tree.{Tree, out-Tree}
 use Rattle.odd_decls.specs.declared.content.Content.{Content}
 use Rattle.odd_decls.specs.declared.content.Content.TheVariants as content
-use Rattle.odd_decls.specs.Odd.{Gives, nothing, empty, text, GivesContent, absent, given, HasName, elements_of}
-use Rattle.odd_decls.specs.Reading.{IsBare}
+use Rattle.odd_decls.specs.Odd.{Gives, nothing, empty, text, GivesContent, absent, given, HasName, IsPlain, elements_of}
 use Rattle.odd_decls.proofs.Elements.{listed}
 
 -- where there is no element
 pub gives_nothing : (ts : List Tree) (o : Option (Bor Tree)) → ts ≡ listed o → o ≡ None → Gives ts content.Empty
 gives_nothing ts o e none = subst (λ xs. Gives xs content.Empty) (sym (e ∙ ap listed none)) nothing
 
--- where there is a bare `empty`
+-- where there is a plain `empty`
 pub gives_empty : (ts : List Tree) (o : Option (Bor Tree)) (b : Bor Tree) → ts ≡ listed o → o ≡ Some b
-    → HasName (codes "empty") b.now → IsBare b.now → Gives ts content.Empty
-gives_empty ts o b e some named bare =
-    subst (λ xs. Gives xs content.Empty) (sym (e ∙ ap listed some)) (empty named bare.no_attribute bare.no_element)
+    → HasName (codes "empty") b.now → IsPlain b.now → Gives ts content.Empty
+gives_empty ts o b e some named plain =
+    subst (λ xs. Gives xs content.Empty) (sym (e ∙ ap listed some)) (empty named plain)
 
--- where there is a bare `textNode`
+-- where there is a plain `textNode`
 pub gives_text : (ts : List Tree) (o : Option (Bor Tree)) (b : Bor Tree) → ts ≡ listed o → o ≡ Some b
-    → HasName (codes "textNode") b.now → IsBare b.now → Gives ts content.Text
-gives_text ts o b e some named bare =
-    subst (λ xs. Gives xs content.Text) (sym (e ∙ ap listed some)) (text named bare.no_attribute bare.no_element)
+    → HasName (codes "textNode") b.now → IsPlain b.now → Gives ts content.Text
+gives_text ts o b e some named plain =
+    subst (λ xs. Gives xs content.Text) (sym (e ∙ ap listed some)) (text named plain)
 
 -- where an `elementSpec` has no element
 pub content_absent : (ts : List Tree) (o : Option (Bor Tree)) → ts ≡ listed o → o ≡ None → GivesContent ts None

@@ -6,8 +6,8 @@ use Rattle.odd_reader.specs.Tokens.{NoneTwice}
 use Rattle.odd_reader.specs.declared.tree.Tree.{Tree}
 use Rattle.odd_decls.specs.declared.odd.Entry.{Entry}
 use Rattle.odd_decls.specs.declared.odd.Entry.TheVariants as entry
-use Rattle.odd_decls.specs.Odd.{AreItems, IsItem, key_of}
-use Rattle.odd_decls.specs.Reading.{HoldsItems, IsAdded, IsDeclared, ItemsSoFar, StandsIn, element_key, ident_of}
+use Rattle.odd_decls.specs.Odd.{AreItems, HoldsItems, IsItem, StandsIn, element_key, key_of}
+use Rattle.odd_decls.specs.Reading.{IsAdded, IsDeclared, ItemsSoFar, ident_of}
 use Rattle.odd_decls.proofs.Twice.{once_push, stands_push, twice_refused}
 
 -- an entry's key is that of an element
@@ -17,7 +17,7 @@ item_key t (entry.Spec at spec) h = λ j. record { kind = h.kind j; ident = spec
 -- an element is read as entries of one key alone
 same_key : (t : Tree) (e f : Entry) → IsItem t e → IsItem t f → key_of e ≡ key_of f
 same_key t (entry.Spec at spec) (entry.Spec at' spec') h k =
-    let i : spec.key.ident ≡ spec'.key.ident = same_Some _ _ (sym h.ident ∙ k.ident) in
+    let i : spec.key.ident ≡ spec'.key.ident = same_Some _ _ (sym h.head.ident ∙ k.head.ident) in
     let kinds : spec.key.kind ≡ spec'.key.kind = h.kind ∙ sym k.kind in
     λ j. record { kind = kinds j; ident = i j }
 

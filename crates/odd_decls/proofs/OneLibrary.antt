@@ -1,5 +1,6 @@
 -- A tree declares one doc, and a doc gives one library.
 use Rattle.std.proofs.Common.{◌≡◌, ℕ, List, [], ◌∷◌, Option, Some, refl, sym, ap, ◌∙◌}
+use Rattle.std.proofs.lemmas.Option.{same_Some}
 use Rattle.std.specs.Prelude.{codes}
 use Rattle.odd_base.specs.Key.{key_cmp}
 use Rattle.odd_base.specs.KeyOrder.{key_total, key_exact}
@@ -20,22 +21,19 @@ two_names t a b = let no : codes "empty" ≡ codes "textNode" = ap (λ n. n.loca
 
 one_given : (ts : List Tree) (a b : Content) → Gives ts a → Gives ts b → a ≡ b
 one_given ts a b nothing nothing = refl
-one_given ts a b (empty n h e) (empty m k f) = refl
-one_given ts a b (empty {t = t} n h e) (text m k f) = absurd (two_names t n m)
-one_given ts a b (text {t = t} n h e) (empty m k f) = absurd (two_names t m n)
-one_given ts a b (text n h e) (text m k f) = refl
+one_given ts a b (empty n h) (empty m k) = refl
+one_given ts a b (empty {t = t} n h) (text m k) = absurd (two_names t n m)
+one_given ts a b (text {t = t} n h) (empty m k) = absurd (two_names t m n)
+one_given ts a b (text n h) (text m k) = refl
 
 one_content : (ts : List Tree) (a b : Option Content) → GivesContent ts a → GivesContent ts b → a ≡ b
 one_content ts a b absent absent = refl
 one_content ts a b (given n h g) (given m k f) = ap Some (one_given _ _ _ g f)
 
-some_same : {A : Type 0} (x y : A) → Some x ≡ Some y → x ≡ y
-some_same x y e = cc
-
 one_spec : (t : Tree) (i j : ℕ) (a b : Spec) → IsElementSpec t i a → IsElementSpec t j b → a ≡ b
 one_spec t i j a b p q =
     let kinds : a.key.kind ≡ b.key.kind = p.kind ∙ sym q.kind in
-    let idents : a.key.ident ≡ b.key.ident = some_same _ _ (sym p.ident ∙ q.ident) in
+    let idents : a.key.ident ≡ b.key.ident = same_Some _ _ (sym p.head.ident ∙ q.head.ident) in
     let contents : a.content ≡ b.content = one_content _ _ _ p.content q.content in
     λ n. record { key = record { kind = kinds n; ident = idents n }; content = contents n }
 
@@ -55,9 +53,9 @@ one_list (t ∷ ts) (e ∷ es) (f ∷ fs) a b = λ n. one_entry t e f a.0 b.0 n 
 -- a tree declares one doc
 pub one_doc : (t : Tree) (d e : OddDoc) → Declares t d → Declares t e → d ≡ e
 one_doc t d e p q =
-    let idents : d.ident ≡ e.ident = some_same _ _ (sym p.ident ∙ q.ident) in
-    let starts : d.start ≡ e.start = p.start_words ∙ ap (λ w. w ∷ []) (some_same _ _ (sym p.start_is ∙ q.start_is)) ∙ sym q.start_words in
-    let entries : d.entries ≡ e.entries = one_list _ _ _ p.items q.items in
+    let idents : d.ident ≡ e.ident = same_Some _ _ (sym p.root.ident ∙ q.root.ident) in
+    let starts : d.start ≡ e.start = p.start_words ∙ ap (λ w. w ∷ []) (same_Some _ _ (sym p.root.start_is ∙ q.root.start_is)) ∙ sym q.start_words in
+    let entries : d.entries ≡ e.entries = one_list _ _ _ p.holds.items q.holds.items in
     λ n. record { ident = idents n; start = starts n; entries = entries n }
 
 -- a doc gives one library

@@ -1,7 +1,7 @@
 -- Lists in which no item stands twice, with one item more.
 use Rattle.std.proofs.Common.{◌≡◌, ◌↔◌, List, [], ◌∷◌, ◌++◌, ◌⊎◌, inl, inr, ⊎_elim, refl, sym, ap, ◌∙◌, append_assoc}
 use Rattle.odd_reader.specs.Tokens.{NoneTwice}
-use Rattle.odd_decls.specs.Reading.{StandsIn}
+use Rattle.odd_decls.specs.Odd.{StandsIn}
 
 -- where a place splits a list with one item more: at that item, or before it
 abbrev SplitsAt : {A : Type 0} → List A → A → List A → A → List A → Type 0

@@ -1,8 +1,8 @@
 ghost use Rattle.std.specs.Prelude.{◌≡◌, ◌↔◌, ℕ, ◌≤◌, List, [], IsTrue, IfOk, IfErr, OnOk, MatchOption, Option, length, codes};
 ghost use Rattle.std.specs.Option.{option_copied, option_to_list};
 ghost use Rattle.odd_reader.specs.declared.tree.Tree.{out-Tree};
-ghost use Rattle.odd_decls.specs.Odd.{Declares, Gives, GivesContent, IsItem, attribute_value, elements_of, tei};
-ghost use Rattle.odd_decls.specs.Reading.{HoldsItems, IsAdded, IsBare, IsDeclared, IsHead, IsRoot, ident_of, is_named as a_named};
+ghost use Rattle.odd_decls.specs.Odd.{Declares, Gives, GivesContent, HoldsItems, IsHead, IsItem, IsPlain, IsRoot, attribute_value, elements_of, is_named as a_named, tei};
+ghost use Rattle.odd_decls.specs.Reading.{IsAdded, IsDeclared, ident_of};
 ghost use Rattle.odd_decls.specs.declared.content.Content.{Content as AContent};
 ghost use Rattle.odd_decls.specs.declared.odd.Entry.{Entry as AnEntry};
 ghost use Rattle.odd_decls.specs.declared.odd.OddDoc.{OddDoc as ADoc};
@@ -209,7 +209,7 @@ fn read_part(content: &Tree) -> Result<Content, OddRefusal>
 {
     match only_element(content)? {
         None => Ok(Content::Empty),
-        Some(part) if !is_bare(part) => Err(OddRefusal::NotYet),
+        Some(part) if !is_plain(part) => Err(OddRefusal::NotYet),
         Some(part) if is_tei(part, "empty") => Ok(Content::Empty),
         Some(part) if is_tei(part, "textNode") => Ok(Content::Text),
         Some(_) => Err(OddRefusal::NotYet),
@@ -217,8 +217,8 @@ fn read_part(content: &Tree) -> Result<Content, OddRefusal>
 }
 
 // Whether an element has no attribute and holds no element.
-fn is_bare(tree: &Tree) -> bool
-    ensures { IsTrue result ↔ IsBare tree.now }
+fn is_plain(tree: &Tree) -> bool
+    ensures { IsTrue result ↔ IsPlain tree.now }
 {
     tree.attrs.is_empty() && matches!(only_element(tree), Ok(None))
 }
