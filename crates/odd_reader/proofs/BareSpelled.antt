@@ -14,8 +14,9 @@ use Rattle.odd_reader.specs.Bare.{is_bare_space}
 use Rattle.odd_reader.proofs.BareTrees as Bare
 use Rattle.odd_reader.proofs.BareTrees.{BareElement, BareContent, BareFile}
 use Rattle.odd_reader.proofs.BareSpelledNames.{ascii_space, ascii_append}
-use Rattle.odd_reader.proofs.BareSpelledFits.{FitAfter, open_after, outer_space_fits, fit_append, all_fit}
-use Rattle.odd_reader.proofs.BareSpelledElements.{ElementSpelled, ContentSpelled, written-append, size_is, empty_spelled, full_spelled, nothing_spelled, space_spelled, child_spelled}
+use Rattle.odd_reader.proofs.BareSpelledFits.{outer_space_fits}
+use Rattle.odd_reader.proofs.Fits.{written-append, FitAfter, open_after, fit_append, all_fit}
+use Rattle.odd_reader.proofs.BareSpelledElements.{ElementSpelled, ContentSpelled, size_is, empty_spelled, full_spelled, nothing_spelled, space_spelled, child_spelled}
 
 mutual
   pub element_spelled : {is_root : Bool} {levels at : ℕ} {bytes : List ℕ} {t : Tree} → BareElement is_root levels at bytes t → ElementSpelled is_root at bytes t

@@ -1,41 +1,29 @@
 -- The names, attributes and bindings of a bare tag are those of its tree.
 use Rattle.std.proofs.Common.{◌≡◌, ◌≢◌, ℕ, Bool, true, false, List, [], ◌∷◌, ◌++◌, map, sym, refl, ap, ◌∙◌, append_assoc, All, codes, cond, subst}
-use Rattle.std.specs.Prelude.{unwrap_or, Option, Some, None, IsSome, is_none, if◌then◌else◌}
-use Rattle.std.specs.Cmp.Lexicographic.{same_text, other_text}
-use Rattle.std.proofs.lemmas.Bool.{false_from_ne_true}
+use Rattle.std.specs.Prelude.{Some, None, is_none, if◌then◌else◌}
+use Rattle.std.specs.Cmp.Lexicographic.{other_text}
 use Rattle.std.proofs.lemmas.List.{map-append}
-use Rattle.std.proofs.lemmas.List.Elements.{All-nil, All-cons, All-head, All-tail, All-map, All-filter}
-use Rattle.std.proofs.lemmas.Str.{encodes_same}
+use Rattle.std.proofs.lemmas.List.Elements.{All-nil, All-cons, All-head, All-tail}
 use Rattle.odd_base.specs.declared.name.Bind.{Bind}
-use Rattle.odd_base.specs.declared.name.Name.{Name}
 use Rattle.odd_reader.specs.declared.tree.Node.{Node}
 use Rattle.odd_reader.specs.declared.TheConstants.{TEI}
-use Rattle.odd_reader.specs.Tokens.{Attribute, NoneTwice}
-use Rattle.odd_reader.specs.Names.{is_same, declared_prefix, binds_of, plain_attributes, attribute_name, attribute_read, IsBinding, NamesFit, xml_namespace, xmlns_namespace}
+use Rattle.odd_reader.specs.Tokens.{itself, Attribute}
+use Rattle.odd_reader.specs.Names.{is_same, binds_of, plain_attributes, attribute_read, IsBinding, NamesFit, xml_namespace, xmlns_namespace}
 use Rattle.odd_reader.specs.Trees.{HasTag}
 use Rattle.odd_reader.specs.Machine.{plain_name}
 use Rattle.odd_reader.specs.Bare.{Written, IsBareAttribute, IsBareTag}
 use Rattle.odd_reader.proofs.BareTrees.{attrs_of, binds_at, bare_tree}
+use Rattle.odd_reader.proofs.Fits.{around}
+use Rattle.odd_reader.proofs.Unprefixed.{name_of, nothing_bound, attributes_named, names_once}
 use Rattle.odd_reader.proofs.BareSpelledNames.{ascii_name, ascii_value, pieces_read, ascii_codes}
-use Rattle.odd_reader.proofs.BareSpelledDistinct.{Lacks, Distinct, distinct, none_twice, lacks_front, lacks_back, kept_distinct}
-use Rattle.odd_reader.proofs.BareSpelledTags.{bare_qname, bare_attribute, bare_tag}
-
-not_same : (a b : List ℕ) → a ≢ b → is_same a b ≡ false
-not_same a b n = false_from_ne_true _ (λ e. n (same_text a b (sym e)))
-
-abbrev name_of : Written → List ℕ
-name_of a = a.0
+use Rattle.odd_reader.proofs.BareSpelledDistinct.{Lacks, Distinct, distinct, lacks_front, lacks_back}
+use Rattle.odd_reader.proofs.BareSpelledTags.{bare_attribute, bare_tag}
 
 -- bindings
 
 binds-append : (xs ys : List Attribute) → binds_of (xs ++ ys) ≡ binds_of xs ++ binds_of ys
 binds-append [] ys = refl
 binds-append (x ∷ xs) ys = rw (binds-append xs ys) (sym (append_assoc _ (binds_of xs) (binds_of ys)))
-
--- attributes that are no declarations bind nothing
-nothing_bound : (attributes : List Written) → Lacks (codes "xmlns") (map (λ a. a.0) attributes) → binds_of (map bare_attribute attributes) ≡ []
-nothing_bound [] l = refl
-nothing_bound (a ∷ rest) l = rw (not_same a.0 (codes "xmlns") l.0, nothing_bound rest l.1) refl
 
 lacks_from_all : (attributes : List Written) → All (λ (a : Written). a.0 ≢ codes "xmlns") attributes → Lacks (codes "xmlns") (map (λ a. a.0) attributes)
 lacks_from_all [] h = tt
@@ -57,8 +45,8 @@ tei_bound : (before after : List Written) → Distinct (map (λ (a : Written). a
 tei_bound before after d =
     let tei : Written = (codes "xmlns", TEI.now) in
     let names : Distinct (map name_of before ++ codes "xmlns" ∷ map name_of after) = subst Distinct (map-append name_of before (tei ∷ after)) d in
-    let none_before = nothing_bound before (lacks_front (codes "xmlns") (map name_of before) (map name_of after) names) in
-    let none_after = nothing_bound after (lacks_back (codes "xmlns") (map name_of before) (map name_of after) names) in
+    let none_before = nothing_bound itself before (lacks_front (codes "xmlns") (map name_of before) (map name_of after) names) in
+    let none_after = nothing_bound itself after (lacks_back (codes "xmlns") (map name_of before) (map name_of after) names) in
     let rest = map bare_attribute after in
     ap binds_of (map-append bare_attribute before (tei ∷ after)) ∙ binds-append (map bare_attribute before) (bare_attribute tei ∷ rest)
     ∙ ap (λ xs. xs ++ binds_of (bare_attribute tei ∷ rest)) none_before ∙ tei_first rest ∙ ap (λ xs. tei_bind ∷ xs) none_after
@@ -67,14 +55,10 @@ pub tag_binds : (is_root : Bool) (name : List ℕ) (attributes : List Written) �
 tag_binds true name attributes b =
     let e = b.declares.2 in
     rw e (tei_bound b.declares.0 b.declares.1 (distinct _ (rw e at b.once)))
-tag_binds false name attributes b = nothing_bound attributes (lacks_from_all attributes b.declares)
+tag_binds false name attributes b = nothing_bound itself attributes (lacks_from_all attributes b.declares)
 
--- the bindings around an element, and inside it
-abbrev pub around : Bool → List Bind
-around true = []
-around false = binds_at true
-
-pub binds_inside : (is_root : Bool) (name : List ℕ) (attributes : List Written) → IsBareTag is_root name attributes → around is_root ++ binds_of (map bare_attribute attributes) ≡ binds_at true
+-- the bindings inside an element
+pub binds_inside : (is_root : Bool) (name : List ℕ) (attributes : List Written) → IsBareTag is_root name attributes → around is_root (binds_at true) ++ binds_of (map bare_attribute attributes) ≡ binds_at true
 binds_inside true name attributes b = tag_binds true name attributes b
 binds_inside false name attributes b = rw (tag_binds false name attributes b) refl
 
@@ -97,21 +81,6 @@ attributes_are binds (a ∷ rest) h =
       | false ↦ cc (here, later)
     ]
 
--- each attribute has a name
-attributes_named : (binds : List Bind) (attributes : List Written) → All (λ a. IsSome (attribute_name binds a.name)) (plain_attributes (map bare_attribute attributes))
-attributes_named binds attributes =
-    let is_named : Attribute → Type 0 = λ a. IsSome (attribute_name binds a.name) in
-    All-filter (λ a. is_none (declared_prefix a.name)) is_named (map bare_attribute attributes) (All-map is_named bare_attribute attributes (λ k d l. refl))
-
--- no two have one expanded name
-names_once : (binds : List Bind) (attributes : List Written) → NoneTwice (map (λ (a : Written). a.0) attributes)
-    → NoneTwice (map (λ a. attribute_name binds a.name) (plain_attributes (map bare_attribute attributes)))
-names_once binds attributes n =
-    none_twice _ (kept_distinct name_of bare_attribute (λ a. attribute_name binds a.name) (λ a. is_none (declared_prefix a.name)) apart attributes (distinct _ n))
-  where
-    apart : (a b : Written) → attribute_name binds (bare_qname a.0) ≡ attribute_name binds (bare_qname b.0) → a.0 ≡ b.0
-    apart a b e = encodes_same a.0 b.0 (ap (λ (o : Option Name). (unwrap_or o (plain_name [])).local) e)
-
 -- the bindings are allowed
 binding_allowed : (is_root : Bool) → All IsBinding (binds_at is_root)
 binding_allowed true = All-cons IsBinding tei_bind [] (record {
@@ -122,19 +91,19 @@ binding_allowed true = All-cons IsBinding tei_bind [] (record {
 }) (All-nil IsBinding)
 binding_allowed false = All-nil IsBinding
 
-pub names_fit : (is_root : Bool) (name : List ℕ) (attributes : List Written) → IsBareTag is_root name attributes → NamesFit (around is_root) (bare_tag name attributes)
+pub names_fit : (is_root : Bool) (name : List ℕ) (attributes : List Written) → IsBareTag is_root name attributes → NamesFit (around is_root (binds_at true)) (bare_tag name attributes)
 names_fit is_root name attributes b = record {
   declared = rw (tag_binds is_root name attributes b) (binding_allowed is_root);
   named = refl;
-  attributed = attributes_named (around is_root ++ binds_of (map bare_attribute attributes)) attributes;
-  once = names_once (around is_root ++ binds_of (map bare_attribute attributes)) attributes b.once;
+  attributed = attributes_named itself (around is_root (binds_at true) ++ binds_of (map bare_attribute attributes)) attributes;
+  once = names_once itself (around is_root (binds_at true) ++ binds_of (map bare_attribute attributes)) attributes b.once;
 }
 
 pub has_tag : (is_root : Bool) (at : ℕ) (name : List ℕ) (attributes : List Written) (children : List Node) → IsBareTag is_root name attributes
-    → HasTag (around is_root) at (bare_tag name attributes) (bare_tree is_root at name attributes children)
+    → HasTag (around is_root (binds_at true)) at (bare_tag name attributes) (bare_tree is_root at name attributes children)
 has_tag is_root at name attributes children b = record {
   named = rw (binds_inside is_root name attributes b, ascii_name name b.named) refl;
-  attributed = attributes_are (around is_root ++ binds_of (map bare_attribute attributes)) attributes b.attributed;
+  attributed = attributes_are (around is_root (binds_at true) ++ binds_of (map bare_attribute attributes)) attributes b.attributed;
   bound = sym (tag_binds is_root name attributes b);
   placed = refl;
 }

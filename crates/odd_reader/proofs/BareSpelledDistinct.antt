@@ -44,6 +44,15 @@ pub lacks_back : {A : Type 0} (x : A) (before after : List A) → Distinct (befo
 lacks_back x [] after d = d.0
 lacks_back x (b ∷ bs) after d = lacks_back x bs after d.1
 
+-- what is made into distinct items is distinct
+pub lacks_made : {A B : Type 0} (f : A → B) (x : A) (xs : List A) → Lacks (f x) (map f xs) → Lacks x xs
+lacks_made f x [] l = tt
+lacks_made f x (y ∷ ys) l = (λ e. l.0 (ap f e), lacks_made f x ys l.1)
+
+pub distinct_made : {A B : Type 0} (f : A → B) (xs : List A) → Distinct (map f xs) → Distinct xs
+distinct_made f [] d = tt
+distinct_made f (x ∷ xs) d = (lacks_made f x xs d.0, distinct_made f xs d.1)
+
 -- what is kept of distinct items, each made into another
 module _ {A B C : Type 0} (f : A → List ℕ) (h : A → C) (g : C → B) (p : C → Bool) (apart : (a b : A) → g (h a) ≡ g (h b) → f a ≡ f b) where
   kept_lacks : (x : A) (xs : List A) → Lacks (f x) (map f xs) → Lacks (g (h x)) (map g (filter p (map h xs)))

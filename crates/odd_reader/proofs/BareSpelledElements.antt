@@ -13,17 +13,19 @@ use Rattle.odd_reader.specs.Fitting as Fitting
 use Rattle.odd_reader.specs.Bare.{Written, IsBareTag, bare_attributes_written, is_bare_space}
 use Rattle.odd_reader.proofs.BareTrees.{binds_at, bare_tree, start_written}
 use Rattle.odd_reader.proofs.BareSpelledNames.{ascii_name, ascii_append, ascii_codes, space_low, space_no_return}
-use Rattle.odd_reader.proofs.BareSpelledTags.{bare_qname, bare_tag, tag_is_written, ascii_inside}
-use Rattle.odd_reader.proofs.BareSpelledBindings.{around, binds_inside, has_tag}
-use Rattle.odd_reader.proofs.BareSpelledFits.{Inside, Ready, FitAfter, balanced_append, inside_after, tag_opened, start_fits, empty_fits, end_fits, space_fits, fit_append}
+use Rattle.odd_reader.proofs.BareSpelledTags.{bare_tag, bare_is_tag, tag_is_written, ascii_inside}
+use Rattle.odd_reader.proofs.BareSpelledBindings.{binds_inside, has_tag}
+use Rattle.odd_reader.proofs.BareSpelledFits.{bare_start_fits, bare_empty_fits, space_fits}
+use Rattle.odd_reader.proofs.Unprefixed.{unprefixed}
+use Rattle.odd_reader.proofs.Fits.{written-append, Inside, around, Ready, FitAfter, balanced_append, inside_after, tag_opened, end_fits, fit_append}
 
 pub record ElementSpelled (is_root : Bool) (at : ℕ) (bytes : List ℕ) (t : Tree) : Type 0 where
   pub tokens : List Token
   pub written : tokens_written tokens ≡ bytes
   pub ascii : encode_utf8_all bytes ≡ bytes
-  pub is_element : IsElement (around is_root) at tokens t
+  pub is_element : IsElement (around is_root (binds_at true)) at tokens t
   pub balanced : IsBalanced tokens
-  pub fit : (before : List Token) → Ready is_root before → FitAfter before tokens
+  pub fit : (before : List Token) → Ready is_root (binds_at true) before → FitAfter before tokens
 
 pub record ContentSpelled (at : ℕ) (bytes : List ℕ) (nodes : List Node) : Type 0 where
   pub tokens : List Token
@@ -31,11 +33,7 @@ pub record ContentSpelled (at : ℕ) (bytes : List ℕ) (nodes : List Node) : Ty
   pub ascii : encode_utf8_all bytes ≡ bytes
   pub is_content : IsContent (binds_at true) at tokens nodes
   pub balanced : IsBalanced tokens
-  pub fit : (before : List Token) → Inside before → FitAfter before tokens
-
-pub written-append : (xs ys : List Token) → tokens_written (xs ++ ys) ≡ tokens_written xs ++ tokens_written ys
-written-append [] ys = refl
-written-append (x ∷ xs) ys = ap (λ z. token_written x ++ z) (written-append xs ys) ∙ sym (append_assoc (token_written x) (tokens_written xs) (tokens_written ys))
+  pub fit : (before : List Token) → Inside (binds_at true) before → FitAfter before tokens
 
 -- tokens that are written in ASCII take as many bytes as characters
 pub size_is : (cs bytes : List ℕ) → cs ≡ bytes → encode_utf8_all bytes ≡ bytes → size_of cs ≡ length bytes
@@ -55,7 +53,7 @@ empty_spelled is_root at name attributes b = record {
       (ascii_append (codes "<") (name ++ bare_attributes_written attributes) (ascii_codes (codes "<") refl) (ascii_inside is_root name attributes b)) (ascii_codes (codes "/>") refl);
   is_element = empty (has_tag is_root at name attributes [] b) refl;
   balanced = Fitting.piece refl Fitting.nothing;
-  fit = λ before r. (empty_fits is_root name attributes before b r, tt);
+  fit = λ before r. (bare_empty_fits is_root name attributes before b r, tt);
 }
 
 -- an element with its content
@@ -78,7 +76,7 @@ module _ (is_root : Bool) (at : ℕ) (name : List ℕ) (attributes : List Writte
   tag = bare_tag name attributes
 
   abbrev end : Token
-  end = end_tag (bare_qname name) []
+  end = end_tag (unprefixed name) []
 
   full_written : tokens_written (start_tag tag ∷ (c.tokens ++ end ∷ [])) ≡ start_written name attributes ++ inside ++ codes "</" ++ name ++ codes ">"
   full_written =
@@ -95,17 +93,17 @@ module _ (is_root : Bool) (at : ℕ) (name : List ℕ) (attributes : List Writte
       (ascii_name name b.named))
       (ascii_codes (codes ">") refl)
 
-  content_inside : IsContent (around is_root ++ binds_of tag.attributes) (at + size_of (token_written (start_tag tag))) c.tokens children
+  content_inside : IsContent (around is_root (binds_at true) ++ binds_of tag.attributes) (at + size_of (token_written (start_tag tag))) c.tokens children
   content_inside =
       let size = size_is (token_written (start_tag tag)) (start_written name attributes) (start_is_written name attributes) (ascii_start is_root name attributes b) in
       subst₂ (λ (binds : List _) (n : ℕ). IsContent binds n c.tokens children) (sym (binds_inside is_root name attributes b)) (ap (λ n. at + n) (sym size)) c.is_content
 
-  full_fits : (before : List Token) → Ready is_root before → FitAfter before (start_tag tag ∷ (c.tokens ++ end ∷ []))
+  full_fits : (before : List Token) → Ready is_root (binds_at true) before → FitAfter before (start_tag tag ∷ (c.tokens ++ end ∷ []))
   full_fits before r =
-      let i = tag_opened is_root name attributes before b r in (
-        start_fits is_root name attributes before b r,
+      let i = tag_opened is_root (binds_at true) tag before (binds_inside is_root name attributes b) r in (
+        bare_start_fits is_root name attributes before b r,
         fit_append (before ++ start_tag tag ∷ []) c.tokens (end ∷ []) (c.fit (before ++ start_tag tag ∷ []) i.0)
-            (end_fits is_root name attributes ((before ++ start_tag tag ∷ []) ++ c.tokens) b (inside_after i.0 c.balanced) i.1, tt),
+            (end_fits (binds_at true) tag ((before ++ start_tag tag ∷ []) ++ c.tokens) (bare_is_tag is_root name attributes b) (inside_after i.0 c.balanced) i.1, tt),
       )
 
   pub full_spelled : ElementSpelled is_root at (start_written name attributes ++ inside ++ codes "</" ++ name ++ codes ">") (bare_tree is_root at name attributes children)
@@ -113,8 +111,8 @@ module _ (is_root : Bool) (at : ℕ) (name : List ℕ) (attributes : List Writte
     tokens = start_tag tag ∷ (c.tokens ++ end ∷ []);
     written = full_written;
     ascii = full_ascii;
-    is_element = full (bare_qname name) [] c.tokens (has_tag is_root at name attributes children b) content_inside refl;
-    balanced = Fitting.element (bare_qname name) [] c.tokens [] c.balanced Fitting.nothing refl;
+    is_element = full (unprefixed name) [] c.tokens (has_tag is_root at name attributes children b) content_inside refl;
+    balanced = Fitting.element (unprefixed name) [] c.tokens [] c.balanced Fitting.nothing refl;
     fit = full_fits;
   }
 
@@ -137,7 +135,7 @@ space_spelled at c bytes later h k = record {
   is_content = Trees.piece later refl (subst (λ n. IsContent (binds_at true) (at + n) k.tokens later) (sym (ap length (ascii_one c h))) k.is_content)
       (ap (λ z. with_text z later) (space_read c k.tokens h));
   balanced = Fitting.piece refl k.balanced;
-  fit = λ before i. (space_fits c before h i, k.fit (before ++ character c ∷ []) (inside_after i (Fitting.piece refl Fitting.nothing)));
+  fit = λ before i. (space_fits (binds_at true) c before h i, k.fit (before ++ character c ∷ []) (inside_after i (Fitting.piece refl Fitting.nothing)));
 }
 
 pub child_spelled : (at : ℕ) (element rest : List ℕ) (t : Tree) (later : List Node) → ElementSpelled false at element t → ContentSpelled (at + length element) rest later

@@ -1,24 +1,19 @@
 -- A bare tag as a tag of XML.
-use Rattle.std.proofs.Common.{◌≡◌, ℕ, Bool, List, [], ◌∷◌, ◌++◌, map, refl, ap, append_assoc, append-nil, All, codes}
+use Rattle.std.proofs.Common.{◌≡◌, ℕ, Bool, List, [], ◌∷◌, ◌++◌, map, refl, append_assoc, append-nil, All, codes}
 use Rattle.std.proofs.lemmas.List.Elements.{All-nil, All-cons, All-head, All-tail}
 use Rattle.std.specs.Str.{encode_utf8_all}
-use Rattle.odd_reader.specs.Tokens.{QName, itself, Attribute, Tag, IsAttribute, IsTag, name_written, attributes_written, tag_written}
+use Rattle.odd_reader.specs.Tokens.{itself, Attribute, Tag, IsAttribute, IsTag, attributes_written, tag_written}
 use Rattle.odd_reader.specs.Bare.{Written, IsBareAttribute, IsBareTag, bare_attributes_written}
+use Rattle.odd_reader.proofs.Unprefixed.{attribute_with, tag_with, joined, names_are}
 use Rattle.odd_reader.proofs.BareSpelledNames.{ascii_name, ascii_value, bare_ncname, value_pieces, pieces_written, ascii_append, ascii_codes}
 
-abbrev pub bare_qname : List ℕ → QName
-bare_qname name = record { prefix = []; local = name }
-
 abbrev pub bare_attribute : Written → Attribute
-bare_attribute a = record { space = 0x20 ∷ []; name = bare_qname a.0; before = []; after = []; quote = 0x22; value = map itself a.1 }
+bare_attribute = attribute_with itself
 
 abbrev pub bare_tag : List ℕ → List Written → Tag
-bare_tag name attributes = record { name = bare_qname name; attributes = map bare_attribute attributes; space = [] }
+bare_tag = tag_with itself
 
 -- what is written
-
-joined : (n v rest : List ℕ) → (0x20 ∷ (n ++ [] ++ (0x3D ∷ []) ++ [] ++ (0x22 ∷ (v ++ 0x22 ∷ [])))) ++ rest ≡ 0x20 ∷ (n ++ (0x3D ∷ 0x22 ∷ []) ++ v ++ (0x22 ∷ []) ++ rest)
-joined n v rest = simp (append_assoc, append-nil)
 
 pub attributes_are_written : (attributes : List Written) → attributes_written (map bare_attribute attributes) ≡ bare_attributes_written attributes
 attributes_are_written [] = refl
@@ -56,14 +51,10 @@ all_attributes [] h = All-nil _
 all_attributes (a ∷ rest) h =
     All-cons IsAttribute (bare_attribute a) (map bare_attribute rest) (one_attribute a (All-head IsBareAttribute a rest h)) (all_attributes rest (All-tail IsBareAttribute a rest h))
 
-names_are : (attributes : List Written) → map (λ a. name_written a.name) (map bare_attribute attributes) ≡ map (λ a. a.0) attributes
-names_are [] = refl
-names_are (a ∷ rest) = ap (λ xs. a.0 ∷ xs) (names_are rest)
-
 pub bare_is_tag : (is_root : Bool) (name : List ℕ) (attributes : List Written) → IsBareTag is_root name attributes → IsTag (bare_tag name attributes)
 bare_is_tag is_root name attributes b = record {
   named = (refl, bare_ncname name b.named);
   attributed = all_attributes attributes b.attributed;
-  once = rw (names_are attributes) b.once;
+  once = rw (names_are itself attributes) b.once;
   ended = refl;
 }

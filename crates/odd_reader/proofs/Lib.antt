@@ -15,12 +15,22 @@ pub mod BareSpelledTags
 pub mod BareTrees
 pub mod Characters
 pub mod Escapes
+pub mod Fits
 pub mod Fronts
 pub mod Keeping
 pub mod Lexing
 pub mod NCNames
 pub mod NamesLexed
 pub mod Openings
+pub mod PrintedSpelled
+pub mod PrintedSpelledCharacters
+pub mod PrintedSpelledElements
+pub mod PrintedSpelledLegal
+pub mod PrintedSpelledLines
+pub mod PrintedSpelledNames
+pub mod PrintedSpelledTags
+pub mod PrintedSpelledTexts
+pub mod PrintedTrees
 pub mod Readings
 pub mod ReferencesLexed
 pub mod Sound
@@ -33,3 +43,4 @@ pub mod SoundTags
 pub mod Spelling
 pub mod TagsLexed
 pub mod TextsLexed
+pub mod Unprefixed
