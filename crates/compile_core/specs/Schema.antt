@@ -1,6 +1,6 @@
 -- The schema of a library and a list of start words, written down define by define.
-use Rattle.std.specs.Prelude.{◌≡◌, ℕ, List, [], ◌∷◌, ◌++◌, map, Option, Some, None, if◌then◌else◌, codes}
-use Rattle.std.specs.FinMap.{find}
+use Rattle.std.specs.Prelude.{◌≡◌, ℕ, List, [], ◌∷◌, ◌++◌, map, Option, Some, None, if◌then◌else◌, codes, IsTrue}
+use Rattle.std.specs.FinMap.{find, is_sorted}
 use Rattle.std.specs.Ordering.{is_gt}
 use Rattle.odd_base.specs.Key.{key_cmp}
 use Rattle.odd_base.specs.Text.{text_cmp}
@@ -9,12 +9,14 @@ use Rattle.odd_base.specs.declared.key.Kind.TheVariants as kind
 use Rattle.odd_base.specs.declared.offence.Offence.{Offence}
 use Rattle.odd_base.specs.declared.offence.Who.TheVariants as who
 use Rattle.odd_reader.specs.declared.TheConstants.{TEI}
+use Rattle.odd_reader.specs.Characters.{IsNCName}
 use Rattle.odd_reader.specs.Markup.{Markup, file_printed}
 use Rattle.odd_decls.specs.declared.content.Content.{Content}
 use Rattle.odd_decls.specs.declared.content.Content.TheVariants as content
 use Rattle.odd_decls.specs.declared.library.Component.{Component}
 use Rattle.odd_decls.specs.declared.library.Component.TheVariants as component
 use Rattle.odd_decls.specs.declared.library.Library.{Library}
+use Rattle.odd_decls.specs.Odd.{StandsIn, element_key}
 use Rattle.std.specs.declared.cmp.Ordering.TheVariants.{Less}
 use Rattle.compile_core.specs.Grammar.{plain, named, element_markup, grammar_markup}
 
@@ -46,26 +48,24 @@ component_define (key, component.Element part) = element_define key.ident part.c
 abbrev pub schema_text : Library → List (List ℕ) → List ℕ
 schema_text library start = file_printed (grammar_markup (choice_of (map reference_to start)) (map component_define library.parts))
 
-abbrev pub element_key : List ℕ → Key
-element_key word = record { kind = kind.Element; ident = word }
-
 -- the start word is no held element
 abbrev pub IsMissing : Library → List ℕ → Type 0
 IsMissing library word = find key_cmp (element_key word) library.parts ≡ None
 
-abbrev pub Among : List ℕ → List (List ℕ) → Type 0
-Among word words = (before after : List (List ℕ)) × (words ≡ before ++ word ∷ after)
+-- each start word is a held element
+abbrev pub HoldsStart : Library → List (List ℕ) → Type 0
+HoldsStart library start = (word : List ℕ) → StandsIn start word → IsMissing library word → ⊥
 
 -- the least start word that is no held element
 pub record IsLeastMissing (library : Library) (start : List (List ℕ)) (word : List ℕ) : Type 0 where
-  pub among : Among word start
+  pub among : StandsIn start word
   pub missing : IsMissing library word
-  pub least : (other : List ℕ) → Among other start → IsMissing library other → text_cmp other word ≡ Less → ⊥
+  pub least : (other : List ℕ) → StandsIn start other → IsMissing library other → text_cmp other word ≡ Less → ⊥
 
 -- the least start word that is no held element, where there is one
 abbrev pub IsLeast : Library → List (List ℕ) → Option (List ℕ) → Type 0
 IsLeast library start (Some word) = IsLeastMissing library start word
-IsLeast library start None = (word : List ℕ) → Among word start → IsMissing library word → ⊥
+IsLeast library start None = HoldsStart library start
 
 -- the lesser of two words, where there are two
 abbrev pub lesser_of : Option (List ℕ) → List ℕ → List ℕ
@@ -79,3 +79,8 @@ pub record IsStartOffence (library : Library) (start : List (List ℕ)) (offence
   pub word : List ℕ
   pub who : offence.who ≡ who.Start word
   pub is_least : IsLeastMissing library start word
+
+-- A library as files give it: a finite map from keys to components, which are elements so far, and whose idents are names.
+pub record IsFormed (library : Library) : Type 0 where
+  pub rising : IsTrue (is_sorted key_cmp library.parts)
+  pub formed : (key : Key) (part : Component) → find key_cmp key library.parts ≡ Some part → (key.kind ≡ kind.Element) × IsNCName key.ident

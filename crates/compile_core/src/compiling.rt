@@ -1,8 +1,13 @@
-ghost use Rattle.std.specs.Prelude.{◌≡◌, ℕ, List, [], ◌∷◌, map, IfOk, Some, Err, IsOk};
+ghost use Rattle.std.specs.Prelude.{◌≡◌, ◌↔◌, map, IfOk, Some, Err, IsOk};
 ghost use Rattle.std.specs.Option.{option_copied};
+ghost use Rattle.odd_reader.specs.declared.tree.Tree.{Tree as ATree};
 ghost use Rattle.odd_base.specs.declared.offence.Offence.{Offence as AnOffence};
-ghost use Rattle.compile_core.specs.Grammar.{define_markup, grammar_text, pattern_markup};
-ghost use Rattle.compile_core.specs.Schema.{Among, IsLeast, IsMissing, IsStartOffence, choice_of, component_define, content_markup, define_name, element_define, lesser_of, reference_to, schema_text};
+ghost use Rattle.compile_core.specs.Acceptance.{Accepts};
+ghost use Rattle.compile_core.specs.Admission.{Admits};
+ghost use Rattle.compile_core.specs.Compiled.{content_pattern as the_content_pattern, definition_of, element_definition, reference, start_pattern as the_start_pattern};
+ghost use Rattle.compile_core.specs.Denoting.{DenotesOnly};
+ghost use Rattle.compile_core.specs.Grammar.{grammar_text};
+ghost use Rattle.compile_core.specs.Schema.{HoldsStart, IsFormed, IsLeast, IsStartOffence, define_name, lesser_of, schema_text};
 
 use crate::grammar::{AttrPart, Body, Define, Defines, Expr, Exprs, Grammar, NameClass, Rules};
 use odd_base::{Key, Kind, Name, NoMemory, Offence, Text, TryCopy, Who, Words};
@@ -31,10 +36,17 @@ impl From<NoMemory> for CompileRefusal {
 // The rule that each start word is a held element.
 const START_RULE: u8 = 20;
 
-/// The grammar of a library and a list of start words.
+/// The grammar of a library and a list of start words: a define for each element in order of name, and a start that
+/// refers to the start words (docs/schema.md). It accepts the documents that the library admits, and no other
+/// (docs/admission.md; ISO/IEC 19757-2, section 9).
+///
+/// Offence comes where a start word is no held element, and only there. It names the least of these words in the order
+/// of bytes, and its file is 0. NoMemory is answered for want of memory.
 pub fn compile(alloc: Global, library: &Library, start: &Words) -> Result<Grammar, CompileRefusal>
     ensures ok { IfOk result (λ grammar. grammar_text grammar ≡ schema_text library.now start.now) }
-    ensures held { IsOk result → (word : List ℕ) → Among word start.now → IsMissing library.now word → ⊥ }
+    ensures denotes { IfOk result (λ grammar. IsFormed library.now → DenotesOnly (schema_text library.now start.now) grammar) }
+    ensures accepts { IfOk result (λ grammar. IsFormed library.now → (t : ATree) → Accepts grammar t ↔ Admits library.now start.now t) }
+    ensures held { IsOk result → HoldsStart library.now start.now }
     ensures offence { (offence : AnOffence) → result ≡ Err (CompileRefusal.Offence offence) → IsStartOffence library.now start.now offence }
 {
     if let Some(word) = least_missing(alloc, library, start)? {
@@ -93,7 +105,7 @@ fn define_name(alloc: Global, ident: &Text) -> Result<Text, NoMemory>
 
 // A choice of references to the start words.
 fn start_pattern(alloc: Global, start: &Words) -> Result<Expr, NoMemory>
-    ensures { IfOk result (λ pattern. pattern_markup pattern ≡ choice_of (map reference_to start.now)) }
+    ensures { IfOk result (λ pattern. pattern ≡ the_start_pattern start.now) }
 {
     match start.as_slice() {
         [] => Ok(Expr::NotAllowed),
@@ -103,7 +115,7 @@ fn start_pattern(alloc: Global, start: &Words) -> Result<Expr, NoMemory>
 }
 
 fn references(alloc: Global, words: &[Text]) -> Result<Exprs, NoMemory>
-    ensures { IfOk result (λ refs. map pattern_markup refs ≡ map reference_to words.now) }
+    ensures { IfOk result (λ refs. refs ≡ map reference words.now) }
 {
     let mut refs = Exprs::new(alloc);
     for word in words {
@@ -114,7 +126,7 @@ fn references(alloc: Global, words: &[Text]) -> Result<Exprs, NoMemory>
 
 // The defines of the elements, in order of name.
 fn element_defines(alloc: Global, library: &Library) -> Result<Defines, NoMemory>
-    ensures { IfOk result (λ defines. map define_markup defines ≡ map component_define library.now.parts) }
+    ensures { IfOk result (λ defines. defines ≡ map definition_of library.now.parts) }
 {
     let mut defines = Defines::new(alloc);
     for entry in library.parts.entries() {
@@ -125,7 +137,7 @@ fn element_defines(alloc: Global, library: &Library) -> Result<Defines, NoMemory
 }
 
 fn element_define(alloc: Global, ident: &Text, content: Content) -> Result<Define, NoMemory>
-    ensures { IfOk result (λ define. define_markup define ≡ element_define ident.now content) }
+    ensures { IfOk result (λ define. define ≡ element_definition ident.now content) }
 {
     let name = define_name(alloc, ident)?;
     let ns = Text::from_str(alloc, TEI)?;
@@ -144,7 +156,7 @@ fn element_define(alloc: Global, ident: &Text, content: Content) -> Result<Defin
 }
 
 fn content_pattern(content: Content) -> Expr
-    ensures { pattern_markup result ≡ content_markup content }
+    ensures { result ≡ the_content_pattern content }
 {
     match content {
         Content::Empty => Expr::Empty,

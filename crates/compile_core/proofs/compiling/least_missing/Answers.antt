@@ -3,13 +3,15 @@ use Rattle.std.proofs.lemmas.List.{take_more}
 use Rattle.std.specs.FinMap.{find}
 use Rattle.std.specs.Option.{option_copied}
 use Rattle.odd_base.specs.Key.{key_cmp}
-use Rattle.compile_core.specs.Schema.{IsLeast, element_key}
-use Rattle.compile_core.proofs.Missing.{among_none, held_more, missing_more, nothing_found, something_found}
+use Rattle.odd_decls.specs.Odd.{element_key}
+use Rattle.compile_core.specs.Schema.{IsLeast}
+use Rattle.compile_core.proofs.Missing.{held_more, missing_more, nothing_found, something_found}
+use Rattle.compile_core.proofs.Standing.{none_stands}
 use Rattle.compile_core.proofs.compiling.least_missing.Goals as goal
 use Rattle.compile_core.proofs.compiling.least_missing.Goals.{then-is_none, else-is_none}
 
 pub loop-word-init : goal.loop-word-init
-loop-word-init c = λ w a missing. among_none w a
+loop-word-init c = λ w a missing. none_stands w a
 
 pub loop-word-preserved : goal.loop-word-preserved
 loop-word-preserved c =

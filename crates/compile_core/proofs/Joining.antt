@@ -1,0 +1,103 @@
+-- The joining induction: at each depth an element is valid for a held element where it is accepted by its define.
+use Rattle.std.proofs.Common.{◌≡◌, ◌↔◌, ℕ, zero, suc, List, [], map, Some, sym, ap, subst}
+use Rattle.std.specs.FinMap.{find}
+use Rattle.odd_base.specs.Key.{key_cmp}
+use Rattle.odd_base.specs.KeyOrder.{key_total, key_exact}
+use Rattle.odd_base.specs.declared.key.Key.{Key}
+use Rattle.odd_reader.specs.declared.tree.Tree.{Tree, out-Tree}
+use Rattle.odd_reader.specs.declared.tree.Node.{Node}
+use Rattle.odd_decls.specs.Odd.{StandsIn, element_key, tei}
+use Rattle.odd_decls.specs.declared.content.Content.{Content}
+use Rattle.odd_decls.specs.declared.library.Component.{Component}
+use Rattle.odd_decls.specs.declared.library.Component.TheVariants as component
+use Rattle.odd_decls.specs.declared.library.Library.{Library}
+use Rattle.compile_core.specs.Acceptance.{AreMatched, IsAcceptedBy, IsAcceptedWithin, IsInClass, IsMatched, empty, text, reference, choice}
+use Rattle.compile_core.specs.Admission.{IsValidBy, IsValidWithin}
+use Rattle.compile_core.specs.Children.{Marking}
+use Rattle.compile_core.specs.Compiled.{content_pattern, definition_of, element_definition, grammar_of}
+use Rattle.compile_core.specs.Schema.{IsFormed, define_name}
+use Rattle.compile_core.specs.declared.grammar.AttrPart.TheVariants as attributes
+use Rattle.compile_core.specs.declared.grammar.Body.TheVariants as body
+use Rattle.compile_core.specs.declared.grammar.Define.{Define}
+use Rattle.compile_core.specs.declared.grammar.Expr.{Expr}
+use Rattle.compile_core.specs.declared.grammar.NameClass.TheVariants as class
+use Rattle.compile_core.proofs.AttributeLaw.{attribute_law}
+use Rattle.compile_core.proofs.ContentLaw.{ByDefine, content_law}
+use Rattle.compile_core.proofs.Standing.{found, held_stands, map_stands, stands_map}
+
+-- what is matched under a marking is matched under one that marks more
+pub matched_under : {a b : Marking} → ((t : Tree) (name : List ℕ) → a t name → b t name) → {p : Expr} {children : List Node} → IsMatched a p children → IsMatched b p children
+matched_under more empty = empty
+matched_under more (text h) = text h
+matched_under more (reference {name = name} {t = t} e m) = reference e (more t name m)
+matched_under more (choice e s m) = choice e s (matched_under more m)
+
+-- defines of two idents have two names
+pub one_name : (a b : List ℕ) → define_name b ≡ define_name a → a ≡ b
+one_name a b e = cc
+
+-- the define of a held element
+record DefinesHeld (library : Library) (d : Define) : Type 0 where
+  pub ident : List ℕ
+  pub content : Content
+  pub held : find key_cmp (element_key ident) library.parts ≡ Some (component.Element (record { content = content }))
+  pub is : d ≡ element_definition ident content
+
+defines_held : (library : Library) (d : Define) → IsFormed library → StandsIn (map definition_of library.parts) d → DefinesHeld library d
+defines_held library d f s = let h = stands_map definition_of library.parts d s in from h.0 h.1 h.2
+  where
+    from : (entry : Key × Component) → StandsIn library.parts entry → d ≡ definition_of entry → DefinesHeld library d
+    from (key, component.Element part) stands e =
+        let there : find key_cmp key library.parts ≡ Some (component.Element part) = found key_cmp key_total key_exact key (component.Element part) library.parts f.rising stands in
+        let same : key ≡ element_key key.ident = λ i. record { kind = (f.formed key (component.Element part) there).0 i; ident = key.ident } in
+        record { ident = key.ident; content = part.content; held = subst (λ k. find key_cmp k library.parts ≡ Some (component.Element part)) same there; is = e }
+
+held_defined : (library : Library) (ident : List ℕ) (content : Content) → find key_cmp (element_key ident) library.parts ≡ Some (component.Element (record { content = content }))
+    → StandsIn (map definition_of library.parts) (element_definition ident content)
+held_defined library ident content e =
+    map_stands definition_of library.parts (element_key ident, component.Element (record { content = content })) (held_stands key_cmp key_total key_exact (element_key ident) _ library.parts e)
+
+module _ (library : Library) (start : List (List ℕ)) (f : IsFormed library) where
+  -- a step of the induction, from markings that agree on the children
+  module _ (valid accepted : Marking) (to : (t : Tree) (name : List ℕ) → ByDefine valid t name → accepted t name) (from : (t : Tree) (name : List ℕ) → accepted t name → ByDefine valid t name) where
+    valid_accepted : (t : Tree) (ident : List ℕ) → IsValidBy valid library t ident → IsAcceptedBy accepted (grammar_of library start) t (define_name ident)
+    valid_accepted t ident v = record {
+      names = class.One (tei ident);
+      rules = [];
+      content = content_pattern v.content;
+      defined = held_defined library ident v.content v.held;
+      named = v.named;
+      attributed = (attribute_law library ident (out-Tree t).attrs).0 v.attributed;
+      children = v.children;
+      significant = v.significant;
+      matched = matched_under to ((content_law valid v.content v.children).0 v.admitted);
+    }
+
+    accepted_valid : (t : Tree) (name : List ℕ) → IsAcceptedBy accepted (grammar_of library start) t name → ByDefine (IsValidBy valid library) t name
+    accepted_valid t name a =
+        let d = defines_held library _ f a.defined in
+        let named : name ≡ define_name d.ident = ap (λ (x : Define). x.name) d.is in
+        let bodies : body.Element a.names (attributes.Listed a.rules) a.content ≡ body.Element (class.One (tei d.ident)) (attributes.Listed []) (content_pattern d.content) = ap (λ (x : Define). x.body) d.is in
+        let names : a.names ≡ class.One (tei d.ident) = cc in
+        let rules : a.rules ≡ [] = cc in
+        let content : a.content ≡ content_pattern d.content = cc in (
+          d.ident,
+          named,
+          record {
+            content = d.content;
+            held = d.held;
+            named = subst (λ n. IsInClass n (out-Tree t).name) names a.named;
+            attributed = (attribute_law library d.ident (out-Tree t).attrs).1 (subst (λ r. AreMatched r (out-Tree t).attrs) rules a.attributed);
+            children = a.children;
+            significant = a.significant;
+            admitted = (content_law valid d.content a.children).1 (matched_under from (subst (λ p. IsMatched accepted p a.children) content a.matched));
+          },
+        )
+
+  pub joined : (levels : ℕ) (t : Tree) (name : List ℕ) → ByDefine (IsValidWithin levels library) t name ↔ IsAcceptedWithin levels (grammar_of library start) t name
+  joined zero t name = (λ v. v.2, λ a. absurd a)
+  joined (suc levels) t name = (
+    λ v. subst (IsAcceptedWithin (suc levels) (grammar_of library start) t) (sym v.1)
+        (valid_accepted (IsValidWithin levels library) (IsAcceptedWithin levels (grammar_of library start)) (λ u n. (joined levels u n).0) (λ u n. (joined levels u n).1) t v.0 v.2),
+    accepted_valid (IsValidWithin levels library) (IsAcceptedWithin levels (grammar_of library start)) (λ u n. (joined levels u n).0) (λ u n. (joined levels u n).1) t name,
+  )
