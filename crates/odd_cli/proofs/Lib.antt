@@ -1,3 +1,4 @@
+pub mod Formed
 pub mod Lists
 pub mod Replies
 pub mod Saying

@@ -4,6 +4,7 @@ use Rattle.std.specs.Prelude.{codes, IfOk, IfErr, Bool, IsTrue}
 use Rattle.std.specs.FinMap as map
 use Rattle.std.specs.FinMap.{slice_cmp-IsAntisymmetric, nat_cmp-IsAntisymmetric}
 use Rattle.std.proofs.lemmas.Cmp.{nat_list_cmp_total}
+use Rattle.std.proofs.lemmas.Option.{same_Some}
 use Rattle.std.specs.Ordering.{ordering_reverse}
 use Rattle.std.specs.declared.cmp.Ordering.TheVariants.{Less, Equal, Greater}
 use Rattle.odd_base.specs.Text.{text_cmp}
@@ -16,26 +17,23 @@ use Rattle.odd_decls.specs.Library.{IsLibraryOf}
 use Rattle.odd_decls.specs.declared.odd.OddDoc.{OddDoc}
 use Rattle.odd_decls.specs.declared.library.Library.{Library}
 use Rattle.odd_decls.proofs.OneLibrary.{one_doc, one_library}
-use Rattle.compile_core.specs.Schema.{schema_text, IsLeastMissing}
+use Rattle.compile_core.specs.Schema.{schema_text, HoldsStart, IsLeastMissing}
 use Rattle.odd_cli.specs.declared.status.Status.{Status}
 use Rattle.odd_cli.specs.declared.status.Status.TheVariants as status
 use Rattle.odd_cli.specs.declared.words.Job.{Job}
 use Rattle.odd_cli.specs.declared.running.TheConstants.{FILE_BYTES}
 use Rattle.odd_cli.specs.Words.{WordsMean, Compiles, compile}
-use Rattle.odd_cli.specs.Reply.{start_offence, Reply, Reads, Gives, GivesNone, HoldsStart, no_job, no_file, too_long, not_yet, refused, done}
+use Rattle.odd_cli.specs.Reply.{start_offence, Reply, Reads, Gives, GivesNone, no_job, no_file, too_long, not_yet, refused, done}
 use Rattle.odd_cli.specs.Running.{IsReplied, IsSilent, IsReadPlace, IsComplete, IsSchemaOf, IsRefusalOf, Compiling, compiled_text}
-
-some_same : {A : Type 0} (x y : A) → Some x ≡ Some y → x ≡ y
-some_same x y e = cc
 
 one_file : (words : List (List ℕ)) (f g : List ℕ) → Compiles words f → Compiles words g → f ≡ g
 one_file words f g p q =
     let same : codes "compile" ∷ f ∷ [] ≡ codes "compile" ∷ g ∷ [] = sym p.0 ∙ q.0 in
-    some_same f g (ap (λ ws. slice_get ws 1) same)
+    same_Some f g (ap (λ ws. slice_get ws 1) same)
 
 one_reading : (words : List (List ℕ)) (files : FileMap) (b c : List ℕ) → Reads words files b → Reads words files c → b ≡ c
 one_reading words files b c p q =
-    some_same b c (sym p.held ∙ ap (λ f. map.get files f) (one_file words p.file q.file p.compiles q.compiles) ∙ q.held)
+    same_Some b c (sym p.held ∙ ap (λ f. map.get files f) (one_file words p.file q.file p.compiles q.compiles) ∙ q.held)
 
 -- a file gives one library
 one_gift : (bytes : List ℕ) (l m : Library) → Gives bytes l → Gives bytes m → l ≡ m
@@ -80,7 +78,7 @@ no_job_but words file none c = none _ (compile file c refl)
 
 -- a file that is held is held with other bytes nowhere, and is not absent
 held_once : (words : List (List ℕ)) (files : FileMap) (f g b c : List ℕ) → Compiles words f → Compiles words g → Held files f b → Held files g c → b ≡ c
-held_once words files f g b c p q h k = some_same b c (sym h ∙ ap (λ x. map.get files x) (one_file words f g p q) ∙ k)
+held_once words files f g b c p q h k = same_Some b c (sym h ∙ ap (λ x. map.get files x) (one_file words f g p q) ∙ k)
 
 held_absent : (words : List (List ℕ)) (files : FileMap) (f g b : List ℕ) → Compiles words f → Compiles words g → Held files f b → NotHeld files g → ⊥
 held_absent words files f g b p q h k = let no : Some b ≡ None = sym h ∙ ap (λ x. map.get files x) (one_file words f g p q) ∙ k in cc
@@ -95,7 +93,7 @@ gives_but : (words : List (List ℕ)) (files : FileMap) (b c : List ℕ) (l : Li
 gives_but words files b c l p q none g = none l (subst (λ x. Gives x l) (sym (one_reading words files b c p q)) g)
 
 least_but : (words : List (List ℕ)) (files : FileMap) (b c w : List ℕ) (l m : Library) → Reads words files b → Reads words files c → Gives b l → Gives c m
-    → IsLeastMissing l l.start w → HoldsStart m → ⊥
+    → IsLeastMissing l l.start w → HoldsStart m m.start → ⊥
 least_but words files b c w l m p q g k least holds =
     let libraries : l ≡ m = one_gift c l m (subst (λ x. Gives x l) (one_reading words files b c p q) g) k in
     let moved = subst (λ x. IsLeastMissing x x.start w) libraries least in

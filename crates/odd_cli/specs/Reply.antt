@@ -10,7 +10,7 @@ use Rattle.odd_decls.specs.declared.odd.OddDoc.{OddDoc}
 use Rattle.odd_decls.specs.declared.library.Library.{Library}
 use Rattle.odd_decls.specs.Odd.{Declares}
 use Rattle.odd_decls.specs.Library.{IsLibraryOf}
-use Rattle.compile_core.specs.Schema.{schema_text, IsMissing, IsLeastMissing, Among}
+use Rattle.compile_core.specs.Schema.{schema_text, HoldsStart, IsLeastMissing}
 use Rattle.odd_cli.specs.declared.running.TheConstants.{FILE_BYTES}
 use Rattle.odd_cli.specs.declared.status.Status.{Status}
 use Rattle.odd_cli.specs.declared.status.Status.TheVariants as status
@@ -37,10 +37,6 @@ pub record Gives (bytes : List ℕ) (library : Library) : Type 0 where
 abbrev pub GivesNone : List ℕ → Type 0
 GivesNone bytes = (library : Library) → Gives bytes library → ⊥
 
--- each start word is a held element
-abbrev pub HoldsStart : Library → Type 0
-HoldsStart library = (word : List ℕ) → Among word library.start → IsMissing library word → ⊥
-
 abbrev pub start_offence : List ℕ → Offence
 start_offence word = record { file = 1; who = who.Start word; rule = 20 }
 
@@ -52,4 +48,4 @@ pub data Reply (words : List (List ℕ)) (files : FileMap) : List ℕ → Status
   refused : {offence : Offence} (bytes word : List ℕ) (library : Library) → Reads words files bytes → Gives bytes library
       → IsLeastMissing library library.start word → offence ≡ start_offence word → Reply words files [] (status.Refused offence)
   done : {text : List ℕ} (bytes : List ℕ) (library : Library) → Reads words files bytes → Gives bytes library
-      → HoldsStart library → text ≡ schema_text library library.start → Reply words files text status.Done
+      → HoldsStart library library.start → text ≡ schema_text library library.start → Reply words files text status.Done

@@ -1,15 +1,20 @@
 -- What a run leaves of the shelf, the output and the note.
-use Rattle.std.specs.Prelude.{◌≡◌, ◌⊎◌, ℕ, Bool, List, ◌++◌, Option, Some, IsTrue}
+use Rattle.std.specs.Prelude.{◌≡◌, ◌↔◌, ◌⊎◌, ℕ, Bool, List, ◌++◌, Option, Some, IsTrue}
 use Rattle.odd_base.specs.Count.{HasRisen}
 use Rattle.odd_base.specs.Shelf.{FileMap, Held, NotHeld, LeavesSuffix}
 use Rattle.odd_base.specs.declared.offence.Offence.{Offence}
 use Rattle.odd_decls.specs.declared.library.Library.{Library}
-use Rattle.compile_core.specs.Schema.{schema_text, IsLeastMissing}
+use Rattle.odd_reader.specs.declared.tree.Tree.{Tree}
+use Rattle.compile_core.specs.Acceptance.{Accepts}
+use Rattle.compile_core.specs.Admission.{Admits}
+use Rattle.compile_core.specs.Denoting.{DenotesOnly}
+use Rattle.compile_core.specs.declared.grammar.Grammar.{Grammar}
+use Rattle.compile_core.specs.Schema.{schema_text, HoldsStart, IsLeastMissing}
 use Rattle.odd_cli.specs.declared.status.Status.{Status}
 use Rattle.odd_cli.specs.declared.status.Status.TheVariants as status
 use Rattle.odd_cli.specs.Words.{Compiles}
 use Rattle.odd_cli.specs.Note.{IsFrontWritten}
-use Rattle.odd_cli.specs.Reply.{Reads, Gives, GivesNone, HoldsStart, start_offence}
+use Rattle.odd_cli.specs.Reply.{Reads, Gives, GivesNone, start_offence}
 
 -- the answer is none of those that the outside causes
 abbrev pub IsReplied : Status → Type 0
@@ -44,8 +49,26 @@ IsComplete s = (s ≡ status.Done) ⊎ (s ≡ status.NoMemory)
 pub record IsSchemaOf (bytes text : List ℕ) : Type 0 where
   pub library : Library
   pub gives : Gives bytes library
-  pub holds_start : HoldsStart library
+  pub holds_start : HoldsStart library library.start
   pub text_is : text ≡ schema_text library library.start
+
+-- the text denotes one grammar, and it accepts the trees that the library admits
+pub record AcceptsAdmitted (library : Library) (text : List ℕ) : Type 0 where
+  pub grammar : Grammar
+  pub denotes : DenotesOnly text grammar
+  pub accepts : (t : Tree) → Accepts grammar t ↔ Admits library library.start t
+
+-- the same of the library of a file
+pub record AcceptsOfFile (bytes text : List ℕ) : Type 0 where
+  pub library : Library
+  pub gives : Gives bytes library
+  pub right : AcceptsAdmitted library text
+
+-- and of the file that the words name
+pub record AcceptsOfWords (words : List (List ℕ)) (files : FileMap) (text : List ℕ) : Type 0 where
+  pub bytes : List ℕ
+  pub reads : Reads words files bytes
+  pub right : AcceptsOfFile bytes text
 
 pub record IsStartRefusal (bytes : List ℕ) (offence : Offence) : Type 0 where
   pub library : Library
@@ -73,7 +96,7 @@ pub record Compiling (words : List (List ℕ)) (files : FileMap) : Type 0 where
   pub reads : Reads words files bytes
   pub library : Library
   pub gives : Gives bytes library
-  pub holds_start : HoldsStart library
+  pub holds_start : HoldsStart library library.start
 
 abbrev pub compiled_text : {words : List (List ℕ)} {files : FileMap} → Compiling words files → List ℕ
 compiled_text job = schema_text job.library job.library.start

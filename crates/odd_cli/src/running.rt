@@ -3,13 +3,13 @@ ghost use Rattle.odd_base.specs.Count.{HasRisen};
 ghost use Rattle.odd_base.specs.Shelf.{FileMap, NotHeld};
 ghost use Rattle.odd_base.specs.Sink.{IsPartWritten};
 ghost use Rattle.odd_decls.specs.declared.library.Library.{Library as ALibrary};
-ghost use Rattle.compile_core.specs.Schema.{schema_text};
+ghost use Rattle.compile_core.specs.Schema.{HoldsStart, IsFormed, schema_text};
 ghost use Rattle.odd_cli.specs.Note.{note_text};
 ghost use Rattle.odd_cli.specs.Words.{Compiles, WordsMean};
 ghost use Rattle.odd_cli.specs.declared.words.Job.{Job as AJob};
 ghost use Rattle.odd_cli.specs.declared.status.Status.{Status as AStatus};
-ghost use Rattle.odd_cli.specs.Reply.{Reply, Reads, Gives, HoldsStart};
-ghost use Rattle.odd_cli.specs.Running.{IsReplied, IsSilent, IsReadPlace, IsNoted, IsComplete, IsSchemaOf, IsRefusalOf, IsStartError, Compiling, compiled_text};
+ghost use Rattle.odd_cli.specs.Reply.{Reply, Reads, Gives};
+ghost use Rattle.odd_cli.specs.Running.{IsReplied, IsSilent, IsReadPlace, IsNoted, IsComplete, IsSchemaOf, IsRefusalOf, IsStartError, Compiling, compiled_text, AcceptsAdmitted, AcceptsOfFile, AcceptsOfWords};
 
 use crate::note::write_note;
 use crate::status::{LimitKind, Status};
@@ -34,6 +34,7 @@ pub fn run<F: Shelf, W: Sink, N: Sink>(
     note: &mut N,
 ) -> Status
     ensures reply { (files : FileMap) (before : List ℕ) → F.holds shelf.old ≡ Some files → W.written out.old ≡ Some before → IsReplied result → ((text : List ℕ) × (W.written out.new ≡ Some (before ++ text)) × Reply words.now files text result) }
+    ensures accepts { (files : FileMap) (before : List ℕ) → F.holds shelf.old ≡ Some files → W.written out.old ≡ Some before → result ≡ Status.Done → ((text : List ℕ) × (W.written out.new ≡ Some (before ++ text)) × AcceptsOfWords words.now files text) }
     ensures silent { IsSilent result → W.written out.new ≡ W.written out.old }
     ensures partial { (files : FileMap) (before : List ℕ) → F.holds shelf.old ≡ Some files → W.written out.old ≡ Some before → result ≡ Status.WriteFault → ((text : List ℕ) × Reply words.now files text Status.Done × IsPartWritten before text (W.written out.new)) }
     ensures read_cause { (file : ℕ) → result ≡ Status.ReadFault file → HasRisen (F.faults shelf.old) (F.faults shelf.new) }
@@ -67,6 +68,7 @@ fn noted<N: Sink>(note: &mut N, status: Status) -> Status
 // The text of the reply, or the status where there is none.
 fn reply_text<F: Shelf>(alloc: Global, words: &Words, shelf: &mut F) -> Result<Text, Status>
     ensures ok { (files : FileMap) → F.holds shelf.old ≡ Some files → IfOk result (λ text. Reply words.now files text Status.Done) }
+    ensures accepts { (files : FileMap) → F.holds shelf.old ≡ Some files → IfOk result (AcceptsOfWords words.now files) }
     ensures err { (files : FileMap) → F.holds shelf.old ≡ Some files → IfErr result (λ status. IsReplied status → Reply words.now files [] status) }
     ensures early { IfErr result IsSilent }
     ensures read_cause { (file : ℕ) → result ≡ Err (Status.ReadFault file) → HasRisen (F.faults shelf.old) (F.faults shelf.new) }
@@ -97,6 +99,7 @@ fn file_word(words: &Words) -> Option<&Text>
 // The schema of a file of these bytes, or why it has none.
 fn schema_of_file(alloc: Global, bytes: &Bytes) -> Result<Text, Status>
     ensures ok { IfOk result (IsSchemaOf bytes.now) }
+    ensures accepts { IfOk result (AcceptsOfFile bytes.now) }
     ensures err { IfErr result (IsRefusalOf bytes.now) }
 {
     match library_of_file(alloc, bytes) {
@@ -108,6 +111,7 @@ fn schema_of_file(alloc: Global, bytes: &Bytes) -> Result<Text, Status>
 // The library of a file of these bytes.
 fn library_of_file(alloc: Global, bytes: &Bytes) -> Result<Library, Status>
     ensures ok { IfOk result (Gives bytes.now) }
+    ensures formed { IfOk result IsFormed }
     ensures err { IfErr result (IsRefusalOf bytes.now) }
 {
     let tree = match read_tree(alloc, bytes.as_slice()) {
@@ -128,7 +132,8 @@ fn library_of_file(alloc: Global, bytes: &Bytes) -> Result<Library, Status>
 
 // The schema of a library, or the start word that is no held element.
 fn schema_of_library(alloc: Global, library: &Library) -> Result<Text, Status>
-    ensures ok { IfOk result (λ text. HoldsStart library.now × (text ≡ schema_text library.now library.now.start)) }
+    ensures ok { IfOk result (λ text. HoldsStart library.now library.now.start × (text ≡ schema_text library.now library.now.start)) }
+    ensures accepts { IfOk result (λ text. IsFormed library.now → AcceptsAdmitted library.now text) }
     ensures err { IfErr result (IsStartError library.now) }
 {
     let grammar = match compile(alloc, library, &library.start) {

@@ -1,5 +1,6 @@
 use Rattle.std.proofs.Common.{refl, ap, subst, Err}
 use Rattle.odd_reader.specs.Spelled.{Spells}
+use Rattle.odd_cli.proofs.Formed.{library_formed}
 use Rattle.odd_cli.proofs.Replies.{gives_none}
 use Rattle.odd_cli.proofs.running.library_of_file.Goals as goal
 
@@ -10,3 +11,6 @@ returns-in-Err-NotYet-read_odd-clause-err c =
       gives_none c.args.bytes.now t (subst (λ b. Spells b t) c.as_slice.ensures c.in-Ok.ensures.ok.1)
           (c.in-Err-NotYet-read_odd.ensures.not_yet (ap Err c.in-Err-NotYet-read_odd.field-0-is)),
     )
+
+pub returns-in-Ok-library_of-clause-formed : goal.returns-in-Ok-library_of-clause-formed
+returns-in-Ok-library_of-clause-formed c = library_formed c.in-Ok.tree c.in-Ok-read_odd.doc c.in-Ok-library_of.library c.in-Ok-read_odd.ensures.ok c.in-Ok-library_of.ensures

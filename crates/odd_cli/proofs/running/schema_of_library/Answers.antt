@@ -1,4 +1,5 @@
-use Rattle.std.proofs.Common.{◌≡◌, ap, ◌∙◌, Err}
+use Rattle.std.proofs.Common.{◌≡◌, ap, sym, subst, ◌∙◌, Err}
+use Rattle.compile_core.specs.Denoting.{DenotesOnly}
 use Rattle.odd_cli.specs.Reply.{start_offence}
 use Rattle.odd_cli.proofs.running.schema_of_library.Goals as goal
 
@@ -12,3 +13,12 @@ returns-in-Err-Offence-clause-err c =
       rule = (moved.rule ∙ refused.rule) n;
     } in
     (refused.word, refused.is_least, same)
+
+pub returns-in-Ok-print_rng-clause-accepts : goal.returns-in-Ok-print_rng-clause-accepts
+returns-in-Ok-print_rng-clause-accepts c = λ f.
+    let text = c.in-Ok-print_rng.ensures ∙ c.in-Ok.ensures.ok in
+    record {
+      grammar = c.in-Ok.grammar;
+      denotes = subst (λ t. DenotesOnly t c.in-Ok.grammar) (sym text) (c.in-Ok.ensures.denotes f);
+      accepts = c.in-Ok.ensures.accepts f;
+    }
