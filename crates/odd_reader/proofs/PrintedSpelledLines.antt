@@ -81,8 +81,10 @@ with_lines is_root ns name pairs attributes (more m rest) s k at =
 mutual
   pub element_spelled : (ns : List ℕ) (m : Markup) → IsPlain m → (at : ℕ) → ElementSpelled false ns at (printed m) (Shows ns m)
   element_spelled ns (element name attributes inside) p at = with_lines false ns name attributes attributes inside (plain_tag_spelled ns name attributes p.0) (lines_spelled ns inside p.1) at
-  element_spelled ns (line name attributes text) p at =
-      full_spelled false ns name attributes attributes (plain_tag_spelled ns name attributes p.0) at (escaped_text text) (λ nodes. nodes ≡ text_nodes text) (text_spelled ns text p.1 _)
+  element_spelled ns (line name attributes []) p at = empty_spelled false ns name attributes attributes (plain_tag_spelled ns name attributes p.0) at
+  element_spelled ns (line name attributes (c ∷ cs)) p at =
+      full_spelled false ns name attributes attributes (plain_tag_spelled ns name attributes p.0) at (escaped_text (c ∷ cs)) (λ nodes. nodes ≡ text_nodes (c ∷ cs))
+      (text_spelled ns (c ∷ cs) p.1 _)
 
   pub lines_spelled : (ns : List ℕ) (ms : Markups) → ArePlain ms → (at : ℕ) → ContentSpelled ns at (all_printed ms) (AreLines ns ms)
   lines_spelled ns none p at = nothing_spelled ns at

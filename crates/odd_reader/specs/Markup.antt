@@ -1,4 +1,5 @@
--- The printed text of a tree: the declaration's line, then a line for each tag, and an element that holds a text on one line.
+-- The printed text of a tree: the declaration's line, then a line for each tag, and an element that holds a text on one line. An element
+-- without children is an empty tag.
 use Rattle.std.specs.Prelude.{ℕ, List, [], ◌∷◌, ◌++◌, ◌==◌, if◌then◌else◌, codes}
 use Rattle.std.specs.List.{flat_map}
 
@@ -6,7 +7,7 @@ use Rattle.std.specs.List.{flat_map}
 abbrev pub Pair : Type 0
 Pair = List ℕ × List ℕ
 
--- a tree that is printed: an element with elements or nothing in it, or one with a text in it
+-- a tree that is printed: an element with elements or nothing in it, or one with a text in it, which is none where it is empty
 mutual
   pub data Markup : Type 0 where
     element : (name : List ℕ) (attributes : List Pair) (inside : Markups) → Markup
@@ -38,7 +39,8 @@ abbrev mutual
   pub printed : Markup → List ℕ
   printed (element name attributes none) = codes "<" ++ name ++ attributes_printed attributes ++ codes "/>\n"
   printed (element name attributes (more m rest)) = codes "<" ++ name ++ attributes_printed attributes ++ codes ">\n" ++ all_printed (more m rest) ++ codes "</" ++ name ++ codes ">\n"
-  printed (line name attributes text) = codes "<" ++ name ++ attributes_printed attributes ++ codes ">" ++ escaped_text text ++ codes "</" ++ name ++ codes ">\n"
+  printed (line name attributes []) = codes "<" ++ name ++ attributes_printed attributes ++ codes "/>\n"
+  printed (line name attributes (c ∷ cs)) = codes "<" ++ name ++ attributes_printed attributes ++ codes ">" ++ escaped_text (c ∷ cs) ++ codes "</" ++ name ++ codes ">\n"
 
   pub all_printed : Markups → List ℕ
   all_printed none = []
