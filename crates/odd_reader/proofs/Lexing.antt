@@ -103,7 +103,7 @@ one_token (empty_tag t) (start_tag u) more rest a b e =
 one_token t u more rest a b e = absurd (omega (arith, same_kind t u more rest a b e))
 
 -- no token is written as nothing
-something_written : (t : Token) (more : List ℕ) → IsToken t → token_written t ++ more ≢ []
+pub something_written : (t : Token) (more : List ℕ) → IsToken t → token_written t ++ more ≢ []
 something_written t more h e = not_seven t (sym (kind-written t more h) ∙ ap kind_of e)
   where
     not_seven : (u : Token) → kind u ≢ 7

@@ -22,6 +22,7 @@ pub mod Lexing
 pub mod NCNames
 pub mod NamesLexed
 pub mod Openings
+pub mod Places
 pub mod PrintedSpelled
 pub mod PrintedSpelledCharacters
 pub mod PrintedSpelledElements

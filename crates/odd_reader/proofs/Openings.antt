@@ -26,7 +26,7 @@ pub fitting_tokens : (ts : List Token) → AllFit ts → All IsToken ts
 fitting_tokens ts h = tokens_each ts (λ before after t e. (h before after t e).token)
 
 -- no element is open before the first token
-none_open : (tags : List Tag) (ts : List Token) → AreOpen tags ts → ts ≡ [] → tags ≡ []
+pub none_open : (tags : List Tag) (ts : List Token) → AreOpen tags ts → ts ≡ [] → tags ≡ []
 none_open tags ts (none h) e = refl
 none_open tags ts (more {tag = g} before inside h o p) e = absurd (nothing_after before (sym p ∙ e))
   where

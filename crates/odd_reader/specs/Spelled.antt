@@ -110,12 +110,12 @@ pub record Spells (bytes : List ℕ) (t : Tree) : Type 0 where
   pub document : IsDocument (size_of (opening_written whole.opening)) whole.tokens t
 
 -- the opening is the whole one: no other that the file has is longer
-abbrev IsWholeOpening : List ℕ → Opening → Type 0
+abbrev pub IsWholeOpening : List ℕ → Opening → Type 0
 IsWholeOpening bytes o = (other : Opening) (left : List ℕ) → IsOpening other → bytes ≡ encode_utf8_all (opening_written other) ++ left
     → size_of (opening_written other) ≤ size_of (opening_written o)
 
 -- no token that fits after these begins here
-abbrev NoneFits : List Token → List ℕ → Type 0
+abbrev pub NoneFits : List Token → List ℕ → Type 0
 NoneFits ts left = (t : Token) (more : List ℕ) → Fits ts t → left ≢ encode_utf8_all (token_written t) ++ more
 
 -- the file spells no tree, and its fault is at the place: the start of the first token that does not fit, or the end of the file
@@ -130,6 +130,11 @@ pub record FaultPlace (bytes : List ℕ) (place : ℕ) : Type 0 where
 abbrev pub deepest : ℕ
 deepest = 200
 
+-- none of these tokens opens one level too many
+abbrev pub NoneTooDeep : List Token → Type 0
+NoneTooDeep ts = (before after : List Token) (t : Token) (open_tags : List Tag) → ts ≡ before ++ t ∷ after → is_start_or_empty t ≡ true → AreOpen open_tags before
+    → length open_tags < deepest
+
 -- the first fitting tag that opens one level too many is at the place, and no fault is there or before it
 pub record DepthPlace (bytes : List ℕ) (place : ℕ) : Type 0 where
   pub left : List ℕ
@@ -139,6 +144,7 @@ pub record DepthPlace (bytes : List ℕ) (place : ℕ) : Type 0 where
   pub open_tags : List Tag
   pub are_open : AreOpen open_tags begins.tokens
   pub full : length open_tags ≡ deepest
+  pub first : NoneTooDeep begins.tokens
   pub tag : Token
   pub is_tag : is_start_or_empty tag ≡ true
   pub fits : Fits begins.tokens tag
