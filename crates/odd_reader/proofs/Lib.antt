@@ -15,6 +15,7 @@ pub mod BareSpelledTags
 pub mod BareTrees
 pub mod Characters
 pub mod Escapes
+pub mod Examples
 pub mod Fits
 pub mod Fronts
 pub mod Keeping
