@@ -3,7 +3,6 @@ use Rattle.std.specs.Prelude.{◌≡◌, ◌≢◌, ℕ, suc, Bool, true, false,
 use Rattle.std.specs.List.{list_all}
 use Rattle.odd_reader.specs.Characters.{is_within}
 use Rattle.odd_reader.specs.Tokens.{NoneTwice}
-use Rattle.odd_reader.specs.declared.TheConstants.{TEI}
 use Rattle.odd_reader.specs.Spelled.{deepest}
 
 abbrev pub is_bare_name_start : ℕ → Bool
@@ -31,8 +30,12 @@ bare_attributes_written (a ∷ rest) = codes " " ++ a.0 ++ codes "=\"" ++ a.1 ++
 abbrev pub IsBareAttribute : Written → Type 0
 IsBareAttribute a = IsTrue (is_bare_name a.0) × IsTrue (is_bare_value a.1)
 
+-- the namespace of the TEI Guidelines
+abbrev pub tei_namespace : List ℕ
+tei_namespace = codes "http://www.tei-c.org/ns/1.0"
+
 abbrev DeclaresTei : List Written → Type 0
-DeclaresTei attributes = (before after : List Written) × (attributes ≡ before ++ (codes "xmlns", TEI.now) ∷ after)
+DeclaresTei attributes = (before after : List Written) × (attributes ≡ before ++ (codes "xmlns", tei_namespace) ∷ after)
 
 abbrev DeclaresNone : List Written → Type 0
 DeclaresNone attributes = All (λ (a : Written). a.0 ≢ codes "xmlns") attributes
