@@ -1,5 +1,5 @@
 -- The definitions at small characters, tokens and files: what holds of them, and what does not.
-use Rattle.std.proofs.Common.{◌≡◌, ◌≢◌, ◌⊎◌, inl, inr, ⊎_elim, ℕ, Bool, true, false, ◌||◌, List, [], ◌∷◌, ◌++◌, map, length, IsTrue, sym, refl, ap, ap₂, subst, ◌∙◌, append_assoc, append-nil, codes, All, le_of_eq, arith}
+use Rattle.std.proofs.Common.{◌≡◌, ◌≢◌, inl, inr, ⊎_elim, ℕ, zero, suc, ◌+◌, ◌*◌, ◌<◌, Bool, true, false, ◌||◌, List, [], ◌∷◌, ◌++◌, map, length, length-append, sym, refl, ap, ap₂, subst, subst₂, ◌∙◌, append_assoc, append-nil, codes, le_of_eq, arith}
 use Rattle.std.specs.Prelude.{Option, Some, None}
 use Rattle.std.specs.Cmp.Lexicographic.{other_text}
 use Rattle.std.specs.List.{list_all, list_any}
@@ -11,15 +11,15 @@ use Rattle.std.proofs.lemmas.Str.{encodes_same}
 use Rattle.std.proofs.lemmas.Bool.{both_ways, or_right}
 use Rattle.odd_base.specs.declared.name.Bind.{Bind}
 use Rattle.odd_base.specs.declared.name.Name.{Name}
-use Rattle.odd_reader.specs.declared.tree.Node.{Node, Element, Text}
+use Rattle.odd_reader.specs.declared.tree.Node.{Node, Text}
 use Rattle.odd_reader.specs.declared.tree.Tree.{Tree, roll-Tree}
 use Rattle.odd_reader.specs.Characters.{is_char, is_name_start, is_name_char, is_ncname}
-use Rattle.odd_reader.specs.Tokens.{QName, Reference, lt, gt, decimal, hexadecimal, Piece, itself, reference, Attribute, Tag, Token, character, referred, cdata, comment, instruction, start_tag, empty_tag, end_tag, name_written, tokens_written, size_of, character_of, IsReference, IsTag, IsToken, NoneTwice}
+use Rattle.odd_reader.specs.Tokens.{QName, lt, gt, decimal, hexadecimal, Piece, itself, reference, Attribute, Tag, Token, character, referred, cdata, comment, instruction, start_tag, empty_tag, end_tag, name_written, token_written, tokens_written, size_of, character_of, IsReference, IsTag, IsToken, NoneTwice}
 use Rattle.odd_reader.specs.Names.{xml_namespace, value_read, binds_of, plain_attributes, element_name, attribute_name, IsBinding, NamesFit}
 use Rattle.odd_reader.specs.Fitting.{is_tag, IsBalanced, nothing, piece, element, AreOpen, none, more, FitsIn, Fits, AllFit}
 use Rattle.odd_reader.specs.Trees.{HasTag, IsElement, IsContent, empty, full}
 use Rattle.odd_reader.specs.Trees as Trees
-use Rattle.odd_reader.specs.Spelled.{Setting, IsSetting, Declaration, IsDeclaration, Opening, opening_written, IsDocument, Begins, Spells, IsWholeOpening, NoneFits, FaultPlace}
+use Rattle.odd_reader.specs.Spelled.{Setting, IsSetting, Declaration, IsDeclaration, Opening, opening_written, IsDocument, Begins, Spells, IsWholeOpening, NoneFits, FaultPlace, DepthPlace, deepest}
 use Rattle.odd_reader.specs.Markup.{escaped_text, escaped_value, printed, line}
 use Rattle.odd_reader.proofs.BareSpelledDistinct.{none_twice}
 use Rattle.odd_reader.proofs.Fits.{FitAfter, all_fit}
@@ -27,7 +27,7 @@ use Rattle.odd_reader.proofs.Lexing.{same_tokens}
 use Rattle.odd_reader.proofs.Openings.{fitting_tokens, none_open}
 use Rattle.odd_reader.proofs.Readings.{one_content}
 use Rattle.odd_reader.proofs.TextsLexed.{same_at}
-use Rattle.odd_reader.proofs.Places.{bytes_of, Longer, one_here, tokens_part, ends_there, ends_at_end, behind, opening_first, one_fault}
+use Rattle.odd_reader.proofs.Places.{bytes_of, Longer, one_here, tokens_part, ends_there, ends_at_end, behind, opening_first, first_of_bytes, one_fault, fault_comes_later, one_depth}
 
 -- Names
 
@@ -309,8 +309,8 @@ is_tag_a : IsTag tag_a
 unfolding is_name_start is_name_char
 is_tag_a = record { named = (refl, refl); attributed = All-nil _; once = none_twice [] tt; ended = refl }
 
-names_fit_a : NamesFit [] tag_a
-names_fit_a = record { declared = All-nil _; named = refl; attributed = All-nil _; once = none_twice [] tt }
+names_fit_a : (around : List Bind) → NamesFit around tag_a
+names_fit_a around = record { declared = All-nil _; named = refl; attributed = All-nil _; once = none_twice [] tt }
 
 abbrev tree_a : ℕ → List Node → Tree
 tree_a at children = roll-Tree (record { name = record { ns = []; local = codes "a" }; attrs = []; binds = []; children = children; at = at })
@@ -334,7 +334,7 @@ empty_tag_spelled = record {
     opening = not_opened;
     is_opening = tt;
     tokens = empty_tag tag_a ∷ [];
-    all_fit = all_fit (empty_tag tag_a ∷ []) (record { token = is_tag_a; open_tags = []; are_open = none nothing; fits_in = (refl, names_fit_a) }, tt);
+    all_fit = all_fit (empty_tag tag_a ∷ []) (record { token = is_tag_a; open_tags = []; are_open = none nothing; fits_in = (refl, names_fit_a []) }, tt);
     written = refl;
   };
   document = record {
@@ -349,7 +349,7 @@ empty_tag_spelled = record {
 }
 
 start_fits_a : Fits [] (start_tag tag_a)
-start_fits_a = record { token = is_tag_a; open_tags = []; are_open = none nothing; fits_in = (refl, names_fit_a) }
+start_fits_a = record { token = is_tag_a; open_tags = []; are_open = none nothing; fits_in = (refl, names_fit_a []) }
 
 a_is_open : (inside : List Token) → IsBalanced inside → AreOpen (tag_a ∷ []) (start_tag tag_a ∷ inside)
 a_is_open inside b = more [] inside nothing (none b) refl
@@ -565,3 +565,122 @@ fault_of_another_end_tag = record {
 -- and nowhere else
 no_fault_at_the_start : FaultPlace (codes "<a></b>") 0 → ⊥
 no_fault_at_the_start f = let e = one_fault (codes "<a></b>") 0 3 f fault_of_another_end_tag in omega arith
+
+-- The place of a level too many
+
+-- tags, one in the other
+
+abbrev tags_a : ℕ → List Tag
+tags_a zero = []
+tags_a (suc n) = tag_a ∷ tags_a n
+
+abbrev starts_a : ℕ → List Token
+starts_a zero = []
+starts_a (suc n) = start_tag tag_a ∷ starts_a n
+
+levels : (n : ℕ) → length (tags_a n) ≡ n
+levels zero = refl
+levels (suc n) = omega (arith, levels n)
+
+all_open : (n : ℕ) → AreOpen (tags_a n) (starts_a n)
+all_open zero = none nothing
+all_open (suc n) = more [] (starts_a n) nothing (all_open n) refl
+
+-- each token is the start tag after the ones before it
+parts : (n : ℕ) (before after : List Token) (t : Token) → starts_a n ≡ before ++ t ∷ after → (k : ℕ) × (before ≡ starts_a k) × (t ≡ start_tag tag_a) × (k < n)
+parts zero [] after t e = cc
+parts zero (b ∷ bs) after t e = cc
+parts (suc n) [] after t e = (0, refl, cc, omega arith)
+parts (suc n) (b ∷ bs) after t e =
+    let same : b ≡ start_tag tag_a = cc in
+    let r = parts n bs after t (cc) in
+    (suc r.0, ap₂ ◌∷◌ same r.1, r.2, omega (arith, r.3))
+
+start_fits_at : (k : ℕ) → Fits (starts_a k) (start_tag tag_a)
+start_fits_at zero = start_fits_a
+start_fits_at (suc k) = record { token = is_tag_a; open_tags = tags_a (suc k); are_open = all_open (suc k); fits_in = names_fit_a _ }
+
+starts_fit : (n : ℕ) → AllFit (starts_a n)
+starts_fit n before after t e = let r = parts n before after t e in subst₂ Fits (sym r.1) (sym r.2) (start_fits_at r.0)
+
+-- just these elements are open after them
+
+balanced_front : (k : ℕ) (bs rest : List Token) → IsBalanced bs → bs ++ rest ≡ starts_a k → bs ≡ []
+balanced_front k bs rest nothing e = refl
+balanced_front k bs rest (piece {t = t} {ts = ts} h b) e =
+    let r = parts k [] (ts ++ rest) t (sym e) in
+    let f : true ≡ false = rw r.2 at h in cc
+balanced_front k bs rest (element {tag = tag} {ts = ts} name space inside after b c p) e =
+    let within : starts_a k ≡ (start_tag tag ∷ inside) ++ end_tag name space ∷ (after ++ rest) =
+    sym e ∙ ap (λ z. start_tag tag ∷ (z ++ rest)) p ∙ ap (λ z. start_tag tag ∷ z) (append_assoc inside (end_tag name space ∷ after) rest) in
+    let r = parts k (start_tag tag ∷ inside) (after ++ rest) (end_tag name space) within in
+    let f : end_tag name space ≡ start_tag tag_a = r.2 in cc
+
+just_these : (k : ℕ) (tags : List Tag) (ts : List Token) → AreOpen tags ts → ts ≡ starts_a k → length tags ≡ k
+just_these k tags ts (none b) e = let n : ts ≡ [] = balanced_front k ts [] b (append-nil ts ∙ e) in none_left k (sym n ∙ e)
+  where
+    none_left : (k : ℕ) → [] ≡ starts_a k → 0 ≡ k
+    none_left zero f = refl
+    none_left (suc k) f = cc
+just_these k tags ts (more {tag = tag} {tags = inner} before inside b o p) e =
+    let n : before ≡ [] = balanced_front k before (start_tag tag ∷ inside) b (sym p ∙ e) in
+    go k (sym (p ∙ ap (λ z. z ++ start_tag tag ∷ inside) n) ∙ e) (λ j q. just_these j inner inside o q)
+  where
+    go : (k : ℕ) → start_tag tag ∷ inside ≡ starts_a k → ((j : ℕ) → inside ≡ starts_a j → length inner ≡ j) → length (tag ∷ inner) ≡ k
+    go zero f h = cc
+    go (suc j) f h = omega (arith, h j (cc))
+
+-- <a> 200 times, and then <a/><a/>
+abbrev deep_file : List ℕ
+deep_file = bytes_of (starts_a deepest) ++ codes "<a/><a/>"
+
+start_length : length (encode_utf8_all (token_written (start_tag tag_a))) ≡ 3
+unfolding encode
+start_length = refl
+
+deep_length : (n : ℕ) (left : List ℕ) → length (bytes_of (starts_a n) ++ left) ≡ 3 * n + length left
+deep_length zero left = omega arith
+deep_length (suc n) left =
+    ap length (first_of_bytes (start_tag tag_a) (starts_a n) left) ∙ length-append (encode_utf8_all (token_written (start_tag tag_a))) (bytes_of (starts_a n) ++ left)
+    ∙ omega (arith, deep_length n left, start_length)
+
+deep_has_no_opening : HasNoOpening deep_file
+unfolding encode
+deep_has_no_opening = a_has_no_opening (codes ">" ++ (bytes_of (starts_a 199) ++ codes "<a/><a/>"))
+
+empty_fits_deep : Fits (starts_a deepest) (empty_tag tag_a)
+empty_fits_deep = record { token = is_tag_a; open_tags = tags_a deepest; are_open = all_open deepest; fits_in = names_fit_a _ }
+
+deep_begins : Begins deep_file (codes "<a/><a/>")
+deep_begins = record { opening = not_opened; is_opening = tt; tokens = starts_a deepest; all_fit = starts_fit deepest; written = refl }
+
+deep_placed : 600 + length (codes "<a/><a/>") ≡ length deep_file
+deep_placed = omega (arith, deep_length deepest (codes "<a/><a/>"))
+
+deep_follows : codes "<a/><a/>" ≡ encode_utf8_all (token_written (empty_tag tag_a)) ++ codes "<a/>"
+unfolding encode
+deep_follows = refl
+
+-- a level too many is at the first empty tag
+first_of_two_deep : DepthPlace deep_file 600
+unfolding deep_begins
+first_of_two_deep = record {
+  left = codes "<a/><a/>";
+  begins = deep_begins;
+  opened = whole_opening deep_file deep_has_no_opening;
+  placed = deep_placed;
+  open_tags = tags_a deepest;
+  are_open = all_open deepest;
+  full = levels deepest;
+  first = λ before after t tags e s o. let r = parts deepest before after t e in omega (arith, r.3, just_these r.0 tags before o r.1);
+  tag = empty_tag tag_a;
+  is_tag = refl;
+  fits = empty_fits_deep;
+  more = codes "<a/>";
+  follows = deep_follows;
+  no_fault = λ p f. fault_comes_later deep_file (codes "<a/><a/>") (codes "<a/>") 600 p deep_begins (empty_tag tag_a) (whole_opening deep_file deep_has_no_opening) deep_placed empty_fits_deep deep_follows f;
+}
+
+-- and not at the second
+second_of_two_deep : DepthPlace deep_file 604 → ⊥
+second_of_two_deep d = let e = one_depth deep_file 600 604 first_of_two_deep d in omega arith

@@ -1,13 +1,13 @@
 -- The place of a fault is one, and so is the place of a level too many. Two beginnings of a file are one up to where the shorter ends.
-use Rattle.std.proofs.Common.{◌≡◌, ◌≢◌, ◌⊎◌, inl, inr, ⊎_elim, ℕ, ◌+◌, ◌<◌, ◌≤◌, Bool, true, false, List, [], ◌∷◌, ◌++◌, length, length-append, sym, refl, ap, ap₂, ◌∙◌, append_assoc, append-nil, All, subst, arith}
+use Rattle.std.proofs.Common.{◌≡◌, ◌≢◌, ◌⊎◌, inl, inr, ⊎_elim, ℕ, ◌+◌, ◌<◌, ◌≤◌, List, [], ◌∷◌, ◌++◌, length, length-append, sym, refl, ap, ap₂, ◌∙◌, append_assoc, append-nil, All, subst, arith}
 use Rattle.std.proofs.Math.Utf8.{encode}
 use Rattle.std.proofs.lemmas.List.{append_cancel_left}
 use Rattle.std.proofs.lemmas.List.Elements.{All-head, All-tail}
-use Rattle.std.proofs.lemmas.Str.{encode_same, encodes-append, encodes_same, length-le-encodes}
+use Rattle.std.proofs.lemmas.Str.{encode_same, encodes-append, length-le-encodes}
 use Rattle.std.specs.Str.{encode_utf8_all}
 use Rattle.odd_reader.specs.Tokens.{Token, IsToken, token_written, tokens_written, size_of}
 use Rattle.odd_reader.specs.Fitting.{is_start_or_empty, Fits, AllFit}
-use Rattle.odd_reader.specs.Spelled.{Opening, opening_written, Begins, IsWholeOpening, NoneFits, FaultPlace, DepthPlace, deepest}
+use Rattle.odd_reader.specs.Spelled.{opening_written, Begins, IsWholeOpening, NoneFits, FaultPlace, DepthPlace, deepest}
 use Rattle.odd_reader.proofs.Lexing.{one_token, something_written}
 use Rattle.odd_reader.proofs.Openings.{fitting_tokens}
 
@@ -55,14 +55,17 @@ tokens_part (t ∷ ts) (u ∷ us) l m a b e =
     (tokens_part ts us l m (All-tail IsToken t ts a) (All-tail IsToken u us b) f.1)
 
 -- a token is some bytes
-pub some_bytes : (t : Token) (l : List ℕ) → IsToken t → encode_utf8_all (token_written t) ++ l ≢ []
-some_bytes t l h = go (token_written t) (λ e. something_written t [] h (append-nil (token_written t) ∙ e))
+pub some_length : (t : Token) → IsToken t → 1 ≤ length (encode_utf8_all (token_written t))
+some_length t h = go (token_written t) (λ e. something_written t [] h (append-nil (token_written t) ∙ e))
   where
-    go : (cs : List ℕ) → cs ≢ [] → encode_utf8_all cs ++ l ≢ []
-    go [] n e = n refl
-    go (c ∷ cs) n e =
+    go : (cs : List ℕ) → cs ≢ [] → 1 ≤ length (encode_utf8_all cs)
+    go [] n = absurd (n refl)
+    go (c ∷ cs) n =
         let long : length (c ∷ cs) ≤ length (encode_utf8_all (c ∷ cs)) = length-le-encodes (c ∷ cs) in
-        omega (arith, long, ap length e, length-append (encode_utf8_all (c ∷ cs)) l)
+        omega arith
+
+pub some_bytes : (t : Token) (l : List ℕ) → IsToken t → encode_utf8_all (token_written t) ++ l ≢ []
+some_bytes t l h e = omega (arith, some_length t h, ap length e, length-append (encode_utf8_all (token_written t)) l)
 
 -- where no token that fits begins, nothing longer fits
 pub ends_there : (ts us : List Token) (l m : List ℕ) → AllFit us → NoneFits ts l → Longer ts us l m → l ≡ m
@@ -121,6 +124,27 @@ one_fault bytes p q a b =
     same_place p q bytes a.left b.left a.placed b.placed
     (⊎_elim (λ g. stops_there bytes p a b.begins.tokens b.left b.begins.all_fit g) (λ g. sym (stops_there bytes q b a.begins.tokens a.left a.begins.all_fit g))
     (begin_alike a.begins b.begins a.opened b.opened))
+
+-- a token that fits stands before the fault
+
+no_stop : (bytes : List ℕ) (p : ℕ) (f : FaultPlace bytes p) (t : Token) (more : List ℕ) → Fits f.begins.tokens t → f.left ≢ encode_utf8_all (token_written t) ++ more
+no_stop bytes p f t more h e = ⊎_elim (λ n. some_bytes t more h.token (sym e ∙ n)) (λ n. n t more h e) f.stops
+
+pub fault_comes_later : (bytes left more : List ℕ) (place p : ℕ) (b : Begins bytes left) (t : Token) → IsWholeOpening bytes b.opening → place + length left ≡ length bytes
+    → Fits b.tokens t → left ≡ encode_utf8_all (token_written t) ++ more → FaultPlace bytes p → place < p
+fault_comes_later bytes left more place p b t w placed h e f = ⊎_elim longer shorter (begin_alike b f.begins w f.opened)
+  where
+    longer : Longer b.tokens f.begins.tokens left f.left → place < p
+    longer ([], g, k) = absurd (no_stop bytes p f t more (subst (λ ts. Fits ts t) (sym (g ∙ append-nil b.tokens)) h) (sym k ∙ e))
+    longer (v ∷ vs, g, k) =
+        let one : 1 ≤ length (encode_utf8_all (token_written v)) = some_length v (f.begins.all_fit b.tokens vs v g).token in
+        let two : length left ≡ length (encode_utf8_all (token_written v)) + length (bytes_of vs ++ f.left) =
+        ap length (k ∙ first_of_bytes v vs f.left) ∙ length-append (encode_utf8_all (token_written v)) (bytes_of vs ++ f.left) in
+        omega (arith, f.placed, length-append (bytes_of vs) f.left)
+
+    shorter : Longer f.begins.tokens b.tokens f.left left → place < p
+    shorter ([], g, k) = absurd (no_stop bytes p f t more (subst (λ ts. Fits ts t) (g ∙ append-nil f.begins.tokens) h) (k ∙ e))
+    shorter (v ∷ vs, g, k) = absurd (no_stop bytes p f v (bytes_of vs ++ left) (b.all_fit f.begins.tokens vs v g) (k ∙ first_of_bytes v vs left))
 
 -- the place of a level too many: of two, the tag at one would stand among the tokens before the other
 
