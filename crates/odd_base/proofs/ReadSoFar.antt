@@ -32,6 +32,11 @@ all_read files name sofar old new rest rest' r moved h =
     let all : r.0 ≡ sofar = r.4 ∙ ap (λ y. sofar ++ y) none ∙ append-nil sofar in
     subst (λ y. Held files name y) all r.2
 
+-- a read of none into a buffer with room leaves nothing
+pub none_left : (files : FileMap) (name sofar old new : List ℕ) (rest rest' : Option (List ℕ)) → ReadSoFar files name sofar rest
+    → ((left : List ℕ) → rest ≡ Some left → TakesFront left old new rest' 0) → 0 < length old → rest' ≡ Some []
+none_left files name sofar old new rest rest' r moved h = let m = moved r.1 r.3 in m.left ∙ ap (λ xs. Some (drop 0 xs)) (m.ends refl h)
+
 -- a read raises the count of reads by at most one
 pub counted_read : (b : Bool) (old new : ℕ) → new ≡ (if b then next_count old else old) → new ≤ old + 1
 counted_read true old new e = omega (arith, e)

@@ -1,4 +1,4 @@
-ghost use Rattle.std.specs.Prelude.{◌≡◌, ◌≤◌, ◌<◌, ◌+◌, ◌^◌, Some, false, length, IfSome};
+ghost use Rattle.std.specs.Prelude.{◌≡◌, ◌≤◌, ◌<◌, ◌+◌, ◌^◌, Some, false, [], length, IfSome};
 ghost use Rattle.std.specs.FinMap as finite;
 ghost use Rattle.odd_base.specs.Text.{text_cmp};
 ghost use Rattle.odd_base.specs.Memory.{files_of, pairs_of, bytes_at, rest_of, is_empty};
@@ -49,6 +49,7 @@ impl MemShelf {
     pub fn new(files: Files, chunk: usize, fail: Calls) -> MemShelf
         requires { 1 ≤ chunk }
         ensures holds { ⟦<MemShelf as Shelf>⟧.holds result ≡ Some (files_of files) }
+        ensures nothing_unread { ⟦<MemShelf as Shelf>⟧.rest result ≡ Some [] }
         ensures not_begun { ⟦<MemShelf as Shelf>⟧.begun result ≡ false }
         ensures no_faults { ⟦<MemShelf as Shelf>⟧.faults result ≡ 0 }
         ensures no_reads { ⟦<MemShelf as Shelf>⟧.reads result ≡ 0 }

@@ -1,4 +1,4 @@
-ghost use Rattle.std.specs.Prelude.{◌≡◌, ◌≤◌, ◌+◌, ℕ, List, Some, length, IsTrue, IfOk};
+ghost use Rattle.std.specs.Prelude.{◌≡◌, ◌≤◌, ◌+◌, ℕ, List, Some, [], length, IsTrue, IfOk, OnOk};
 ghost use Rattle.odd_base.specs.Count.{HasRisen};
 ghost use Rattle.odd_base.specs.Shelf.{FileMap, Held, NotHeld, IsTooLong, LeavesSuffix};
 
@@ -32,6 +32,7 @@ pub fn slurp<F: Shelf>(
 ) -> Result<Bytes, SlurpRefusal>
     ensures ok { (files : FileMap) → F.holds shelf.old ≡ Some files → IfOk result (λ bytes. Held files name.now bytes) }
     ensures within { IfOk result (λ bytes. length bytes ≤ limit) }
+    ensures to_the_end { (files : FileMap) → F.holds shelf.old ≡ Some files → OnOk result (F.rest shelf.new ≡ Some []) }
     ensures too_long { (files : FileMap) → F.holds shelf.old ≡ Some files → result ≡ Err SlurpRefusal.TooLong → IsTooLong files name.now limit }
 
     // A fault of the shelf, and nothing else, is a ReadFault.

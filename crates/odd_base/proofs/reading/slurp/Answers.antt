@@ -2,7 +2,7 @@ use Rattle.std.proofs.Common.{rules, [], ◌<◌, length, take, length-take, ref
 use Rattle.std.specs.Prelude.{nat_lt}
 use Rattle.std.proofs.lemmas.List.{append-nil}
 use Rattle.odd_base.specs.Shelf.{Held, TakesFront}
-use Rattle.odd_base.proofs.ReadSoFar.{ReadSoFar, all_read, more_read, counted_read}
+use Rattle.odd_base.proofs.ReadSoFar.{ReadSoFar, all_read, none_left, more_read, counted_read}
 use Rattle.odd_base.proofs.reading.slurp.Goals as goal
 
 pub returns-in-Err-clause-suffix : goal.returns-in-Err-clause-suffix
@@ -15,6 +15,12 @@ returns-then-n-eq0-clause-ok g c = λ files h.
     subst (λ y. Held files c.args.name.now y) (sym c.from_vec.ensures)
     (all_read files c.args.name.now c.reading.bytes.items c.reading.buf c.read.new.buf (g.F.Shelf.rest c.reading.shelf) (g.F.Shelf.rest c.read.new.self) r
     (λ left e. subst (λ n. TakesFront left c.reading.buf c.read.new.buf (g.F.Shelf.rest c.read.new.self) n) c.if-n-eq0.true (c.in-Ok-read.ensures.moved left e)) long)
+
+pub returns-then-n-eq0-clause-to_the_end : goal.returns-then-n-eq0-clause-to_the_end
+returns-then-n-eq0-clause-to_the_end g c = λ files h.
+    let long : 0 < length c.reading.buf = omega arith in
+    none_left files c.args.name.now c.reading.bytes.items c.reading.buf c.read.new.buf (g.F.Shelf.rest c.reading.shelf) (g.F.Shelf.rest c.read.new.self) (c.reading.invariant.sofar files h)
+    (λ left e. subst (λ n. TakesFront left c.reading.buf c.read.new.buf (g.F.Shelf.rest c.read.new.self) n) c.if-n-eq0.true (c.in-Ok-read.ensures.moved left e)) long
 
 pub reading-preserved : goal.reading-preserved
 reading-preserved g c = record {
