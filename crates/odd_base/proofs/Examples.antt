@@ -1,5 +1,5 @@
 -- The definitions of specs/ on small values: where they hold, and where they don't.
-use Rattle.std.proofs.Common.{◌≡◌, ◌↔◌, ℕ, zero, suc, ◌+◌, ◌-◌, ◌^◌, ◌<◌, Bool, true, false, List, [], ◌∷◌, ◌++◌, length, take, drop, get_or, Option, Some, None, unwrap_or, Result, Ok, Err, Ordering, Less, Equal, Greater, IsTrue, refl, sym, ap, ◌∙◌, inl, inr, length-append, length-take, arith}
+use Rattle.std.proofs.Common.{◌≡◌, ℕ, ◌-◌, ◌^◌, ◌<◌, true, false, List, [], ◌∷◌, ◌++◌, length, take, get_or, Option, Some, None, unwrap_or, Ok, Err, Less, Greater, IsTrue, refl, sym, ap, ◌∙◌, inl, inr, length-append, length-take, arith}
 use Rattle.std.specs.FinMap as finite
 use Rattle.std.specs.FinMap.{find, put, is_sorted}
 use Rattle.std.proofs.lemmas.Cmp.{nat_list_cmp_total}
@@ -8,7 +8,7 @@ use Rattle.odd_base.specs.declared.key.Key.{Key}
 use Rattle.odd_base.specs.declared.mem_shelf.File.{File}
 use Rattle.odd_base.specs.Count.{last_count, next_count, HasRisen}
 use Rattle.odd_base.specs.Key.{key_cmp}
-use Rattle.odd_base.specs.Map.{SetsOnly, IsAt, IsGap}
+use Rattle.odd_base.specs.Map.{SetsOnly}
 use Rattle.odd_base.specs.Memory.{files_of, pairs_of, rest_of}
 use Rattle.odd_base.specs.Shelf.{FileMap, Held, NotHeld, Opened, TakesFront, LeavesSuffix, IsTooLong, brings}
 use Rattle.odd_base.specs.Sink.{IsPartWritten}
