@@ -1,6 +1,7 @@
 -- Files in memory.
-use Rattle.std.specs.Prelude.{ℕ, Bool, true, false, List, [], ◌∷◌, Option, Some, None, drop, map, slice_get}
+use Rattle.std.specs.Prelude.{ℕ, Bool, true, false, List, [], ◌∷◌, Option, Some, None, drop, map, slice_get, IsTrue, ◌==◌}
 use Rattle.std.specs.Option.{option_map}
+use Rattle.std.specs.List.{list_any}
 use Rattle.std.specs.FinMap as finite
 use Rattle.odd_base.specs.Shelf.{FileMap}
 use Rattle.odd_base.specs.declared.mem_shelf.File.{File}
@@ -9,6 +10,10 @@ use Rattle.odd_base.specs.declared.mem_shelf.Place.{Place}
 abbrev pub is_empty : {A : Type 0} → List A → Bool
 is_empty [] = true
 is_empty (x ∷ xs) = false
+
+-- a call of this number is one of those that are to fail
+abbrev pub IsToFail : List ℕ → ℕ → Type 0
+IsToFail fail number = IsTrue (list_any (λ n. n == number) fail)
 
 -- each file's name and bytes
 abbrev pub pairs_of : List File → List (List ℕ × List ℕ)

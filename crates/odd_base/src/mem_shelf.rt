@@ -1,7 +1,9 @@
-ghost use Rattle.std.specs.Prelude.{◌≡◌, ◌≤◌, ◌<◌, ◌+◌, ◌^◌, Some, false, [], length, IfSome};
+ghost use Rattle.std.specs.Prelude.{◌≡◌, ◌≤◌, ◌<◌, ◌+◌, ◌^◌, ◌⊎◌, ℕ, List, Some, true, false, [], length, if◌then◌else◌, is_err, IsTrue, IsOk, IsErr, IfOk, IfSome, OnOk, OnErr};
+ghost use Rattle.odd_base.specs.Count.{last_count, next_count, HasRisen};
+ghost use Rattle.odd_base.specs.Shelf.{FileMap, NotHeld, Opened, TakesFront, brings};
 ghost use Rattle.std.specs.FinMap as finite;
 ghost use Rattle.odd_base.specs.Text.{text_cmp};
-ghost use Rattle.odd_base.specs.Memory.{files_of, pairs_of, bytes_at, rest_of, is_empty};
+ghost use Rattle.odd_base.specs.Memory.{files_of, pairs_of, bytes_at, rest_of, is_empty, IsToFail};
 
 use crate::bytes::Bytes;
 use crate::count::next_count;
@@ -52,6 +54,8 @@ impl MemShelf {
         ensures nothing_unread { ⟦<MemShelf as Shelf>⟧.rest result ≡ Some [] }
         ensures not_begun { ⟦<MemShelf as Shelf>⟧.begun result ≡ false }
         ensures no_faults { ⟦<MemShelf as Shelf>⟧.faults result ≡ 0 }
+        ensures keeps { (result.chunk ≡ chunk) × (result.fail ≡ fail) }
+        ensures no_calls { result.calls ≡ 0 }
         ensures no_reads { ⟦<MemShelf as Shelf>⟧.reads result ≡ 0 }
         ensures steady { ⟦<MemShelf as Shelf>⟧.steady result ≡ is_empty fail }
     {
@@ -114,7 +118,26 @@ impl Shelf for MemShelf {
 
     ghost steady = { λ s. is_empty s.fail };
 
-    fn begin(&mut self, name: &Text) -> Result<(), ShelfFault> {
+    fn begin(&mut self, name: &Text) -> Result<(), ShelfFault>
+        ensures same_files { ⟦<MemShelf as Shelf>⟧.holds self.new ≡ ⟦<MemShelf as Shelf>⟧.holds self.old }
+        ensures same_steady { ⟦<MemShelf as Shelf>⟧.steady self.new ≡ ⟦<MemShelf as Shelf>⟧.steady self.old }
+        ensures same_reads { ⟦<MemShelf as Shelf>⟧.reads self.new ≡ ⟦<MemShelf as Shelf>⟧.reads self.old }
+        ensures begins { ⟦<MemShelf as Shelf>⟧.begun self.new ≡ true }
+        ensures opened { (files : FileMap) → ⟦<MemShelf as Shelf>⟧.holds self.old ≡ Some files → OnOk result (Opened files name.now (⟦<MemShelf as Shelf>⟧.rest self.new)) }
+        ensures closed { (files : FileMap) → ⟦<MemShelf as Shelf>⟧.holds self.old ≡ Some files → OnErr result (⟦<MemShelf as Shelf>⟧.rest self.new ≡ Some []) }
+        ensures emptied { OnErr result (IfSome (⟦<MemShelf as Shelf>⟧.rest self.new) (λ left. left ≡ [])) }
+        ensures never_falls { ⟦<MemShelf as Shelf>⟧.faults self.old ≤ ⟦<MemShelf as Shelf>⟧.faults self.new }
+        ensures stands_still { ⟦<MemShelf as Shelf>⟧.faults self.old ≡ last_count → ⟦<MemShelf as Shelf>⟧.faults self.new ≡ last_count }
+        ensures rose { OnErr result (HasRisen (⟦<MemShelf as Shelf>⟧.faults self.old) (⟦<MemShelf as Shelf>⟧.faults self.new)) }
+        ensures steady_fault { (files : FileMap) → ⟦<MemShelf as Shelf>⟧.holds self.old ≡ Some files → IsTrue (⟦<MemShelf as Shelf>⟧.steady self.old) → OnErr result (NotHeld files name.now) }
+
+        // Beside the clauses of the trait: which calls fault, and what is counted.
+        ensures called { self.new.calls ≡ next_count self.old.calls }
+        ensures kept { (self.new.chunk ≡ self.old.chunk) × (self.new.fail ≡ self.old.fail) }
+        ensures fails { IsToFail self.old.fail (next_count self.old.calls) → IsErr result }
+        ensures fails_only { OnErr result (IsToFail self.old.fail (next_count self.old.calls) ⊎ NotHeld (files_of self.old.files) name.now) }
+        ensures counts_faults { self.new.faults ≡ (if is_err result then next_count self.old.faults else self.old.faults) }
+    {
         self.begun = true;
         self.place = None;
         self.calls = next_count(self.calls);
@@ -134,7 +157,28 @@ impl Shelf for MemShelf {
         }
     }
 
-    fn read(&mut self, buf: &mut [u8]) -> Result<usize, ShelfFault> {
+    fn read(&mut self, buf: &mut [u8]) -> Result<usize, ShelfFault>
+        ensures same_files { ⟦<MemShelf as Shelf>⟧.holds self.new ≡ ⟦<MemShelf as Shelf>⟧.holds self.old }
+        ensures same_steady { ⟦<MemShelf as Shelf>⟧.steady self.new ≡ ⟦<MemShelf as Shelf>⟧.steady self.old }
+        ensures same_begun { ⟦<MemShelf as Shelf>⟧.begun self.new ≡ ⟦<MemShelf as Shelf>⟧.begun self.old }
+        ensures within { IfOk result (λ n. n ≤ length buf.old) }
+        ensures moved { (unread : List ℕ) → ⟦<MemShelf as Shelf>⟧.rest self.old ≡ Some unread → IfOk result (TakesFront unread buf.old buf.new (⟦<MemShelf as Shelf>⟧.rest self.new)) }
+        ensures unmoved { OnErr result (⟦<MemShelf as Shelf>⟧.rest self.new ≡ ⟦<MemShelf as Shelf>⟧.rest self.old) }
+        ensures counted { ⟦<MemShelf as Shelf>⟧.reads self.new ≡ (if brings result then next_count (⟦<MemShelf as Shelf>⟧.reads self.old) else ⟦<MemShelf as Shelf>⟧.reads self.old) }
+        ensures not_begun { ⟦<MemShelf as Shelf>⟧.begun self.old ≡ false → IsErr result }
+        ensures never_falls { ⟦<MemShelf as Shelf>⟧.faults self.old ≤ ⟦<MemShelf as Shelf>⟧.faults self.new }
+        ensures stands_still { ⟦<MemShelf as Shelf>⟧.faults self.old ≡ last_count → ⟦<MemShelf as Shelf>⟧.faults self.new ≡ last_count }
+        ensures rose { OnErr result (HasRisen (⟦<MemShelf as Shelf>⟧.faults self.old) (⟦<MemShelf as Shelf>⟧.faults self.new)) }
+        ensures steady_fault { IsTrue (⟦<MemShelf as Shelf>⟧.steady self.old) → IsTrue (⟦<MemShelf as Shelf>⟧.begun self.old) → IsOk result }
+
+        // Beside the clauses of the trait: which calls fault, how much comes, and what is counted.
+        ensures called { self.new.calls ≡ next_count self.old.calls }
+        ensures kept { (self.new.chunk ≡ self.old.chunk) × (self.new.fail ≡ self.old.fail) }
+        ensures at_most_chunk { IfOk result (λ n. n ≤ self.old.chunk) }
+        ensures fails { IsToFail self.old.fail (next_count self.old.calls) → IsErr result }
+        ensures fails_only { OnErr result (IsToFail self.old.fail (next_count self.old.calls) ⊎ (self.old.begun ≡ false)) }
+        ensures counts_faults { self.new.faults ≡ (if is_err result then next_count self.old.faults else self.old.faults) }
+    {
         self.calls = next_count(self.calls);
         if !self.begun || self.fail.as_slice().contains(&self.calls) {
             self.faults = next_count(self.faults);
