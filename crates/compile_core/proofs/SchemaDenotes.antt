@@ -6,18 +6,17 @@ use Rattle.odd_reader.proofs.Spelling.{one_tree}
 use Rattle.odd_decls.specs.declared.library.Library.{Library}
 use Rattle.compile_core.specs.Compiled.{grammar_of}
 use Rattle.compile_core.specs.Denoting.{DenotesOnly, StandsFor}
-use Rattle.compile_core.specs.Grammar.{all_of}
+use Rattle.compile_core.specs.Grammar.{all_of, relax_ng_namespace}
 use Rattle.compile_core.specs.Schema.{HoldsStart, IsFormed, schema_text}
-use Rattle.compile_core.specs.declared.schema.TheConstants.{RELAX_NG}
 use Rattle.compile_core.proofs.OneGrammar.{one_grammar}
 use Rattle.compile_core.proofs.SchemaParts.{root_attributes, schema_parts}
-use Rattle.compile_core.proofs.SchemaPlain.{grammar_tag, relax_ng_namespace, schema_plain}
+use Rattle.compile_core.proofs.SchemaPlain.{grammar_tag, relax_ng_bound, schema_plain}
 use Rattle.compile_core.proofs.SchemaStands.{schema_stands}
 
 pub schema_denotes : (library : Library) (start : List (List ℕ)) → IsFormed library → HoldsStart library start → DenotesOnly (schema_text library start) (grammar_of library start)
 schema_denotes library start f held =
     let inside = all_of (schema_parts library start) in
-    let read = printed_spells RELAX_NG.now (codes "grammar") root_attributes inside relax_ng_namespace grammar_tag (schema_plain library start f held) in
+    let read = printed_spells relax_ng_namespace (codes "grammar") root_attributes inside relax_ng_bound grammar_tag (schema_plain library start f held) in
     let stands : StandsFor read.0 (grammar_of library start) = schema_stands library start read.0 f held read.2 in
     record {
       denoted = record { tree = read.0; spelled = read.1; stands = stands };

@@ -5,7 +5,6 @@ use Rattle.std.proofs.lemmas.List.Elements.{All-nil, All-cons, All-head, All-tai
 use Rattle.odd_base.specs.declared.key.Key.{Key}
 use Rattle.odd_reader.specs.Characters.{IsNCName}
 use Rattle.odd_reader.specs.Markup.{Pair, Markup}
-use Rattle.odd_reader.specs.declared.TheConstants.{TEI}
 use Rattle.odd_reader.specs.declared.tree.Tree.{Tree}
 use Rattle.odd_reader.proofs.PrintedTrees.{Shows}
 use Rattle.odd_decls.specs.declared.content.Content.{Content}
@@ -13,22 +12,21 @@ use Rattle.odd_decls.specs.declared.content.Content.TheVariants as content
 use Rattle.odd_decls.specs.declared.library.Component.{Component}
 use Rattle.odd_decls.specs.declared.library.Component.TheVariants as component
 use Rattle.odd_decls.specs.declared.library.Library.{Library}
-use Rattle.odd_decls.specs.Odd.{StandsIn}
+use Rattle.odd_decls.specs.Odd.{StandsIn, tei_namespace}
 use Rattle.compile_core.specs.Compiled.{content_pattern, definition_of, reference, start_pattern}
 use Rattle.compile_core.specs.Denoting.{AreDefines, ArePatterns, IsDefine, IsElementOf, IsPattern, IsStart, given, parts_of}
 use Rattle.compile_core.specs.Denoting as denoting
-use Rattle.compile_core.specs.Grammar.{element_markup, plain}
+use Rattle.compile_core.specs.Grammar.{element_markup, plain, relax_ng_namespace, datatype_library}
 use Rattle.compile_core.specs.Schema.{choice_of, component_define, content_markup, define_name, reference_to}
 use Rattle.compile_core.specs.declared.grammar.AttrPart.TheVariants as attributes
 use Rattle.compile_core.specs.declared.grammar.Body.TheVariants as body
 use Rattle.compile_core.specs.declared.grammar.NameClass.TheVariants as class
-use Rattle.compile_core.specs.declared.schema.TheConstants.{RELAX_NG, DATATYPES}
 use Rattle.compile_core.proofs.SchemaNames.{IsElementEntry, define_ncname}
 use Rattle.compile_core.proofs.Shown.{AreShown, is_part, no_part, one_part, shown, value_in}
 
 -- the attribute of the root, and the elements in it
 abbrev pub root_attributes : List Pair
-root_attributes = (codes "datatypeLibrary", DATATYPES.now) ∷ []
+root_attributes = (codes "datatypeLibrary", datatype_library) ∷ []
 
 abbrev pub start_markup : List (List ℕ) → Markup
 start_markup start = plain (codes "start") (choice_of (map reference_to start) ∷ [])
@@ -48,7 +46,7 @@ name_alone : (name : List ℕ) → All (Allows (codes "name" ∷ [])) ((codes "n
 name_alone name = All-cons (Allows (codes "name" ∷ [])) (codes "name", name) [] ([], [], refl) (no_attribute _)
 
 -- a content
-content_shown : (c : Content) (t : Tree) → Shows RELAX_NG.now (content_markup c) t → IsPattern t (content_pattern c)
+content_shown : (c : Content) (t : Tree) → Shows relax_ng_namespace (content_markup c) t → IsPattern t (content_pattern c)
 content_shown content.Empty t s =
     let h = shown (codes "empty") [] [] t s in
     denoting.empty (is_part _ _ _ [] t h (no_attribute [])) (no_part (parts_of t) h.parts)
@@ -57,7 +55,7 @@ content_shown content.Text t s =
     denoting.text (is_part _ _ _ [] t h (no_attribute [])) (no_part (parts_of t) h.parts)
 
 -- a reference
-reference_shown : (ident : List ℕ) (t : Tree) → IsNCName ident → Shows RELAX_NG.now (reference_to ident) t → IsPattern t (reference ident)
+reference_shown : (ident : List ℕ) (t : Tree) → IsNCName ident → Shows relax_ng_namespace (reference_to ident) t → IsPattern t (reference ident)
 reference_shown ident t n s =
     let h = shown (codes "ref") ((codes "name", define_name ident) ∷ []) [] t s in
     denoting.reference (is_part _ _ _ (codes "name" ∷ []) t h (name_alone (define_name ident))) (no_part (parts_of t) h.parts)
@@ -71,7 +69,7 @@ references_shown (word ∷ words) (t ∷ ts) n s =
     denoting.more (reference_shown word t (All-head IsNCName word words n) s.0) (references_shown words ts (All-tail IsNCName word words n) s.1)
 
 -- the pattern of the start words
-start_shown : (start : List (List ℕ)) (t : Tree) → All IsNCName start → Shows RELAX_NG.now (choice_of (map reference_to start)) t → IsPattern t (start_pattern start)
+start_shown : (start : List (List ℕ)) (t : Tree) → All IsNCName start → Shows relax_ng_namespace (choice_of (map reference_to start)) t → IsPattern t (start_pattern start)
 start_shown [] t n s =
     let h = shown (codes "notAllowed") [] [] t s in
     denoting.not_allowed (is_part _ _ _ [] t h (no_attribute [])) (no_part (parts_of t) h.parts)
@@ -81,7 +79,7 @@ start_shown (word ∷ other ∷ words) t n s =
     denoting.choice (map reference (word ∷ other ∷ words)) (is_part _ _ _ [] t h (no_attribute []))
     (references_shown (word ∷ other ∷ words) (parts_of t) n h.parts) (λ e. cc) refl
 
-pub is_start : (start : List (List ℕ)) (t : Tree) → All IsNCName start → Shows RELAX_NG.now (start_markup start) t
+pub is_start : (start : List (List ℕ)) (t : Tree) → All IsNCName start → Shows relax_ng_namespace (start_markup start) t
     → IsStart t (start_pattern start)
 is_start start t n s =
     let h = shown (codes "start") [] (choice_of (map reference_to start) ∷ []) t s in
@@ -92,18 +90,18 @@ is_start start t n s =
     }
 
 -- an element
-element_shown : (default ident : List ℕ) (c : Content) (t : Tree) → IsNCName ident → Shows RELAX_NG.now (element_markup ident TEI.now (content_markup c)) t
-    → IsElementOf default t (body.Element (class.One (record { ns = TEI.now; local = ident })) (attributes.Listed []) (content_pattern c))
+element_shown : (default ident : List ℕ) (c : Content) (t : Tree) → IsNCName ident → Shows relax_ng_namespace (element_markup ident tei_namespace (content_markup c)) t
+    → IsElementOf default t (body.Element (class.One (record { ns = tei_namespace; local = ident })) (attributes.Listed []) (content_pattern c))
 element_shown default ident c t n s =
-    let given_two : List Pair = (codes "name", ident) ∷ (codes "ns", TEI.now) ∷ [] in
+    let given_two : List Pair = (codes "name", ident) ∷ (codes "ns", tei_namespace) ∷ [] in
     let allowed : List (List ℕ) = codes "name" ∷ codes "ns" ∷ [] in
     let h = shown (codes "element") given_two (content_markup c ∷ []) t s in
     let one = one_part (content_markup c) (parts_of t) h.parts in
-    let ns : given t (codes "ns") ≡ Some TEI.now = value_in _ _ _ t (codes "ns") h in
+    let ns : given t (codes "ns") ≡ Some tei_namespace = value_in _ _ _ t (codes "ns") h in
     record {
       is_part = is_part _ _ _ allowed t h
-          (All-cons (Allows allowed) (codes "name", ident) ((codes "ns", TEI.now) ∷ []) ([], codes "ns" ∷ [], refl)
-          (All-cons (Allows allowed) (codes "ns", TEI.now) [] (codes "name" ∷ [], [], refl) (no_attribute allowed)));
+          (All-cons (Allows allowed) (codes "name", ident) ((codes "ns", tei_namespace) ∷ []) ([], codes "ns" ∷ [], refl)
+          (All-cons (Allows allowed) (codes "ns", tei_namespace) [] (codes "name" ∷ [], [], refl) (no_attribute allowed)));
       name = ident;
       named = record { is_given = value_in _ _ _ t (codes "name") h; is_ncname = n };
       content = content_pattern c;
@@ -112,9 +110,9 @@ element_shown default ident c t n s =
     }
 
 -- a define
-define_shown : (default : List ℕ) (e : Key × Component) (t : Tree) → IsElementEntry e → Shows RELAX_NG.now (component_define e) t → IsDefine default t (definition_of e)
+define_shown : (default : List ℕ) (e : Key × Component) (t : Tree) → IsElementEntry e → Shows relax_ng_namespace (component_define e) t → IsDefine default t (definition_of e)
 define_shown default (key, component.Element part) t n s =
-    let m = element_markup key.ident TEI.now (content_markup part.content) in
+    let m = element_markup key.ident tei_namespace (content_markup part.content) in
     let h = shown (codes "define") ((codes "name", define_name key.ident) ∷ []) (m ∷ []) t s in
     let one = one_part m (parts_of t) h.parts in
     record {

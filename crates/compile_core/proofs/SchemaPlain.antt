@@ -8,7 +8,6 @@ use Rattle.odd_reader.specs.Bare.{is_bare_name}
 use Rattle.odd_reader.specs.Characters.{IsNCName}
 use Rattle.odd_reader.specs.Markup.{Pair}
 use Rattle.odd_reader.specs.Names.{is_same, xml_namespace, xmlns_namespace}
-use Rattle.odd_reader.specs.declared.TheConstants.{TEI}
 use Rattle.odd_reader.proofs.BareSpelledDistinct.{none_twice}
 use Rattle.odd_reader.proofs.BareSpelledNames.{ascii_name, bare_ncname}
 use Rattle.odd_reader.proofs.PrintedSpelledLegal.{ascii_legal, ncname_legal}
@@ -18,12 +17,12 @@ use Rattle.odd_decls.specs.declared.content.Content.TheVariants as content
 use Rattle.odd_decls.specs.declared.library.Component.{Component}
 use Rattle.odd_decls.specs.declared.library.Component.TheVariants as component
 use Rattle.odd_decls.specs.declared.library.Library.{Library}
-use Rattle.compile_core.specs.Grammar.{all_of}
+use Rattle.compile_core.specs.Grammar.{all_of, relax_ng_namespace, datatype_library}
 use Rattle.compile_core.specs.Schema.{HoldsStart, IsFormed, choice_of, component_define, content_markup, define_name, reference_to}
-use Rattle.compile_core.specs.declared.schema.TheConstants.{RELAX_NG, DATATYPES}
 use Rattle.compile_core.proofs.SchemaLinked.{words_named}
 use Rattle.compile_core.proofs.SchemaNames.{IsElementEntry, define_ncname, entries_formed}
 use Rattle.compile_core.proofs.SchemaParts.{root_attributes, schema_parts}
+use Rattle.odd_decls.specs.Odd.{tei_namespace}
 
 literal_name : (name : List ℕ) → IsTrue (is_bare_name name) → IsNCName name
 literal_name name h = (name, ascii_name name h, bare_ncname name h)
@@ -46,21 +45,21 @@ one_tag tag a h p = record {
 name_attribute : (name : List ℕ) → IsNCName name → IsPlainAttribute (codes "name", name)
 name_attribute name n = literal_attribute (codes "name") name refl (λ e. cc) (ncname_legal name n)
 
-element_tag : (ident : List ℕ) → IsNCName ident → IsPlainTag (codes "element") ((codes "name", ident) ∷ (codes "ns", TEI.now) ∷ [])
+element_tag : (ident : List ℕ) → IsNCName ident → IsPlainTag (codes "element") ((codes "name", ident) ∷ (codes "ns", tei_namespace) ∷ [])
 element_tag ident n = record {
   named = literal_name (codes "element") refl;
-  attributed = All-cons IsPlainAttribute (codes "name", ident) ((codes "ns", TEI.now) ∷ []) (name_attribute ident n)
-      (All-cons IsPlainAttribute (codes "ns", TEI.now) [] (literal_attribute (codes "ns") TEI.now refl (λ e. cc) (ascii_legal TEI.now refl)) (All-nil IsPlainAttribute));
+  attributed = All-cons IsPlainAttribute (codes "name", ident) ((codes "ns", tei_namespace) ∷ []) (name_attribute ident n)
+      (All-cons IsPlainAttribute (codes "ns", tei_namespace) [] (literal_attribute (codes "ns") tei_namespace refl (λ e. cc) (ascii_legal tei_namespace refl)) (All-nil IsPlainAttribute));
   once = none_twice (codes "name" ∷ codes "ns" ∷ []) (((λ e. cc), tt), (tt, tt));
 }
 
 pub grammar_tag : IsPlainTag (codes "grammar") root_attributes
-grammar_tag = one_tag (codes "grammar") (codes "datatypeLibrary", DATATYPES.now) refl
-    (literal_attribute (codes "datatypeLibrary") DATATYPES.now refl (λ e. cc) (ascii_legal DATATYPES.now refl))
+grammar_tag = one_tag (codes "grammar") (codes "datatypeLibrary", datatype_library) refl
+    (literal_attribute (codes "datatypeLibrary") datatype_library refl (λ e. cc) (ascii_legal datatype_library refl))
 
-pub relax_ng_namespace : IsNamespace RELAX_NG.now
-relax_ng_namespace = record {
-  legal = ascii_legal RELAX_NG.now refl;
+pub relax_ng_bound : IsNamespace relax_ng_namespace
+relax_ng_bound = record {
+  legal = ascii_legal relax_ng_namespace refl;
   xml = λ e. false≢true (ap (λ ns. is_same ns xml_namespace) e);
   reserved = λ e. false≢true (ap (λ ns. is_same ns xmlns_namespace) e);
 }

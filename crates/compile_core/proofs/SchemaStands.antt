@@ -10,9 +10,8 @@ use Rattle.odd_decls.specs.declared.library.Library.{Library}
 use Rattle.odd_decls.specs.Odd.{StandsIn}
 use Rattle.compile_core.specs.Compiled.{definition_of, grammar_of}
 use Rattle.compile_core.specs.Denoting.{IsPart, StandsFor, given, parts_of}
-use Rattle.compile_core.specs.Grammar.{all_of, plain}
+use Rattle.compile_core.specs.Grammar.{all_of, plain, relax_ng_namespace, datatype_library}
 use Rattle.compile_core.specs.Schema.{HoldsStart, IsFormed, choice_of, component_define, reference_to}
-use Rattle.compile_core.specs.declared.schema.TheConstants.{RELAX_NG, DATATYPES}
 use Rattle.compile_core.proofs.SchemaLinked.{is_linked, words_named}
 use Rattle.compile_core.proofs.SchemaNames.{entries_formed, names_rise, rising_once}
 use Rattle.compile_core.proofs.SchemaParts.{are_defines, is_start, root_attributes, schema_parts}
@@ -22,14 +21,14 @@ is_grammar : (ms : List Markup) (t : Tree) → IsShown (codes "grammar") root_at
 is_grammar ms t h =
     let allowed : List (List ℕ) = codes "ns" ∷ codes "datatypeLibrary" ∷ [] in
     let P = λ (a : Pair). StandsIn allowed a.0 in
-    is_part _ _ _ allowed t h (All-cons P (codes "datatypeLibrary", DATATYPES.now) [] (codes "ns" ∷ [], [], refl) (All-nil P))
+    is_part _ _ _ allowed t h (All-cons P (codes "datatypeLibrary", datatype_library) [] (codes "ns" ∷ [], [], refl) (All-nil P))
 
 -- the parts of the tree are the start and the defines
 stands : (library : Library) (start : List (List ℕ)) (t : Tree) → IsFormed library → HoldsStart library start → IsShown (codes "grammar") root_attributes (schema_parts library start) t
     → (ts : List Tree) → parts_of t ≡ ts → AreShown (schema_parts library start) ts → StandsFor t (grammar_of library start)
 stands library start t f held h [] e s = absurd s
 stands library start t f held h (u ∷ us) e s =
-    let known : given t (codes "datatypeLibrary") ≡ Some DATATYPES.now = value_in _ _ _ t (codes "datatypeLibrary") h in
+    let known : given t (codes "datatypeLibrary") ≡ Some datatype_library = value_in _ _ _ t (codes "datatypeLibrary") h in
     record {
       is_part = is_grammar _ t h;
       datatypes = λ value v. same_Some _ _ (sym v ∙ known);
@@ -47,7 +46,7 @@ stands library start t f held h (u ∷ us) e s =
     }
 
 pub schema_stands : (library : Library) (start : List (List ℕ)) (t : Tree) → IsFormed library → HoldsStart library start
-    → Shows RELAX_NG.now (element (codes "grammar") ((codes "datatypeLibrary", DATATYPES.now) ∷ []) (all_of (plain (codes "start") (choice_of (map reference_to start) ∷ []) ∷ map component_define library.parts))) t
+    → Shows relax_ng_namespace (element (codes "grammar") ((codes "datatypeLibrary", datatype_library) ∷ []) (all_of (plain (codes "start") (choice_of (map reference_to start) ∷ []) ∷ map component_define library.parts))) t
     → StandsFor t (grammar_of library start)
 schema_stands library start t f held s =
     let h = shown (codes "grammar") root_attributes (schema_parts library start) t s in

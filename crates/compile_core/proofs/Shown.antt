@@ -15,18 +15,17 @@ use Rattle.odd_decls.specs.Odd.{StandsIn, attribute_value, elements_of, shown_el
 use Rattle.odd_decls.proofs.Elements.{element_shown, text_shown}
 use Rattle.compile_core.specs.Children.{is_blank, is_element}
 use Rattle.compile_core.specs.Denoting.{IsPart, given, parts_of}
-use Rattle.compile_core.specs.Grammar.{all_of}
-use Rattle.compile_core.specs.declared.schema.TheConstants.{RELAX_NG}
+use Rattle.compile_core.specs.Grammar.{all_of, relax_ng_namespace}
 
 -- the trees show the elements, one each in order
 abbrev pub AreShown : List Markup → List Tree → Type 0
 AreShown [] [] = Unit {0}
-AreShown (m ∷ ms) (t ∷ ts) = Shows RELAX_NG.now m t × AreShown ms ts
+AreShown (m ∷ ms) (t ∷ ts) = Shows relax_ng_namespace m t × AreShown ms ts
 AreShown ms ts = ⊥
 
 -- the elements of RELAX NG among some nodes
 abbrev parts_in : List Node → List Tree
-parts_in nodes = filter (λ u. is_same (out-Tree u).name.ns RELAX_NG.now) (elements_of nodes)
+parts_in nodes = filter (λ u. is_same (out-Tree u).name.ns relax_ng_namespace) (elements_of nodes)
 
 -- an element, or white space
 abbrev Passes : List Node → Type 0
@@ -39,14 +38,14 @@ shown_namespace ns (element name attributes (more m rest)) t s = ap (λ n. n.ns)
 shown_namespace ns (line name attributes text) t s = ap (λ n. n.ns) s.0.named
 
 -- so it counts, and the line break behind it does not
-parts_more : (t : Tree) (later : List Node) → (out-Tree t).name.ns ≡ RELAX_NG.now → parts_in (Element t ∷ line_break ∷ later) ≡ t ∷ parts_in later
+parts_more : (t : Tree) (later : List Node) → (out-Tree t).name.ns ≡ relax_ng_namespace → parts_in (Element t ∷ line_break ∷ later) ≡ t ∷ parts_in later
 parts_more t later e =
-    ap (λ ts. filter (λ u. is_same (out-Tree u).name.ns RELAX_NG.now) (ts ++ (shown_elements (out-Node line_break) ++ elements_of later))) (element_shown (Element t) t refl)
-    ∙ ap (λ ts. filter (λ u. is_same (out-Tree u).name.ns RELAX_NG.now) (t ∷ (ts ++ elements_of later))) (text_shown line_break (codes "\n") refl)
-    ∙ ap (λ ns. cond (is_same ns RELAX_NG.now) (t ∷ parts_in later) (parts_in later)) e
+    ap (λ ts. filter (λ u. is_same (out-Tree u).name.ns relax_ng_namespace) (ts ++ (shown_elements (out-Node line_break) ++ elements_of later))) (element_shown (Element t) t refl)
+    ∙ ap (λ ts. filter (λ u. is_same (out-Tree u).name.ns relax_ng_namespace) (t ∷ (ts ++ elements_of later))) (text_shown line_break (codes "\n") refl)
+    ∙ ap (λ ns. cond (is_same ns relax_ng_namespace) (t ∷ parts_in later) (parts_in later)) e
 
 parts_break : (later : List Node) → parts_in (line_break ∷ later) ≡ parts_in later
-parts_break later = ap (λ ts. filter (λ u. is_same (out-Tree u).name.ns RELAX_NG.now) (ts ++ elements_of later)) (text_shown line_break (codes "\n") refl)
+parts_break later = ap (λ ts. filter (λ u. is_same (out-Tree u).name.ns relax_ng_namespace) (ts ++ elements_of later)) (text_shown line_break (codes "\n") refl)
 
 element_passes : (t : Tree) → (is_element (Element t) || is_blank (Element t)) ≡ true
 element_passes t = search (rules, N.the_lemmas)
@@ -55,23 +54,23 @@ break_passes : (is_element line_break || is_blank line_break) ≡ true
 break_passes = search (rules, N.the_lemmas)
 
 -- the lines of some elements have the elements as their parts
-lines_shown : (ms : List Markup) (lines : List Node) → AreLines RELAX_NG.now (all_of ms) lines → AreShown ms (parts_in lines)
+lines_shown : (ms : List Markup) (lines : List Node) → AreLines relax_ng_namespace (all_of ms) lines → AreShown ms (parts_in lines)
 lines_shown [] lines e = subst (λ ns. AreShown [] (parts_in ns)) (sym e) tt
 lines_shown (m ∷ ms) lines (t, later, e, s, rest) =
-    subst (AreShown (m ∷ ms)) (sym (ap parts_in e ∙ parts_more t later (shown_namespace RELAX_NG.now m t s))) (s, lines_shown ms later rest)
+    subst (AreShown (m ∷ ms)) (sym (ap parts_in e ∙ parts_more t later (shown_namespace relax_ng_namespace m t s))) (s, lines_shown ms later rest)
 
-lines_pass : (ms : List Markup) (lines : List Node) → AreLines RELAX_NG.now (all_of ms) lines → Passes lines
+lines_pass : (ms : List Markup) (lines : List Node) → AreLines relax_ng_namespace (all_of ms) lines → Passes lines
 lines_pass [] lines e = subst Passes (sym e) refl
 lines_pass (m ∷ ms) lines (t, later, e, s, rest) =
     subst Passes (sym e) (and_from _ _ (element_passes t) (and_from _ _ break_passes (lines_pass ms later rest)))
 
 -- what a tree that shows an element has
 pub record IsShown (name : List ℕ) (attributes : List Pair) (ms : List Markup) (t : Tree) : Type 0 where
-  pub head : HasHead RELAX_NG.now name attributes t
+  pub head : HasHead relax_ng_namespace name attributes t
   pub parts : AreShown ms (parts_of t)
   pub blank : Passes (out-Tree t).children
 
-pub shown : (name : List ℕ) (attributes : List Pair) (ms : List Markup) (t : Tree) → Shows RELAX_NG.now (element name attributes (all_of ms)) t → IsShown name attributes ms t
+pub shown : (name : List ℕ) (attributes : List Pair) (ms : List Markup) (t : Tree) → Shows relax_ng_namespace (element name attributes (all_of ms)) t → IsShown name attributes ms t
 shown name attributes [] t s = record {
   head = s.0;
   parts = subst (λ ns. AreShown [] (parts_in ns)) (sym s.1) tt;
@@ -107,7 +106,7 @@ no_part (t ∷ ts) h = absurd h
 pub record IsOnePart (m : Markup) (ts : List Tree) : Type 0 where
   pub inside : Tree
   pub alone : ts ≡ inside ∷ []
-  pub shows : Shows RELAX_NG.now m inside
+  pub shows : Shows relax_ng_namespace m inside
 
 pub one_part : (m : Markup) (ts : List Tree) → AreShown (m ∷ []) ts → IsOnePart m ts
 one_part m [] h = absurd h

@@ -11,7 +11,7 @@ use Rattle.odd_reader.specs.Tokens.{NoneTwice}
 use Rattle.odd_reader.specs.declared.tree.Tree.{Tree, out-Tree}
 use Rattle.odd_decls.specs.Odd.{StandsIn, attribute_value, elements_of}
 use Rattle.compile_core.specs.Children.{is_blank, is_element}
-use Rattle.compile_core.specs.declared.schema.TheConstants.{RELAX_NG, DATATYPES}
+use Rattle.compile_core.specs.Grammar.{relax_ng_namespace, datatype_library}
 use Rattle.compile_core.specs.declared.grammar.AttrPart.TheVariants as attributes
 use Rattle.compile_core.specs.declared.grammar.Body.{Body}
 use Rattle.compile_core.specs.declared.grammar.Body.TheVariants as body
@@ -23,11 +23,11 @@ use Rattle.compile_core.specs.declared.grammar.NameClass.TheVariants as class
 
 -- a name in the namespace of RELAX NG
 abbrev pub relax_ng : List ℕ → Name
-relax_ng local = record { ns = RELAX_NG.now; local = local }
+relax_ng local = record { ns = relax_ng_namespace; local = local }
 
 -- the elements of RELAX NG in an element; those of other namespaces are passed over
 abbrev pub parts_of : Tree → List Tree
-parts_of t = filter (λ u. is_same (out-Tree u).name.ns RELAX_NG.now) (elements_of (out-Tree t).children)
+parts_of t = filter (λ u. is_same (out-Tree u).name.ns relax_ng_namespace) (elements_of (out-Tree t).children)
 
 abbrev pub given : Tree → List ℕ → Option (List ℕ)
 given t local = attribute_value (out-Tree t).attrs local
@@ -109,7 +109,7 @@ pub record IsLinked (g : Grammar) : Type 0 where
 -- The tree of a schema stands for the grammar. A `grammar` holds one `start`, and defines in any order, no two of one name. The grammar has them in order of name.
 pub record StandsFor (t : Tree) (g : Grammar) : Type 0 where
   pub is_part : IsPart (codes "grammar") (codes "ns" ∷ codes "datatypeLibrary" ∷ []) t
-  pub datatypes : (value : List ℕ) → given t (codes "datatypeLibrary") ≡ Some value → value ≡ DATATYPES.now
+  pub datatypes : (value : List ℕ) → given t (codes "datatypeLibrary") ≡ Some value → value ≡ datatype_library
   pub start : Tree
   pub before : List Tree
   pub after : List Tree

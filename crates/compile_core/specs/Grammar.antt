@@ -1,7 +1,6 @@
 -- The text of a grammar as a RELAX NG schema in XML syntax.
 use Rattle.std.specs.Prelude.{ℕ, List, [], ◌∷◌, map, codes}
 use Rattle.odd_reader.specs.Markup.{Markup, Markups, element, none, more, file_printed}
-use Rattle.compile_core.specs.declared.schema.TheConstants.{RELAX_NG, DATATYPES}
 use Rattle.compile_core.specs.declared.grammar.Expr.{Expr, Expr-F, fold-Expr}
 use Rattle.compile_core.specs.declared.grammar.Expr.TheOpen.{Empty, NotAllowed, Text, Ref, Choice}
 use Rattle.compile_core.specs.declared.grammar.NameClass.TheVariants as class
@@ -9,6 +8,13 @@ use Rattle.compile_core.specs.declared.grammar.Body.{Body}
 use Rattle.compile_core.specs.declared.grammar.Body.TheVariants as body
 use Rattle.compile_core.specs.declared.grammar.Define.{Define}
 use Rattle.compile_core.specs.declared.grammar.Grammar.{Grammar}
+
+-- the namespace of RELAX NG, and the datatype library of XML Schema
+abbrev pub relax_ng_namespace : List ℕ
+relax_ng_namespace = codes "http://relaxng.org/ns/structure/1.0"
+
+abbrev pub datatype_library : List ℕ
+datatype_library = codes "http://www.w3.org/2001/XMLSchema-datatypes"
 
 abbrev pub all_of : List Markup → Markups
 all_of [] = none
@@ -45,7 +51,7 @@ define_markup d = named (codes "define") d.name (body_markup d.body ∷ [])
 -- a grammar with a start and defines
 abbrev pub grammar_markup : Markup → List Markup → Markup
 grammar_markup start defines =
-    element (codes "grammar") ((codes "xmlns", RELAX_NG.now) ∷ (codes "datatypeLibrary", DATATYPES.now) ∷ []) (all_of (plain (codes "start") (start ∷ []) ∷ defines))
+    element (codes "grammar") ((codes "xmlns", relax_ng_namespace) ∷ (codes "datatypeLibrary", datatype_library) ∷ []) (all_of (plain (codes "start") (start ∷ []) ∷ defines))
 
 abbrev pub grammar_text : Grammar → List ℕ
 grammar_text g = file_printed (grammar_markup (pattern_markup g.start) (map define_markup g.defines))

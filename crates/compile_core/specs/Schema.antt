@@ -8,7 +8,6 @@ use Rattle.odd_base.specs.declared.key.Key.{Key}
 use Rattle.odd_base.specs.declared.key.Kind.TheVariants as kind
 use Rattle.odd_base.specs.declared.offence.Offence.{Offence}
 use Rattle.odd_base.specs.declared.offence.Who.TheVariants as who
-use Rattle.odd_reader.specs.declared.TheConstants.{TEI}
 use Rattle.odd_reader.specs.Characters.{IsNCName}
 use Rattle.odd_reader.specs.Markup.{Markup, file_printed}
 use Rattle.odd_decls.specs.declared.content.Content.{Content}
@@ -16,7 +15,7 @@ use Rattle.odd_decls.specs.declared.content.Content.TheVariants as content
 use Rattle.odd_decls.specs.declared.library.Component.{Component}
 use Rattle.odd_decls.specs.declared.library.Component.TheVariants as component
 use Rattle.odd_decls.specs.declared.library.Library.{Library}
-use Rattle.odd_decls.specs.Odd.{StandsIn, element_key}
+use Rattle.odd_decls.specs.Odd.{StandsIn, element_key, tei_namespace}
 use Rattle.std.specs.declared.cmp.Ordering.TheVariants.{Less}
 use Rattle.compile_core.specs.Grammar.{plain, named, element_markup, grammar_markup}
 
@@ -39,7 +38,7 @@ content_markup content.Text = plain (codes "text") []
 
 -- the define of an element
 abbrev pub element_define : List ℕ → Content → Markup
-element_define ident content = named (codes "define") (define_name ident) (element_markup ident TEI.now (content_markup content) ∷ [])
+element_define ident content = named (codes "define") (define_name ident) (element_markup ident tei_namespace (content_markup content) ∷ [])
 
 -- the define of a component
 abbrev pub component_define : Key × Component → Markup

@@ -7,7 +7,6 @@ use Rattle.odd_reader.specs.declared.tree.Attr.{Attr}
 use Rattle.odd_reader.specs.declared.tree.Tree.{Tree, out-Tree}
 use Rattle.odd_reader.specs.declared.tree.Node.{Node, Node-F, out-Node}
 use Rattle.odd_reader.specs.declared.tree.Node.TheOpen.{Element, Text}
-use Rattle.odd_reader.specs.declared.TheConstants.{TEI}
 use Rattle.odd_reader.specs.Characters.{IsNCName}
 use Rattle.odd_reader.specs.Tokens.{NoneTwice}
 use Rattle.odd_reader.specs.Names.{is_same}
@@ -18,9 +17,13 @@ use Rattle.odd_decls.specs.declared.odd.Entry.{Entry}
 use Rattle.odd_decls.specs.declared.odd.OddDoc.{OddDoc}
 use Rattle.odd_decls.specs.declared.spec.Spec.{Spec}
 
--- the name of an element in TEI's namespace
+-- the namespace of the TEI Guidelines
+abbrev pub tei_namespace : List ℕ
+tei_namespace = codes "http://www.tei-c.org/ns/1.0"
+
+-- the name of an element in it
 abbrev pub tei : List ℕ → Name
-tei local = record { ns = TEI.now; local = local }
+tei local = record { ns = tei_namespace; local = local }
 
 -- the element that a child is, if it is one
 abbrev pub shown_elements : Node-F Node Tree → List Tree
