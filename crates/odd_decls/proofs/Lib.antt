@@ -1,6 +1,7 @@
 pub mod Attributes
 pub mod Declaring
 pub mod Elements
+pub mod Examples
 pub mod Giving
 pub mod Idents
 pub mod Items
