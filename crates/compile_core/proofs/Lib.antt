@@ -3,6 +3,7 @@ pub mod Choices
 pub mod ContentLaw
 pub mod Correct
 pub mod Joining
+pub mod Levels
 pub mod Missing
 pub mod OneGrammar
 pub mod Printing

@@ -6,11 +6,11 @@ use Rattle.odd_reader.specs.declared.tree.Tree.{Tree, Tree-F, fold-Tree}
 use Rattle.odd_reader.specs.declared.tree.Node.{Node, Node-F, out-Node}
 use Rattle.odd_reader.specs.declared.tree.Node.TheOpen.{Element, Text}
 
-abbrev node_depth : Node-F ℕ ℕ → ℕ
+abbrev pub node_depth : Node-F ℕ ℕ → ℕ
 node_depth (Element depth) = depth
 node_depth (Text text) = 0
 
-abbrev tree_depth : Tree-F ℕ ℕ → ℕ
+abbrev pub tree_depth : Tree-F ℕ ℕ → ℕ
 tree_depth t = suc (fold max 0 t.children)
 
 -- how many levels of elements the tree has, with its root
