@@ -2,6 +2,7 @@ pub mod AttributeLaw
 pub mod Choices
 pub mod ContentLaw
 pub mod Correct
+pub mod Examples
 pub mod Joining
 pub mod Levels
 pub mod Missing

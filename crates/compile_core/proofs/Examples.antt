@@ -1,0 +1,496 @@
+-- Small documents, libraries, grammars and schemas: what the definitions say of them, where they hold and where they don't.
+use Rattle.std.proofs.Common.{◌≡◌, ℕ, suc, Bool, true, false, not, ◌||◌, List, [], ◌∷◌, ◌++◌, filter, Some, None, inl, inr, refl, sym, ap, subst, ◌∙◌, codes, rules}
+use Rattle.std.specs.Prelude.{All, IsTrue}
+use Rattle.std.specs.List.{list_all, list_any}
+use Rattle.std.proofs.lemmas.Bool.{false≢true}
+use Rattle.std.proofs.lemmas.List.Elements.{All-nil, All-cons, All-head}
+use Rattle.std.proofs.lemmas.Option.{same_Some}
+use Rattle.odd_reader.specs.Bare.{is_bare_name}
+use Rattle.odd_reader.specs.Characters.{IsNCName}
+use Rattle.odd_reader.specs.Markup.{Markup}
+use Rattle.odd_reader.specs.Names.{is_same}
+use Rattle.odd_reader.specs.declared.tree.Attr.{Attr}
+use Rattle.odd_reader.specs.declared.tree.Node.{Node, Element, Text}
+use Rattle.odd_reader.specs.declared.tree.Node as N
+use Rattle.odd_reader.specs.declared.tree.Tree.{Tree, out-Tree, roll-Tree}
+use Rattle.odd_reader.specs.declared.tree.Tree as T
+use Rattle.odd_reader.proofs.BareSpelledDistinct.{none_twice}
+use Rattle.odd_reader.proofs.BareSpelledNames.{ascii_name, bare_ncname}
+use Rattle.odd_decls.specs.declared.content.Content.{Content}
+use Rattle.odd_decls.specs.declared.content.Content.TheVariants as content
+use Rattle.odd_decls.specs.declared.library.Component.{Component}
+use Rattle.odd_decls.specs.declared.library.Component.TheVariants as component
+use Rattle.odd_decls.specs.declared.library.Library.{Library}
+use Rattle.odd_decls.specs.Odd.{StandsIn, element_key, elements_of, tei}
+use Rattle.odd_decls.proofs.Elements.{element_shown}
+use Rattle.compile_core.specs.Acceptance.{Accepts, AreMatched, HasRule, IsAcceptedWithin, IsMatched, IsThere}
+use Rattle.compile_core.specs.Acceptance as acceptance
+use Rattle.compile_core.specs.Admission.{Admits, IsAdmitted, IsValid, IsValidBy, IsValidWithin}
+use Rattle.compile_core.specs.Admission as admission
+use Rattle.compile_core.specs.Children.{IsSignificant, Marking, beside_elements, blank, depth, is_blank, is_element, whole}
+use Rattle.compile_core.specs.Denoting.{IsElementOf, IsLinked, RefersTo, StandsFor, here, inside, relax_ng}
+use Rattle.compile_core.specs.Denoting as denoting
+use Rattle.compile_core.specs.Grammar.{plain}
+use Rattle.compile_core.specs.Schema.{choice_of}
+use Rattle.compile_core.specs.declared.grammar.AttrPart.TheVariants as attributes
+use Rattle.compile_core.specs.declared.grammar.AttrRule.{AttrRule}
+use Rattle.compile_core.specs.declared.grammar.Body.TheVariants as body
+use Rattle.compile_core.specs.declared.grammar.Define.{Define}
+use Rattle.compile_core.specs.declared.grammar.Expr.{Expr}
+use Rattle.compile_core.specs.declared.grammar.Expr.TheVariants as expr
+use Rattle.compile_core.specs.declared.grammar.Grammar.{Grammar}
+use Rattle.compile_core.specs.declared.grammar.NameClass.TheVariants as class
+use Rattle.compile_core.proofs.Standing.{none_stands, stands_in}
+
+-- nodes and trees
+
+abbrev words : Node
+words = Text (codes "some words")
+
+abbrev space : Node
+space = Text (codes " \n")
+
+abbrev attribute : List ℕ → List ℕ → Attr
+attribute local value = record { name = record { ns = []; local = local }; value = value }
+
+-- an element of TEI's
+abbrev element : List ℕ → List Attr → List Node → Tree
+element local attrs children = roll-Tree (record { name = tei local; attrs = attrs; binds = []; children = children; at = 0 })
+
+-- `<b/>`, and `<a> <b/></a>`
+abbrev leaf : Tree
+leaf = element (codes "b") [] []
+
+abbrev branch : Tree
+branch = element (codes "a") [] (space ∷ Element leaf ∷ [])
+
+words_no_element : is_element words ≡ false
+words_no_element = search (rules, N.the_lemmas)
+
+words_not_blank : is_blank words ≡ false
+words_not_blank = search (rules, N.the_lemmas)
+
+space_no_element : is_element space ≡ false
+space_no_element = search (rules, N.the_lemmas)
+
+space_blank : is_blank space ≡ true
+space_blank = search (rules, N.the_lemmas)
+
+leaf_element : is_element (Element leaf) ≡ true
+leaf_element = search (rules, N.the_lemmas)
+
+leaf_not_blank : is_blank (Element leaf) ≡ false
+leaf_not_blank = search (rules, N.the_lemmas)
+
+-- depth: an element alone is one level, a text is none, and a child is one more
+
+childless_depth : (local : List ℕ) (attrs : List Attr) → depth (element local attrs []) ≡ 1
+childless_depth local attrs = search (rules, T.the_lemmas, N.the_lemmas)
+
+words_depth : (local : List ℕ) (attrs : List Attr) → depth (element local attrs (words ∷ [])) ≡ 1
+words_depth local attrs = search (rules, T.the_lemmas, N.the_lemmas)
+
+space_depth : (local : List ℕ) (attrs : List Attr) → depth (element local attrs (space ∷ [])) ≡ 1
+space_depth local attrs = search (rules, T.the_lemmas, N.the_lemmas)
+
+branch_depth : depth branch ≡ 2
+branch_depth = search (rules, T.the_lemmas, N.the_lemmas)
+
+-- significant children
+
+-- no text among them is an element
+words_alone : list_any is_element (words ∷ []) ≡ false
+words_alone = ap (λ b. b || false) words_no_element
+
+space_alone : list_any is_element (space ∷ []) ≡ false
+space_alone = ap (λ b. b || false) space_no_element
+
+leaf_among : list_any is_element (space ∷ Element leaf ∷ []) ≡ true
+leaf_among = ap (λ b. b || (is_element (Element leaf) || false)) space_no_element ∙ ap (λ b. b || false) leaf_element
+
+-- beside an element white space is dropped
+space_dropped : filter (λ n. not (is_blank n)) (space ∷ Element leaf ∷ []) ≡ Element leaf ∷ []
+space_dropped = rw (space_blank, leaf_not_blank) refl
+
+-- no child is no significant child
+none_counts : IsSignificant [] []
+none_counts = whole refl
+
+-- white space alone counts, and it does not
+space_counts : IsSignificant (space ∷ []) (space ∷ [])
+space_counts = whole space_alone
+
+space_is_passed : IsSignificant (space ∷ []) []
+space_is_passed = blank space_blank
+
+-- beside an element it does not count
+leaf_counts : IsSignificant (space ∷ Element leaf ∷ []) (Element leaf ∷ [])
+leaf_counts = subst (IsSignificant (space ∷ Element leaf ∷ [])) space_dropped (beside_elements leaf_among)
+
+leaf_alone_counts : (all kept : List Node) → all ≡ space ∷ Element leaf ∷ [] → IsSignificant all kept → kept ≡ Element leaf ∷ []
+leaf_alone_counts all kept e (beside_elements h) = ap (filter (λ n. not (is_blank n))) e ∙ space_dropped
+leaf_alone_counts all kept e (blank b) = cc
+leaf_alone_counts all kept e (whole h) = absurd (false≢true (sym h ∙ ap (list_any is_element) e ∙ leaf_among))
+
+-- words always count
+words_count : (all kept : List Node) → all ≡ words ∷ [] → IsSignificant all kept → kept ≡ words ∷ []
+words_count all kept e (beside_elements h) = absurd (false≢true (sym words_alone ∙ ap (list_any is_element) (sym e) ∙ h))
+words_count all kept e (blank {child = child} b) = let same : child ≡ words = cc in absurd (false≢true (sym words_not_blank ∙ ap is_blank (sym same) ∙ b))
+words_count all kept e (whole h) = e
+
+-- validity
+
+-- a library that holds one element
+abbrev holding : List ℕ → Content → Library
+holding ident k = record { ident = codes "s"; start = ident ∷ []; parts = (element_key ident, component.Element (record { content = k })) ∷ [] }
+
+-- what an element `a` with these children needs to be valid for the held `a`
+valid : (k : Content) (children kept : List Node) (levels : ℕ) → depth (element (codes "a") [] children) ≡ suc levels → IsSignificant children kept
+    → IsAdmitted (IsValidWithin levels (holding (codes "a") k)) k kept → IsValid (holding (codes "a") k) (element (codes "a") [] children) (codes "a")
+valid k children kept levels e s m =
+    subst (λ n. IsValidWithin n (holding (codes "a") k) (element (codes "a") [] children) (codes "a")) (sym e)
+    (record { content = k; held = refl; named = refl; attributed = refl; children = kept; significant = s; admitted = m })
+
+-- and what it tells where it is
+opened : (library : Library) (t : Tree) (ident : List ℕ) (levels : ℕ) → depth t ≡ suc levels → IsValid library t ident → IsValidBy (IsValidWithin levels library) library t ident
+opened library t ident levels e v = subst (λ n. IsValidWithin n library t ident) e v
+
+-- the content of the held `a`
+abbrev content_in : Component → Content
+content_in (component.Element part) = part.content
+
+the_content : (k : Content) (t : Tree) (counts : Marking) (v : IsValidBy counts (holding (codes "a") k) t (codes "a")) → k ≡ v.content
+the_content k t counts v =
+    let e : Some (component.Element (record { content = k })) ≡ Some (component.Element (record { content = v.content })) = v.held in
+    ap content_in (same_Some _ _ e)
+
+-- empty content: no child and white space, no words, no element
+empty_without_children : IsValid (holding (codes "a") content.Empty) (element (codes "a") [] []) (codes "a")
+empty_without_children = valid content.Empty [] [] 0 (childless_depth (codes "a") []) none_counts admission.empty
+
+empty_with_space : IsValid (holding (codes "a") content.Empty) (element (codes "a") [] (space ∷ [])) (codes "a")
+empty_with_space = valid content.Empty (space ∷ []) [] 0 (space_depth (codes "a") []) space_is_passed admission.empty
+
+empty_admits_none : (counts : Marking) (k : Content) (kept : List Node) → k ≡ content.Empty → IsAdmitted counts k kept → kept ≡ []
+empty_admits_none counts k kept e admission.empty = refl
+empty_admits_none counts k kept e (admission.text h) = cc
+
+empty_with_words : IsValid (holding (codes "a") content.Empty) (element (codes "a") [] (words ∷ [])) (codes "a") → ⊥
+empty_with_words v =
+    let o = opened _ _ _ 0 (words_depth (codes "a") []) v in
+    let none = empty_admits_none _ o.content o.children (sym (the_content content.Empty _ _ o)) o.admitted in
+    let one = words_count _ o.children refl o.significant in
+    cc
+
+empty_with_element : IsValid (holding (codes "a") content.Empty) branch (codes "a") → ⊥
+empty_with_element v =
+    let o = opened _ _ _ 1 branch_depth v in
+    let none = empty_admits_none _ o.content o.children (sym (the_content content.Empty _ _ o)) o.admitted in
+    let one = leaf_alone_counts _ o.children refl o.significant in
+    cc
+
+-- texts: no child, white space and words, and no element
+text_without_children : IsValid (holding (codes "a") content.Text) (element (codes "a") [] []) (codes "a")
+text_without_children = valid content.Text [] [] 0 (childless_depth (codes "a") []) none_counts (admission.text refl)
+
+text_with_space : IsValid (holding (codes "a") content.Text) (element (codes "a") [] (space ∷ [])) (codes "a")
+text_with_space = valid content.Text (space ∷ []) (space ∷ []) 0 (space_depth (codes "a") []) space_counts (admission.text space_alone)
+
+text_with_words : IsValid (holding (codes "a") content.Text) (element (codes "a") [] (words ∷ [])) (codes "a")
+text_with_words = valid content.Text (words ∷ []) (words ∷ []) 0 (words_depth (codes "a") []) (whole words_alone) (admission.text words_alone)
+
+texts_admit_no_element : (counts : Marking) (k : Content) (kept : List Node) → kept ≡ Element leaf ∷ [] → IsAdmitted counts k kept → ⊥
+texts_admit_no_element counts k kept e admission.empty = cc
+texts_admit_no_element counts k kept e (admission.text h) = false≢true (sym h ∙ ap (list_any is_element) e ∙ ap (λ b. b || false) leaf_element)
+
+text_with_element : IsValid (holding (codes "a") content.Text) branch (codes "a") → ⊥
+text_with_element v =
+    let o = opened _ _ _ 1 branch_depth v in
+    texts_admit_no_element _ o.content o.children (leaf_alone_counts _ o.children refl o.significant) o.admitted
+
+-- for no content an attribute, another name, or another namespace
+with_attribute : (k : Content) → IsValid (holding (codes "a") k) (element (codes "a") (attribute (codes "n") [] ∷ []) []) (codes "a") → ⊥
+with_attribute k v = let e : attribute (codes "n") [] ∷ [] ≡ [] = (opened _ _ _ 0 (childless_depth (codes "a") (attribute (codes "n") [] ∷ [])) v).attributed in cc
+
+with_another_name : (k : Content) → IsValid (holding (codes "a") k) leaf (codes "a") → ⊥
+with_another_name k v = let e : codes "b" ≡ codes "a" = ap (λ n. n.local) (opened _ _ _ 0 (childless_depth (codes "b") []) v).named in false≢true (ap (λ name. is_same name (codes "a")) e)
+
+abbrev elsewhere : Tree
+elsewhere = roll-Tree (record { name = record { ns = codes "urn:x"; local = codes "a" }; attrs = []; binds = []; children = []; at = 0 })
+
+elsewhere_depth : depth elsewhere ≡ 1
+elsewhere_depth = search (rules, T.the_lemmas, N.the_lemmas)
+
+in_another_namespace : (k : Content) → IsValid (holding (codes "a") k) elsewhere (codes "a") → ⊥
+in_another_namespace k v = let e : codes "urn:x" ≡ (tei (codes "a")).ns = ap (λ n. n.ns) (opened _ _ _ 0 elsewhere_depth v).named in cc
+
+-- and nothing is valid for an element that is not held
+for_one_not_held : (k : Content) → IsValid (holding (codes "a") k) leaf (codes "b") → ⊥
+for_one_not_held k v = let o = opened _ _ _ 0 (childless_depth (codes "b") []) v in let e : None ≡ Some (component.Element (record { content = o.content })) = o.held in cc
+
+-- one of the start words is enough, and of none nothing is admitted
+second_word : Admits (holding (codes "a") content.Text) (codes "b" ∷ codes "a" ∷ []) (element (codes "a") [] (words ∷ []))
+second_word = record { word = codes "a"; among = (codes "b" ∷ [], [], refl); valid = text_with_words }
+
+no_word : (library : Library) (t : Tree) → Admits library [] t → ⊥
+no_word library t a = none_stands a.word a.among
+
+-- acceptance
+
+abbrev define : List ℕ → List ℕ → Expr → Define
+define name local k = record { name = name; body = body.Element (class.One (tei local)) (attributes.Listed []) k }
+
+-- an `a` that holds one `b`
+abbrev nested : Grammar
+nested = record { start = expr.Ref (codes "x"); defines = define (codes "x") (codes "a") (expr.Ref (codes "y")) ∷ define (codes "y") (codes "b") expr.Empty ∷ [] }
+
+no_attributes : AreMatched [] []
+no_attributes = record { ruled = All-nil _; complete = All-nil _ }
+
+leaf_accepted : IsAcceptedWithin 1 nested leaf (codes "y")
+leaf_accepted = record {
+  names = class.One (tei (codes "b"));
+  rules = [];
+  content = expr.Empty;
+  defined = (define (codes "x") (codes "a") (expr.Ref (codes "y")) ∷ [], [], refl);
+  named = refl;
+  attributed = no_attributes;
+  children = [];
+  significant = none_counts;
+  matched = acceptance.empty;
+}
+
+branch_accepted : Accepts nested branch
+branch_accepted = acceptance.reference refl (subst (λ n. IsAcceptedWithin n nested branch (codes "x")) (sym branch_depth) (record {
+  names = class.One (tei (codes "a"));
+  rules = [];
+  content = expr.Ref (codes "y");
+  defined = ([], define (codes "y") (codes "b") expr.Empty ∷ [], refl);
+  named = refl;
+  attributed = no_attributes;
+  children = Element leaf ∷ [];
+  significant = leaf_counts;
+  matched = acceptance.reference refl leaf_accepted;
+}))
+
+-- a reference matches one element and nothing else
+matched_one : (counts : Marking) (p : Expr) (name : List ℕ) (children : List Node) → p ≡ expr.Ref name → IsMatched counts p children → (t : Tree) × (children ≡ Element t ∷ []) × counts t name
+matched_one counts p name children e acceptance.empty = cc
+matched_one counts p name children e (acceptance.text h) = cc
+matched_one counts p name children e (acceptance.reference {name = other} {t = t} h m) = let same : other ≡ name = cc in (t, h, subst (counts t) same m)
+matched_one counts p name children e (acceptance.choice f s m) = cc
+
+-- `notAllowed` matches nothing
+nothing_matched : (counts : Marking) (p : Expr) (children : List Node) → p ≡ expr.NotAllowed → IsMatched counts p children → ⊥
+nothing_matched counts p children e acceptance.empty = cc
+nothing_matched counts p children e (acceptance.text h) = cc
+nothing_matched counts p children e (acceptance.reference h m) = cc
+nothing_matched counts p children e (acceptance.choice f s m) = cc
+
+-- a choice of nothing and texts matches words
+words_chosen : (counts : Marking) → IsMatched counts (expr.Choice (expr.NotAllowed ∷ expr.Text ∷ [])) (words ∷ [])
+words_chosen counts = acceptance.choice refl (expr.NotAllowed ∷ [], [], refl) (acceptance.text words_alone)
+
+-- attributes: one that is needed is there, and each has a rule
+abbrev WhereNeeded : List Attr → AttrRule → Type 0
+WhereNeeded attrs r = IsTrue r.needed → IsThere attrs r
+
+abbrev an_attribute : Attr
+an_attribute = attribute (codes "n") (codes "v")
+
+abbrev rule : Bool → AttrRule
+rule needed = record { name = record { ns = []; local = codes "n" }; needed = needed; value = expr.Text }
+
+needed_there : AreMatched (rule true ∷ []) (an_attribute ∷ [])
+needed_there = record {
+  ruled = All-cons (HasRule (rule true ∷ [])) an_attribute [] (rule true, ([], [], refl), refl, refl) (All-nil (HasRule (rule true ∷ [])));
+  complete = All-cons (WhereNeeded (an_attribute ∷ [])) (rule true) [] (λ h. (an_attribute, ([], [], refl), refl)) (All-nil (WhereNeeded (an_attribute ∷ [])));
+}
+
+needed_lacking : AreMatched (rule true ∷ []) [] → ⊥
+needed_lacking m = let h = All-head (WhereNeeded []) (rule true) [] m.complete refl in none_stands h.0 h.1
+
+unneeded_lacking : AreMatched (rule false ∷ []) []
+unneeded_lacking = record { ruled = All-nil _; complete = All-cons (WhereNeeded []) (rule false) [] (λ h. absurd (false≢true h)) (All-nil (WhereNeeded [])) }
+
+no_rule : AreMatched [] (an_attribute ∷ []) → ⊥
+no_rule m = let h = All-head (HasRule []) an_attribute [] m.ruled in none_stands h.0 h.1
+
+-- the patterns of a start
+
+no_choice : choice_of [] ≡ plain (codes "notAllowed") []
+no_choice = refl
+
+one_choice : (m : Markup) → choice_of (m ∷ []) ≡ m
+one_choice m = refl
+
+two_choices : (m n : Markup) → choice_of (m ∷ n ∷ []) ≡ plain (codes "choice") (m ∷ n ∷ [])
+two_choices m n = refl
+
+-- schemas
+
+is_name : (name : List ℕ) → is_bare_name name ≡ true → IsNCName name
+is_name name h = (name, ascii_name name h, bare_ncname name h)
+
+-- an element of RELAX NG
+abbrev rng : List ℕ → List Attr → List Node → Tree
+rng local attrs children = roll-Tree (record { name = relax_ng local; attrs = attrs; binds = []; children = children; at = 0 })
+
+abbrev named_e : List Attr
+named_e = attribute (codes "name") (codes "e") ∷ []
+
+-- `<start><ref name="e"/></start><define name="e"><element name="a"><empty/></element></define>` in a `grammar` with a namespace
+abbrev ref_e : Tree
+ref_e = rng (codes "ref") named_e []
+
+abbrev start_e : Tree
+start_e = rng (codes "start") [] (Element ref_e ∷ [])
+
+abbrev empty_part : Tree
+empty_part = rng (codes "empty") [] []
+
+abbrev element_a : Tree
+element_a = rng (codes "element") (attribute (codes "name") (codes "a") ∷ []) (Element empty_part ∷ [])
+
+abbrev define_e : Tree
+define_e = rng (codes "define") named_e (Element element_a ∷ [])
+
+abbrev grammar_of : List Attr → List Node → Tree
+grammar_of attrs children = rng (codes "grammar") attrs children
+
+abbrev schema : Tree
+schema = grammar_of (attribute (codes "ns") (codes "urn:x") ∷ []) (Element define_e ∷ Element start_e ∷ [])
+
+-- what it stands for: the define stands before the start, and its element is in the grammar's namespace
+abbrev the_grammar : Grammar
+the_grammar = record {
+  start = expr.Ref (codes "e");
+  defines = record { name = codes "e"; body = body.Element (class.One (record { ns = codes "urn:x"; local = codes "a" })) (attributes.Listed []) expr.Empty } ∷ [];
+}
+
+abbrev of_relax_ng : Tree → Bool
+of_relax_ng t = is_same (out-Tree t).name.ns (relax_ng []).ns
+
+part_alone : (t : Tree) → of_relax_ng t ≡ true → filter of_relax_ng (elements_of (Element t ∷ [])) ≡ t ∷ []
+part_alone t h = rw (element_shown (Element t) t refl, h) refl
+
+two_parts : (t u : Tree) → of_relax_ng t ≡ true → of_relax_ng u ≡ true → filter of_relax_ng (elements_of (Element t ∷ Element u ∷ [])) ≡ t ∷ u ∷ []
+two_parts t u h k = rw (element_shown (Element t) t refl, element_shown (Element u) u refl, h, k) refl
+
+element_passes : (t : Tree) → (is_element (Element t) || is_blank (Element t)) ≡ true
+element_passes t = search (rules, N.the_lemmas)
+
+one_passes : (t : Tree) → list_all (λ n. is_element n || is_blank n) (Element t ∷ []) ≡ true
+one_passes t = rw (element_passes t) refl
+
+two_pass : (t u : Tree) → list_all (λ n. is_element n || is_blank n) (Element t ∷ Element u ∷ []) ≡ true
+two_pass t u = rw (element_passes t, element_passes u) refl
+
+-- attributes that are allowed
+abbrev IsAllowed : List (List ℕ) → Attr → Type 0
+IsAllowed allowed a = a.name.ns ≡ [] → StandsIn allowed a.name.local
+
+none_given : (allowed : List (List ℕ)) → All (IsAllowed allowed) []
+none_given allowed = All-nil (IsAllowed allowed)
+
+one_given : (allowed : List (List ℕ)) (local value : List ℕ) → StandsIn allowed local → All (IsAllowed allowed) (attribute local value ∷ [])
+one_given allowed local value s = All-cons (IsAllowed allowed) (attribute local value) [] (λ e. s) (All-nil (IsAllowed allowed))
+
+element_stands : IsElementOf (codes "urn:x") element_a (body.Element (class.One (record { ns = codes "urn:x"; local = codes "a" })) (attributes.Listed []) expr.Empty)
+element_stands = record {
+  is_part = record { named = refl; attributed = one_given _ (codes "name") (codes "a") ([], codes "ns" ∷ [], refl); blank = one_passes empty_part };
+  name = codes "a";
+  named = record { is_given = refl; is_ncname = is_name (codes "a") refl };
+  content = expr.Empty;
+  holds = record {
+    inside = empty_part;
+    alone = part_alone empty_part refl;
+    is_pattern = denoting.empty (record { named = refl; attributed = none_given []; blank = refl }) refl;
+  };
+  body_is = refl;
+}
+
+-- the only name that it refers to is defined
+linked : IsLinked the_grammar
+linked = record { start = λ name r. only_e name (expr.Ref (codes "e")) refl r; contents = λ name d s r. absurd (none name d s r) }
+  where
+    only_e : (name : List ℕ) (p : Expr) → p ≡ expr.Ref (codes "e") → RefersTo name p → StandsIn (codes "e" ∷ []) name
+    only_e name p e here = ([], [], cc)
+    only_e name p e (inside f s r) = cc
+
+    no_name : (name : List ℕ) (p : Expr) → p ≡ expr.Empty → RefersTo name p → ⊥
+    no_name name p e here = cc
+    no_name name p e (inside f s r) = cc
+
+    none : (name : List ℕ) (d : Define) → StandsIn the_grammar.defines d → RefersTo name (denoting.content_of d.body) → ⊥
+    none name d s r = elim (stands_in _ d [] s) [
+      | inl e ↦ no_name name (denoting.content_of d.body) (ap (λ (x : Define). denoting.content_of x.body) e) r
+      | inr later ↦ none_stands d later
+    ]
+
+schema_stands : StandsFor schema the_grammar
+schema_stands = record {
+  is_part = record { named = refl; attributed = one_given _ (codes "ns") (codes "urn:x") ([], codes "datatypeLibrary" ∷ [], refl); blank = two_pass define_e start_e };
+  datatypes = λ value e. absurd (no_datatypes value e);
+  start = start_e;
+  before = define_e ∷ [];
+  after = [];
+  parts = two_parts define_e start_e refl refl;
+  is_start = record {
+    is_part = record { named = refl; attributed = none_given []; blank = one_passes ref_e };
+    holds = record {
+      inside = ref_e;
+      alone = part_alone ref_e refl;
+      is_pattern = denoting.reference (record { named = refl; attributed = one_given _ (codes "name") (codes "e") ([], [], refl); blank = refl }) refl
+          (record { is_given = refl; is_ncname = is_name (codes "e") refl });
+    };
+  };
+  defines = the_grammar.defines;
+  are_defines = denoting.more (record {
+    is_part = record { named = refl; attributed = one_given _ (codes "name") (codes "e") ([], [], refl); blank = one_passes element_a };
+    named = record { is_given = refl; is_ncname = is_name (codes "e") refl };
+    inside = element_a;
+    alone = part_alone element_a refl;
+    is_element = element_stands;
+  }) denoting.none;
+  once = none_twice (codes "e" ∷ []) (tt, tt);
+  rising = refl;
+  same = λ name. refl;
+  linked = linked;
+}
+  where
+    no_datatypes : (value : List ℕ) → denoting.given schema (codes "datatypeLibrary") ≡ Some value → ⊥
+    no_datatypes value e = let n : None ≡ Some value = e in cc
+
+-- a `grammar` without `start` stands for nothing
+without_start : (g : Grammar) → StandsFor (grammar_of [] []) g → ⊥
+without_start g s = no_split s.before s.parts
+  where
+    no_split : (before : List Tree) → [] ≡ before ++ s.start ∷ s.after → ⊥
+    no_split [] e = cc
+    no_split (t ∷ ts) e = cc
+
+-- nor does one with an attribute that is not known
+with_combine : (g : Grammar) → StandsFor (grammar_of (attribute (codes "combine") (codes "choice") ∷ []) (Element define_e ∷ Element start_e ∷ [])) g → ⊥
+with_combine g s = apart (All-head (IsAllowed (codes "ns" ∷ codes "datatypeLibrary" ∷ [])) (attribute (codes "combine") (codes "choice")) [] s.is_part.attributed refl)
+  where
+    apart : StandsIn (codes "ns" ∷ codes "datatypeLibrary" ∷ []) (codes "combine") → ⊥
+    apart t = elim (stands_in (codes "ns") (codes "combine") _ t) [
+      | inl e ↦ cc
+      | inr later ↦ elim (stands_in (codes "datatypeLibrary") (codes "combine") [] later) [
+        | inl e ↦ cc
+        | inr last ↦ none_stands (codes "combine") last
+      ]
+    ]
+
+-- nor one with two
+no_define : (t : Tree) (d : Define) → t ≡ start_e → denoting.IsDefine [] t d → ⊥
+no_define t d e h = let n : codes "start" ≡ codes "define" = ap (λ m. m.local) (sym (ap (λ (x : Tree). (out-Tree x).name) e) ∙ h.is_part.named) in cc
+
+with_two_starts : (g : Grammar) → StandsFor (grammar_of [] (Element start_e ∷ Element start_e ∷ [])) g → ⊥
+with_two_starts g s = splits s.before s.after s.defines (sym (two_parts start_e start_e refl refl) ∙ s.parts) s.are_defines
+  where
+    splits : (before after : List Tree) (ds : List Define) → start_e ∷ start_e ∷ [] ≡ before ++ s.start ∷ after → denoting.AreDefines [] (before ++ after) ds → ⊥
+    splits [] [] ds e h = cc
+    splits [] (t ∷ after) ds e (denoting.more h hs) = no_define t _ (cc) h
+    splits (t ∷ before) after ds e (denoting.more h hs) = no_define t _ (cc) h
