@@ -7,7 +7,7 @@ use Rattle.odd_base.specs.declared.key.Key.{Key}
 use Rattle.odd_reader.specs.Bare.{is_bare_name}
 use Rattle.odd_reader.specs.Characters.{IsNCName}
 use Rattle.odd_reader.specs.Markup.{Pair}
-use Rattle.odd_reader.specs.Names.{is_same, xml_namespace, xmlns_namespace}
+use Rattle.odd_reader.specs.Names.{is_same, xml_namespace, xmlns_namespace, tei_namespace}
 use Rattle.odd_reader.proofs.BareSpelledDistinct.{none_twice}
 use Rattle.odd_reader.proofs.BareSpelledNames.{ascii_name, bare_ncname}
 use Rattle.odd_reader.proofs.PrintedSpelledLegal.{ascii_legal, ncname_legal}
@@ -22,7 +22,6 @@ use Rattle.compile_core.specs.Schema.{HoldsStart, IsFormed, choice_of, component
 use Rattle.compile_core.proofs.SchemaLinked.{words_named}
 use Rattle.compile_core.proofs.SchemaNames.{IsElementEntry, define_ncname, entries_formed}
 use Rattle.compile_core.proofs.SchemaParts.{root_attributes, schema_parts}
-use Rattle.odd_decls.specs.Odd.{tei_namespace}
 
 literal_name : (name : List ℕ) → IsTrue (is_bare_name name) → IsNCName name
 literal_name name h = (name, ascii_name name h, bare_ncname name h)

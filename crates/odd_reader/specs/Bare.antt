@@ -2,6 +2,7 @@
 use Rattle.std.specs.Prelude.{◌≡◌, ◌≢◌, ℕ, suc, Bool, true, false, ◌&&◌, ◌||◌, ◌==◌, not, List, [], ◌∷◌, ◌++◌, map, IsTrue, All, codes}
 use Rattle.std.specs.List.{list_all}
 use Rattle.odd_reader.specs.Characters.{is_within}
+use Rattle.odd_reader.specs.Names.{tei_namespace}
 use Rattle.odd_reader.specs.Tokens.{NoneTwice}
 use Rattle.odd_reader.specs.Spelled.{deepest}
 
@@ -29,10 +30,6 @@ bare_attributes_written (a ∷ rest) = codes " " ++ a.0 ++ codes "=\"" ++ a.1 ++
 
 abbrev pub IsBareAttribute : Written → Type 0
 IsBareAttribute a = IsTrue (is_bare_name a.0) × IsTrue (is_bare_value a.1)
-
--- the namespace of the TEI Guidelines
-abbrev pub tei_namespace : List ℕ
-tei_namespace = codes "http://www.tei-c.org/ns/1.0"
 
 abbrev DeclaresTei : List Written → Type 0
 DeclaresTei attributes = (before after : List Written) × (attributes ≡ before ++ (codes "xmlns", tei_namespace) ∷ after)

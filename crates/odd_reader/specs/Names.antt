@@ -9,6 +9,10 @@ use Rattle.odd_reader.specs.declared.tree.Attr.{Attr}
 use Rattle.odd_reader.specs.Characters.{is_space}
 use Rattle.odd_reader.specs.Tokens.{QName, Piece, itself, reference, Attribute, Tag, character_of, NoneTwice}
 
+-- the namespace of the TEI Guidelines
+abbrev pub tei_namespace : List ℕ
+tei_namespace = codes "http://www.tei-c.org/ns/1.0"
+
 abbrev pub xml_namespace : List ℕ
 xml_namespace = codes "http://www.w3.org/XML/1998/namespace"
 
