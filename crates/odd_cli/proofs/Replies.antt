@@ -21,9 +21,8 @@ use Rattle.compile_core.specs.Schema.{schema_text, HoldsStart, IsLeastMissing}
 use Rattle.odd_cli.specs.declared.status.Status.{Status}
 use Rattle.odd_cli.specs.declared.status.Status.TheVariants as status
 use Rattle.odd_cli.specs.declared.words.Job.{Job}
-use Rattle.odd_cli.specs.declared.running.TheConstants.{FILE_BYTES}
 use Rattle.odd_cli.specs.Words.{WordsMean, Compiles, compile}
-use Rattle.odd_cli.specs.Reply.{start_offence, Reply, Reads, Gives, GivesNone, no_job, no_file, too_long, not_yet, refused, done}
+use Rattle.odd_cli.specs.Reply.{file_bytes, start_offence, Reply, Reads, Gives, GivesNone, no_job, no_file, too_long, not_yet, refused, done}
 use Rattle.odd_cli.specs.Running.{IsReplied, IsSilent, IsReadPlace, IsComplete, IsSchemaOf, IsRefusalOf, Compiling, compiled_text}
 
 one_file : (words : List (List ℕ)) (f g : List ℕ) → Compiles words f → Compiles words g → f ≡ g
@@ -83,10 +82,10 @@ held_once words files f g b c p q h k = same_Some b c (sym h ∙ ap (λ x. map.g
 held_absent : (words : List (List ℕ)) (files : FileMap) (f g b : List ℕ) → Compiles words f → Compiles words g → Held files f b → NotHeld files g → ⊥
 held_absent words files f g b p q h k = let no : Some b ≡ None = sym h ∙ ap (λ x. map.get files x) (one_file words f g p q) ∙ k in cc
 
-too_long_but : (words : List (List ℕ)) (files : FileMap) (f b c : List ℕ) → Compiles words f → Held files f b → FILE_BYTES < length b → Reads words files c → ⊥
+too_long_but : (words : List (List ℕ)) (files : FileMap) (f b c : List ℕ) → Compiles words f → Held files f b → file_bytes < length b → Reads words files c → ⊥
 too_long_but words files f b c p h l r =
     let same : b ≡ c = held_once words files f r.file b c p r.compiles h r.held in
-    let short = subst (λ x. length x ≤ FILE_BYTES) (sym same) r.within in
+    let short = subst (λ x. length x ≤ file_bytes) (sym same) r.within in
     omega (arith, l, short)
 
 gives_but : (words : List (List ℕ)) (files : FileMap) (b c : List ℕ) (l : Library) → Reads words files b → Reads words files c → GivesNone b → Gives c l → ⊥

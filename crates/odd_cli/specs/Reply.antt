@@ -11,19 +11,22 @@ use Rattle.odd_decls.specs.declared.library.Library.{Library}
 use Rattle.odd_decls.specs.Odd.{Declares}
 use Rattle.odd_decls.specs.Library.{IsLibraryOf}
 use Rattle.compile_core.specs.Schema.{schema_text, HoldsStart, IsLeastMissing}
-use Rattle.odd_cli.specs.declared.running.TheConstants.{FILE_BYTES}
 use Rattle.odd_cli.specs.declared.status.Status.{Status}
 use Rattle.odd_cli.specs.declared.status.Status.TheVariants as status
 use Rattle.odd_cli.specs.declared.status.LimitKind.TheVariants as limit
 use Rattle.odd_cli.specs.declared.words.Job.{Job}
 use Rattle.odd_cli.specs.Words.{WordsMean, Compiles}
 
+-- how many bytes a file may have
+abbrev pub file_bytes : ℕ
+file_bytes = 16777216
+
 -- the words name a file that is held with these bytes, within the limit
 pub record Reads (words : List (List ℕ)) (files : FileMap) (bytes : List ℕ) : Type 0 where
   pub file : List ℕ
   pub compiles : Compiles words file
   pub held : Held files file bytes
-  pub within : length bytes ≤ FILE_BYTES
+  pub within : length bytes ≤ file_bytes
 
 -- the file is bare, and the library is what its tree declares
 pub record Gives (bytes : List ℕ) (library : Library) : Type 0 where
@@ -43,7 +46,7 @@ start_offence word = record { file = 1; who = who.Start word; rule = 20 }
 pub data Reply (words : List (List ℕ)) (files : FileMap) : List ℕ → Status → Type 0 where
   no_job : ((job : Job) → WordsMean words job → ⊥) → Reply words files [] status.Usage
   no_file : (file : List ℕ) → Compiles words file → NotHeld files file → Reply words files [] (status.ReadFault 1)
-  too_long : (file bytes : List ℕ) → Compiles words file → Held files file bytes → FILE_BYTES < length bytes → Reply words files [] (status.Limit (limit.Bytes 1))
+  too_long : (file bytes : List ℕ) → Compiles words file → Held files file bytes → file_bytes < length bytes → Reply words files [] (status.Limit (limit.Bytes 1))
   not_yet : (bytes : List ℕ) → Reads words files bytes → GivesNone bytes → Reply words files [] (status.NotYet 1)
   refused : {offence : Offence} (bytes word : List ℕ) (library : Library) → Reads words files bytes → Gives bytes library
       → IsLeastMissing library library.start word → offence ≡ start_offence word → Reply words files [] (status.Refused offence)
