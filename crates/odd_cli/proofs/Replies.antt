@@ -72,8 +72,13 @@ module _ (words : List (List ℕ)) (files : FileMap) (bytes : List ℕ) (reads :
 pub compiles : (words : List (List ℕ)) (files : FileMap) (job : Compiling words files) → Reply words files (compiled_text job) status.Done
 compiles words files job = done job.bytes job.library job.reads job.gives job.holds_start refl
 
-no_job_but : (words : List (List ℕ)) (file : List ℕ) → ((job : Job) → WordsMean words job → ⊥) → Compiles words file → ⊥
+-- words that name a file have a job
+pub no_job_but : (words : List (List ℕ)) (file : List ℕ) → ((job : Job) → WordsMean words job → ⊥) → Compiles words file → ⊥
 no_job_but words file none c = none _ (compile file c refl)
+
+-- why a file has no schema is never that the words have no job
+pub no_usage : (bytes : List ℕ) (r : Result (List ℕ) Status) → IfErr r (IsRefusalOf bytes) → r ≡ Err status.Usage → ⊥
+no_usage bytes r s e = subst (λ (x : Result (List ℕ) Status). IfErr x (IsRefusalOf bytes)) e s
 
 -- a file that is held is held with other bytes nowhere, and is not absent
 held_once : (words : List (List ℕ)) (files : FileMap) (f g b c : List ℕ) → Compiles words f → Compiles words g → Held files f b → Held files g c → b ≡ c

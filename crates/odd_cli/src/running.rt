@@ -1,4 +1,4 @@
-ghost use Rattle.std.specs.Prelude.{◌≡◌, ◌≢◌, ◌≤◌, ℕ, List, Some, IsTrue, IfOk, IfErr, MatchOption, [], ◌++◌, length};
+ghost use Rattle.std.specs.Prelude.{◌≡◌, ◌≢◌, ◌↔◌, ◌≤◌, ℕ, List, Some, IsTrue, IfOk, IfErr, MatchOption, [], ◌++◌, length};
 ghost use Rattle.odd_base.specs.Count.{HasRisen};
 ghost use Rattle.odd_base.specs.Shelf.{FileMap, NotHeld};
 ghost use Rattle.odd_base.specs.Sink.{IsPartWritten};
@@ -35,6 +35,7 @@ pub fn run<F: Shelf, W: Sink, N: Sink>(
 ) -> Status
     ensures reply { (files : FileMap) (before : List ℕ) → F.holds shelf.old ≡ Some files → W.written out.old ≡ Some before → IsReplied result → ((text : List ℕ) × (W.written out.new ≡ Some (before ++ text)) × Reply words.now files text result) }
     ensures accepts { (files : FileMap) (before : List ℕ) → F.holds shelf.old ≡ Some files → W.written out.old ≡ Some before → result ≡ Status.Done → ((text : List ℕ) × (W.written out.new ≡ Some (before ++ text)) × AcceptsOfWords words.now files text) }
+    ensures usage { (result ≡ Status.Usage) ↔ ((job : AJob) → WordsMean words.now job → ⊥) }
     ensures silent { IsSilent result → W.written out.new ≡ W.written out.old }
     ensures partial { (files : FileMap) (before : List ℕ) → F.holds shelf.old ≡ Some files → W.written out.old ≡ Some before → result ≡ Status.WriteFault → ((text : List ℕ) × Reply words.now files text Status.Done × IsPartWritten before text (W.written out.new)) }
     ensures read_cause { (file : ℕ) → result ≡ Status.ReadFault file → HasRisen (F.faults shelf.old) (F.faults shelf.new) }
@@ -71,6 +72,7 @@ fn reply_text<F: Shelf>(alloc: Global, words: &Words, shelf: &mut F) -> Result<T
     ensures accepts { (files : FileMap) → F.holds shelf.old ≡ Some files → IfOk result (AcceptsOfWords words.now files) }
     ensures err { (files : FileMap) → F.holds shelf.old ≡ Some files → IfErr result (λ status. IsReplied status → Reply words.now files [] status) }
     ensures early { IfErr result IsSilent }
+    ensures usage { (result ≡ Err Status.Usage) ↔ ((job : AJob) → WordsMean words.now job → ⊥) }
     ensures read_cause { (file : ℕ) → result ≡ Err (Status.ReadFault file) → HasRisen (F.faults shelf.old) (F.faults shelf.new) }
     ensures read_place { (files : FileMap) (file : ℕ) → F.holds shelf.old ≡ Some files → result ≡ Err (Status.ReadFault file) → IsReadPlace words.now files file (F.rest shelf.new) (F.steady shelf.old) }
     ensures kept { F.holds shelf.new ≡ F.holds shelf.old }
