@@ -1,4 +1,4 @@
-ghost use Rattle.std.specs.Prelude.{◌≡◌, ◌≢◌, ◌↔◌, ◌≤◌, ℕ, List, Some, IsTrue, IfOk, IfErr, MatchOption, [], ◌++◌, length};
+ghost use Rattle.std.specs.Prelude.{◌≡◌, ◌≢◌, ◌↔◌, ◌≤◌, ◌+◌, ℕ, List, Some, IsTrue, IfOk, IfErr, MatchOption, [], ◌++◌, length};
 ghost use Rattle.odd_base.specs.Count.{HasRisen};
 ghost use Rattle.odd_base.specs.Shelf.{FileMap, NotHeld};
 ghost use Rattle.odd_base.specs.Sink.{IsPartWritten};
@@ -8,7 +8,7 @@ ghost use Rattle.odd_cli.specs.Note.{note_text};
 ghost use Rattle.odd_cli.specs.Words.{Compiles, WordsMean};
 ghost use Rattle.odd_cli.specs.declared.words.Job.{Job as AJob};
 ghost use Rattle.odd_cli.specs.declared.status.Status.{Status as AStatus};
-ghost use Rattle.odd_cli.specs.Reply.{Reply, Reads, Gives};
+ghost use Rattle.odd_cli.specs.Reply.{file_bytes, Reply, Reads, Gives};
 ghost use Rattle.odd_cli.specs.Running.{IsReplied, IsSilent, IsReadPlace, IsNoted, IsComplete, IsSchemaOf, IsRefusalOf, IsStartError, Compiling, compiled_text, AcceptsAdmitted, AcceptsOfFile, AcceptsOfWords};
 
 use crate::note::write_note;
@@ -42,6 +42,7 @@ pub fn run<F: Shelf, W: Sink, N: Sink>(
     ensures write_cause { result ≡ Status.WriteFault → HasRisen (W.faults out.old) (W.faults out.new) }
     ensures read_place { (files : FileMap) (file : ℕ) → F.holds shelf.old ≡ Some files → result ≡ Status.ReadFault file → IsReadPlace words.now files file (F.rest shelf.new) (F.steady shelf.old) }
     ensures room { (files : FileMap) (text : List ℕ) → F.holds shelf.old ≡ Some files → Reply words.now files text Status.Done → IsTrue (W.steady out.old) → length text ≤ W.room out.old → result ≢ Status.WriteFault }
+    ensures few_reads { F.reads shelf.new ≤ F.reads shelf.old + (file_bytes + 1) }
     ensures kept { F.holds shelf.new ≡ F.holds shelf.old }
     ensures note { (before : List ℕ) → N.written note.old ≡ Some before → IsNoted before (note_text result) (N.written note.new) (N.faults note.old) (N.faults note.new) }
     ensures complete { (files : FileMap) → F.holds shelf.old ≡ Some files → Compiling words.now files → (HasRisen (F.faults shelf.old) (F.faults shelf.new) → ⊥) → (HasRisen (W.faults out.old) (W.faults out.new) → ⊥) → IsComplete result }
@@ -75,6 +76,7 @@ fn reply_text<F: Shelf>(alloc: Global, words: &Words, shelf: &mut F) -> Result<T
     ensures usage { (result ≡ Err Status.Usage) ↔ ((job : AJob) → WordsMean words.now job → ⊥) }
     ensures read_cause { (file : ℕ) → result ≡ Err (Status.ReadFault file) → HasRisen (F.faults shelf.old) (F.faults shelf.new) }
     ensures read_place { (files : FileMap) (file : ℕ) → F.holds shelf.old ≡ Some files → result ≡ Err (Status.ReadFault file) → IsReadPlace words.now files file (F.rest shelf.new) (F.steady shelf.old) }
+    ensures few_reads { F.reads shelf.new ≤ F.reads shelf.old + (file_bytes + 1) }
     ensures kept { F.holds shelf.new ≡ F.holds shelf.old }
 {
     let Some(name) = file_word(words) else {
