@@ -1,3 +1,5 @@
+ghost use Rattle.std.specs.Prelude.{◌≡◌, false};
+
 use odd_base::count::next_count;
 use odd_base::{Shelf, ShelfFault, Text};
 use std::fs;
@@ -21,7 +23,12 @@ impl<'a, R: Files> FileShelf<'a, R>
 where
     R::File: Drop,
 {
-    pub fn new(rt: &'a R) -> FileShelf<'a, R> {
+    /// A shelf of which no file is begun.
+    pub fn new(rt: &'a R) -> FileShelf<'a, R>
+        ensures not_begun { ⟦<FileShelf<'a, R> as Shelf>⟧.begun result ≡ false }
+        ensures no_faults { ⟦<FileShelf<'a, R> as Shelf>⟧.faults result ≡ 0 }
+        ensures no_reads { ⟦<FileShelf<'a, R> as Shelf>⟧.reads result ≡ 0 }
+    {
         FileShelf {
             rt,
             file: None,

@@ -1,4 +1,4 @@
-ghost use Rattle.std.specs.Prelude.{◌<◌, ◌≤◌, length, IfSome};
+ghost use Rattle.std.specs.Prelude.{◌≡◌, ◌<◌, ◌≤◌, length, IfSome};
 
 use odd_base::count::next_count;
 use odd_base::{Sink, SinkFault};
@@ -12,7 +12,9 @@ pub struct StdSink<S: Write> {
 }
 
 impl<S: Write> StdSink<S> {
-    pub fn new(stream: S) -> StdSink<S> {
+    pub fn new(stream: S) -> StdSink<S>
+        ensures no_faults { ⟦<StdSink<S> as Sink>⟧.faults result ≡ 0 }
+    {
         StdSink { stream, faults: 0 }
     }
 }
