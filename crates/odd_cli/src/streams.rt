@@ -1,4 +1,5 @@
-ghost use Rattle.std.specs.Prelude.{◌≡◌, ◌<◌, ◌≤◌, length, IfSome};
+ghost use Rattle.std.specs.Prelude.{◌≡◌, ◌<◌, ◌≤◌, length, take, IfSome};
+ghost use Rattle.std.specs.Io.KnownBytes.{Appends};
 
 use odd_base::count::next_count;
 use odd_base::{Sink, SinkFault};
@@ -23,6 +24,7 @@ impl<S: Write> StdSink<S> {
 fn write_front<S: Write>(stream: &mut S, bytes: &[u8]) -> Option<usize>
     ensures some { IfSome result (λ n. 0 < n) }
     ensures within { IfSome result (λ n. n ≤ length bytes.now) }
+    ensures appended { IfSome result (λ n. Appends (S.contents stream.old) (S.contents stream.new) (take n bytes.now)) }
 {
     match stream.write(bytes) {
         Ok(0) | Err(_) => None,
