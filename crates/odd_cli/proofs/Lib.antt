@@ -1,3 +1,4 @@
+pub mod Examples
 pub mod Formed
 pub mod Lists
 pub mod Replies

@@ -1,0 +1,359 @@
+-- Small checks of what the definitions of this crate say: where they hold, and where they do not.
+use Rattle.std.proofs.Common.{◌≡◌, ◌≤◌, ℕ, Bool, true, false, List, [], ◌∷◌, ◌++◌, length, None, refl, sym, ap, subst, ◌∙◌, arith, slice_get}
+use Rattle.std.specs.Fmt.{digits}
+use Rattle.std.specs.Prelude.{◌≢◌, codes, IsTrue, IsSome}
+use Rattle.std.specs.FinMap as map
+use Rattle.std.proofs.lemmas.Cmp.{nat_list_cmp_total}
+use Rattle.std.proofs.lemmas.List.Elements.{All-nil, All-cons}
+use Rattle.std.proofs.lemmas.Option.{same_Some}
+use Rattle.odd_base.specs.Text.{text_cmp}
+use Rattle.odd_base.specs.Key.{key_cmp}
+use Rattle.odd_base.specs.Shelf.{FileMap, Held}
+use Rattle.odd_base.specs.declared.key.Key.{Key}
+use Rattle.odd_base.specs.declared.key.Kind.TheVariants as kind
+use Rattle.odd_base.specs.declared.offence.Who.TheVariants as who
+use Rattle.odd_reader.specs.Bare.{IsBareElement, IsBare, empty, full, is_bare_name}
+use Rattle.odd_reader.specs.Characters.{IsNCName}
+use Rattle.odd_reader.proofs.BareSpelledNames.{ascii_name, bare_ncname}
+use Rattle.odd_decls.proofs.Elements.{element_shown}
+use Rattle.odd_reader.specs.Spelled.{Spells}
+use Rattle.odd_reader.specs.declared.tree.Tree.{Tree, roll-Tree, out-Tree}
+use Rattle.odd_reader.specs.declared.tree.Node.{Element}
+use Rattle.odd_reader.specs.Machine.{tei_name, plain_name}
+use Rattle.odd_reader.proofs.BareRead.{ended_reads}
+use Rattle.odd_decls.specs.Odd.{Declares, HoldsItems, StandsIn, absent, attribute_value, element_key, elements_of}
+use Rattle.odd_decls.specs.declared.content.Content.TheVariants as content
+use Rattle.odd_decls.specs.declared.library.Component.TheVariants as component
+use Rattle.odd_decls.specs.declared.library.Library.{Library}
+use Rattle.odd_decls.specs.declared.odd.Entry.TheVariants as entry
+use Rattle.odd_decls.specs.declared.odd.OddDoc.{OddDoc}
+use Rattle.std.specs.declared.cmp.Ordering.TheVariants.{Less}
+use Rattle.compile_core.specs.Schema.{IsLeastMissing}
+use Rattle.odd_cli.specs.Note.{code_of, note_text}
+use Rattle.odd_cli.specs.Words.{Compiles, WordsMean, compile}
+use Rattle.odd_cli.specs.Reply.{Reply, Reads, Gives, no_job, no_file, too_long, not_yet, refused, done}
+use Rattle.odd_cli.specs.declared.words.Command.TheVariants as command
+use Rattle.odd_cli.specs.declared.words.Job.{Job}
+use Rattle.odd_cli.specs.declared.status.LimitKind.TheVariants as limit
+use Rattle.odd_cli.specs.declared.status.Status.TheVariants as status
+use Rattle.odd_cli.proofs.Replies.{one_status}
+
+-- Words
+
+abbrev compile_f : List (List ℕ)
+compile_f = codes "compile" ∷ codes "f" ∷ []
+
+abbrev compile_job : Job
+compile_job = record { command = command.Compile; aside = false; files = 1; number = 0 }
+
+f_compiles : Compiles compile_f (codes "f")
+f_compiles = (refl, λ e. cc)
+
+-- `compile f` asks for the schema of one file
+f_has_a_job : WordsMean compile_f compile_job
+f_has_a_job = compile (codes "f") f_compiles refl
+
+-- the empty word is a file word
+empty_word_has_a_job : WordsMean (codes "compile" ∷ [] ∷ []) compile_job
+empty_word_has_a_job = compile [] (refl, λ e. cc) refl
+
+-- words have at most one job
+one_job : (words : List (List ℕ)) (a b : Job) → WordsMean words a → WordsMean words b → a ≡ b
+one_job words a b (compile f c e) (compile g d i) = e ∙ sym i
+
+no_words : (job : Job) → WordsMean [] job → ⊥
+no_words job (compile file c e) = let same = c.0 in cc
+
+command_alone : (job : Job) → WordsMean (codes "compile" ∷ []) job → ⊥
+command_alone job (compile file c e) = let same = c.0 in cc
+
+two_files : (job : Job) → WordsMean (codes "compile" ∷ codes "f" ∷ codes "g" ∷ []) job → ⊥
+two_files job (compile file c e) = let same = c.0 in cc
+
+another_command : (job : Job) → WordsMean (codes "merge" ∷ codes "f" ∷ []) job → ⊥
+another_command job (compile file c e) = let same = c.0 in cc
+
+-- `--` is no file
+dashes : (job : Job) → WordsMean (codes "compile" ∷ codes "--" ∷ []) job → ⊥
+dashes job (compile file c e) = c.1 (sym (same_Some (codes "--") file (ap (λ ws. slice_get ws 1) c.0)))
+
+-- Lines and codes
+
+line_feed : codes "\n" ≡ 10 ∷ []
+line_feed = refl
+
+line_of_done : note_text status.Done ≡ []
+line_of_done = refl
+
+line_of_usage : note_text status.Usage ≡ codes "odd: usage\n"
+line_of_usage = refl
+
+line_of_limit : note_text (status.Limit (limit.Bytes 12)) ≡ codes "odd: limit bytes file 12\n"
+unfolding digits
+line_of_limit = refl
+
+line_of_read_fault : note_text (status.ReadFault 1) ≡ codes "odd: read fault file 1\n"
+unfolding digits
+line_of_read_fault = refl
+
+line_of_write_fault : note_text status.WriteFault ≡ codes "odd: write fault\n"
+line_of_write_fault = refl
+
+line_of_no_memory : note_text status.NoMemory ≡ codes "odd: no memory\n"
+line_of_no_memory = refl
+
+line_of_not_yet : note_text (status.NotYet 10) ≡ codes "odd: file 10: not yet\n"
+unfolding digits
+line_of_not_yet = refl
+
+line_at_a_place : note_text (status.Refused (record { file = 2; who = who.At 68; rule = 8 })) ≡ codes "odd: file 2: byte 68: rule 8\n"
+unfolding digits
+line_at_a_place = refl
+
+line_of_a_component : note_text (status.Refused (record { file = 1; who = who.Part (record { kind = kind.Class; ident = codes "model.x" }); rule = 13 })) ≡ codes "odd: file 1: class model.x: rule 13\n"
+unfolding digits
+line_of_a_component = refl
+
+line_of_a_start_word : note_text (status.Refused (record { file = 1; who = who.Start (codes "a"); rule = 20 })) ≡ codes "odd: start a: rule 20\n"
+unfolding digits
+line_of_a_start_word = refl
+
+line_of_an_asked_ident : note_text (status.Refused (record { file = 1; who = who.Asked (codes "q"); rule = 21 })) ≡ codes "odd: explain q: rule 21\n"
+unfolding digits
+line_of_an_asked_ident = refl
+
+-- a want of memory and a usage have different lines, and different codes
+lines_differ : note_text status.Usage ≢ note_text status.NoMemory
+lines_differ e = cc
+
+codes_differ : code_of status.Usage ≢ code_of status.NoMemory
+codes_differ e = cc
+
+-- Replies
+
+-- the shelf that holds `f` alone
+abbrev holding : List ℕ → FileMap
+holding bytes = map.from_entries ((codes "f", bytes) ∷ [])
+
+f_held : (bytes : List ℕ) → Held (holding bytes) (codes "f") bytes
+f_held bytes = map.get-from_entries nat_list_cmp_total ((codes "f", bytes) ∷ []) (codes "f")
+
+f_reads : (bytes : List ℕ) → length bytes ≤ 16777216 → Reads compile_f (holding bytes) bytes
+f_reads bytes short = record { file = codes "f"; compiles = f_compiles; held = f_held bytes; within = short }
+
+-- no words are a usage over any shelf, and nothing is written
+usage_reply : (files : FileMap) → Reply [] files [] status.Usage
+usage_reply files = no_job no_words
+
+usage_writes_nothing : (files : FileMap) → Reply [] files (codes "x") status.Usage → ⊥
+usage_writes_nothing files h = elim h [ ]
+
+-- `compile f` is no usage
+job_is_no_usage : (files : FileMap) → Reply compile_f files [] status.Usage → ⊥
+job_is_no_usage files (no_job none) = none compile_job f_has_a_job
+
+-- a shelf without `f`
+not_held_reply : Reply compile_f map.empty [] (status.ReadFault 1)
+not_held_reply = no_file (codes "f") f_compiles (map.get-empty text_cmp (codes "f"))
+
+-- another number is no reply
+not_held_is_file_one : (words : List (List ℕ)) (files : FileMap) → Reply words files [] (status.ReadFault 2) → ⊥
+not_held_is_file_one words files h = elim h [ ]
+
+-- the outside's other failures are no reply
+no_memory_is_no_reply : (words : List (List ℕ)) (files : FileMap) (text : List ℕ) → Reply words files text status.NoMemory → ⊥
+no_memory_is_no_reply words files text h = elim h [ ]
+
+write_fault_is_no_reply : (words : List (List ℕ)) (files : FileMap) (text : List ℕ) → Reply words files text status.WriteFault → ⊥
+write_fault_is_no_reply words files text h = elim h [ ]
+
+-- a file of 16,777,217 bytes is too long, and one of 16,777,216 is not
+too_long_reply : (bytes : List ℕ) → length bytes ≡ 16777217 → Reply compile_f (holding bytes) [] (status.Limit (limit.Bytes 1))
+too_long_reply bytes e = too_long (codes "f") bytes f_compiles (f_held bytes) (omega (arith, e))
+
+longest_is_read : (bytes : List ℕ) → length bytes ≡ 16777216 → Reply compile_f (holding bytes) [] (status.Limit (limit.Bytes 1)) → ⊥
+longest_is_read bytes e (too_long file other c h long) =
+    let f_is : codes "f" ≡ file = same_Some (codes "f") file (ap (λ ws. slice_get ws 1) c.0) in
+    let same : bytes ≡ other = same_Some bytes other (sym (f_held bytes) ∙ ap (map.get (holding bytes)) f_is ∙ h) in
+    let short : length other ≡ 16777216 = sym (ap length same) ∙ e in
+    omega (arith, short, long)
+
+-- an empty file is no ODD file that is read
+element_has_bytes : {is_root : Bool} {levels : ℕ} → IsBareElement is_root levels [] → ⊥
+element_has_bytes (empty name attributes tag e) = cc
+element_has_bytes (full name attributes inside tag k e) = cc
+
+empty_is_not_bare : IsBare [] → ⊥
+empty_is_not_bare bare = nothing bare.before bare.element bare.after bare.parts bare.is_element
+  where
+    nothing : (before element after : List ℕ) → [] ≡ before ++ element ++ after → {levels : ℕ} → IsBareElement true levels element → ⊥
+    nothing [] [] after e h = element_has_bytes h
+    nothing [] (c ∷ cs) after e h = cc
+    nothing (c ∷ cs) element after e h = cc
+
+not_yet_reply : Reply compile_f (holding []) [] (status.NotYet 1)
+not_yet_reply = not_yet [] (f_reads [] (omega arith)) (λ library g. empty_is_not_bare g.bare)
+
+-- The smallest file that declares an element, and the schema that is its reply.
+
+abbrev one_element : List ℕ
+one_element = codes "<schemaSpec xmlns=\"http://www.tei-c.org/ns/1.0\" ident=\"s\" start=\"a\"><elementSpec ident=\"a\"/></schemaSpec>"
+
+abbrev schema : List ℕ
+schema = codes "<?xml version=\"1.0\" encoding=\"UTF-8\"?>\n<grammar xmlns=\"http://relaxng.org/ns/structure/1.0\" datatypeLibrary=\"http://www.w3.org/2001/XMLSchema-datatypes\">\n<start>\n<ref name=\"e.a\"/>\n</start>\n<define name=\"e.a\">\n<element name=\"a\" ns=\"http://www.tei-c.org/ns/1.0\">\n<empty/>\n</element>\n</define>\n</grammar>\n"
+
+abbrev element_tree : Tree
+element_tree = roll-Tree (record {
+  name = tei_name (codes "elementSpec");
+  attrs = record { name = plain_name (codes "ident"); value = codes "a" } ∷ [];
+  binds = [];
+  children = [];
+  at = 68;
+})
+
+abbrev root_tree : Tree
+root_tree = roll-Tree (record {
+  name = tei_name (codes "schemaSpec");
+  attrs = record { name = plain_name (codes "ident"); value = codes "s" } ∷ record { name = plain_name (codes "start"); value = codes "a" } ∷ [];
+  binds = record { prefix = []; ns = codes "http://www.tei-c.org/ns/1.0" } ∷ [];
+  children = Element element_tree ∷ [];
+  at = 0;
+})
+
+-- the reader's machine ends with this tree
+one_element_read : IsBare one_element × Spells one_element root_tree
+one_element_read = ended_reads one_element root_tree (record { kept = _; takes = refl; between = refl; rooted = refl })
+
+abbrev a_key : Key
+a_key = element_key (codes "a")
+
+abbrev one_doc : OddDoc
+one_doc = record { ident = codes "s"; start = codes "a" ∷ []; entries = entry.Spec 68 (record { key = a_key; content = None }) ∷ [] }
+
+abbrev one_library : Library
+one_library = record { ident = codes "s"; start = codes "a" ∷ []; parts = (a_key, component.Element (record { content = content.Empty })) ∷ [] }
+
+-- a bare name is a name
+name : (word : List ℕ) → IsTrue (is_bare_name word) → IsNCName word
+name word h = (word, ascii_name word h, bare_ncname word h)
+
+abbrev IsGiven : Tree → List ℕ → Type 0
+IsGiven t local = IsSome (attribute_value (out-Tree t).attrs local)
+
+one_child : elements_of (out-Tree root_tree).children ≡ element_tree ∷ []
+one_child = ap (λ es. es ++ []) (element_shown (Element element_tree) element_tree refl)
+
+once : {A : Type 0} (x : A) (before between after : List A) (item : A) → x ∷ [] ≢ before ++ item ∷ (between ++ item ∷ after)
+once x [] [] after item e = cc
+once x [] (b ∷ bs) after item e = cc
+once x (b ∷ []) between after item e = cc
+once x (b ∷ (c ∷ cs)) between after item e = cc
+
+one_element_declares : Declares root_tree one_doc
+one_element_declares = record {
+  start = codes "a";
+  root = record {
+    named = refl;
+    attributed = (refl, All-cons (IsGiven root_tree) (codes "ident") (codes "start" ∷ []) refl (All-cons (IsGiven root_tree) (codes "start") [] refl (All-nil (IsGiven root_tree))));
+    ident = refl;
+    ident_is_ncname = name (codes "s") refl;
+    start_is = refl;
+    start_is_ncname = name (codes "a") refl;
+  };
+  start_words = refl;
+  holds = subst (λ ts. HoldsItems ts one_doc.entries) (sym one_child) (record {
+    items = (
+      record {
+        head = record { named = refl; attributed = (refl, All-cons (IsGiven element_tree) (codes "ident") [] refl (All-nil (IsGiven element_tree))); ident = refl; is_ncname = name (codes "a") refl };
+        kind = refl;
+        content = absent;
+        placed = refl;
+      },
+      tt,
+    );
+    few = omega arith;
+    once = once a_key;
+  });
+}
+
+one_element_gives : Gives one_element one_library
+one_element_gives = record {
+  bare = one_element_read.0;
+  tree = root_tree;
+  spelled = one_element_read.1;
+  doc = one_doc;
+  declared = one_element_declares;
+  is_library = record { ident = refl; start = refl; rising = refl; holds = λ key. refl };
+}
+
+a_is_held : (word : List ℕ) → StandsIn one_library.start word → map.find key_cmp (element_key word) one_library.parts ≡ None → ⊥
+a_is_held word ([], after, e) missing = let is_word : word ≡ codes "a" = cc in let found = subst (λ w. map.find key_cmp (element_key w) one_library.parts ≡ None) is_word missing in cc
+a_is_held word (b ∷ [], after, e) missing = cc
+a_is_held word (b ∷ (c ∷ cs), after, e) missing = cc
+
+done_reply : Reply compile_f (holding one_element) schema status.Done
+done_reply = done one_element one_library (f_reads one_element (omega arith)) one_element_gives a_is_held refl
+
+-- the same file has no other status
+done_is_not_refused : (text : List ℕ) → Reply compile_f (holding one_element) text (status.NotYet 1) → ⊥
+done_is_not_refused text h = let same : status.Done ≡ status.NotYet 1 = one_status compile_f (holding one_element) schema text _ _ done_reply h in cc
+
+-- The same file without its element is refused at its start word.
+
+abbrev no_element : List ℕ
+no_element = codes "<schemaSpec xmlns=\"http://www.tei-c.org/ns/1.0\" ident=\"s\" start=\"a\"></schemaSpec>"
+
+abbrev empty_tree : Tree
+empty_tree = roll-Tree (record {
+  name = tei_name (codes "schemaSpec");
+  attrs = record { name = plain_name (codes "ident"); value = codes "s" } ∷ record { name = plain_name (codes "start"); value = codes "a" } ∷ [];
+  binds = record { prefix = []; ns = codes "http://www.tei-c.org/ns/1.0" } ∷ [];
+  children = [];
+  at = 0;
+})
+
+no_element_read : IsBare no_element × Spells no_element empty_tree
+no_element_read = ended_reads no_element empty_tree (record { kept = _; takes = refl; between = refl; rooted = refl })
+
+abbrev empty_doc : OddDoc
+empty_doc = record { ident = codes "s"; start = codes "a" ∷ []; entries = [] }
+
+abbrev empty_library : Library
+empty_library = record { ident = codes "s"; start = codes "a" ∷ []; parts = [] }
+
+none_once : {A : Type 0} (before between after : List A) (item : A) → [] ≢ before ++ item ∷ (between ++ item ∷ after)
+none_once [] between after item e = cc
+none_once (b ∷ bs) between after item e = cc
+
+no_element_gives : Gives no_element empty_library
+no_element_gives = record {
+  bare = no_element_read.0;
+  tree = empty_tree;
+  spelled = no_element_read.1;
+  doc = empty_doc;
+  declared = record {
+    start = codes "a";
+    root = record {
+      named = refl;
+      attributed = (refl, All-cons (IsGiven empty_tree) (codes "ident") (codes "start" ∷ []) refl (All-cons (IsGiven empty_tree) (codes "start") [] refl (All-nil (IsGiven empty_tree))));
+      ident = refl;
+      ident_is_ncname = name (codes "s") refl;
+      start_is = refl;
+      start_is_ncname = name (codes "a") refl;
+    };
+    start_words = refl;
+    holds = record { items = tt; few = omega arith; once = none_once };
+  };
+  is_library = record { ident = refl; start = refl; rising = refl; holds = λ key. refl };
+}
+
+a_is_least : IsLeastMissing empty_library empty_library.start (codes "a")
+a_is_least = record { among = ([], [], refl); missing = refl; least = least }
+  where
+    least : (other : List ℕ) → StandsIn empty_library.start other → map.find key_cmp (element_key other) empty_library.parts ≡ None → text_cmp other (codes "a") ≡ Less → ⊥
+    least other ([], after, e) missing less = let is_word : other ≡ codes "a" = cc in let tied = subst (λ w. text_cmp w (codes "a") ≡ Less) is_word less in cc
+    least other (b ∷ [], after, e) missing less = cc
+    least other (b ∷ (c ∷ cs), after, e) missing less = cc
+
+refused_reply : Reply compile_f (holding no_element) [] (status.Refused (record { file = 1; who = who.Start (codes "a"); rule = 20 }))
+refused_reply = refused no_element (codes "a") empty_library (f_reads no_element (omega arith)) no_element_gives a_is_least refl
