@@ -393,7 +393,7 @@ fn an_output_says_what_its_stream_took(rt: HostRuntime) -> Result<(), Fail> {
 #[test]
 fn a_file_on_disk_is_read_to_its_end(rt: HostRuntime) -> Result<(), Fail> {
     let id = process::id(rt.process());
-    let path = format!(in rt.alloc(); "/tmp/odd_cli_file_{id}")?;
+    let path = format!(in rt.alloc(); "odd_cli_file_{id}")?;
     fs::write(&rt, path.as_str(), b"abc".as_slice())?;
     let name = Text::from_str(rt.alloc(), path.as_str())?;
     let mut shelf = FileShelf::new(&rt);
