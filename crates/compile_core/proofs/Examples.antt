@@ -5,7 +5,7 @@ use Rattle.std.specs.List.{list_all, list_any}
 use Rattle.std.proofs.lemmas.Bool.{false≢true}
 use Rattle.std.proofs.lemmas.List.Elements.{All-nil, All-cons, All-head}
 use Rattle.std.proofs.lemmas.Option.{same_Some}
-use Rattle.odd_reader.specs.Bare.{is_bare_name}
+use Rattle.odd_reader.proofs.Ascii.{is_ascii_name}
 use Rattle.odd_reader.specs.Characters.{IsNCName}
 use Rattle.odd_reader.specs.Markup.{Markup}
 use Rattle.odd_reader.specs.Names.{is_same}
@@ -14,8 +14,8 @@ use Rattle.odd_reader.specs.declared.tree.Node.{Node, Element, Text}
 use Rattle.odd_reader.specs.declared.tree.Node as N
 use Rattle.odd_reader.specs.declared.tree.Tree.{Tree, out-Tree, roll-Tree}
 use Rattle.odd_reader.specs.declared.tree.Tree as T
-use Rattle.odd_reader.proofs.BareSpelledDistinct.{none_twice}
-use Rattle.odd_reader.proofs.BareSpelledNames.{ascii_name, bare_ncname}
+use Rattle.odd_reader.proofs.Distinct.{none_twice}
+use Rattle.odd_reader.proofs.Ascii.{ascii_name, ascii_ncname}
 use Rattle.odd_decls.specs.declared.content.Content.{Content}
 use Rattle.odd_decls.specs.declared.content.Content.TheVariants as content
 use Rattle.odd_decls.specs.declared.library.Component.{Component}
@@ -329,8 +329,8 @@ two_choices m n = refl
 
 -- schemas
 
-is_name : (name : List ℕ) → is_bare_name name ≡ true → IsNCName name
-is_name name h = (name, ascii_name name h, bare_ncname name h)
+is_name : (name : List ℕ) → is_ascii_name name ≡ true → IsNCName name
+is_name name h = (name, ascii_name name h, ascii_ncname name h)
 
 -- an element of RELAX NG
 abbrev rng : List ℕ → List Attr → List Node → Tree

@@ -15,8 +15,8 @@ use Rattle.odd_base.specs.declared.key.Key.{Key}
 use Rattle.odd_base.specs.declared.key.Kind.TheVariants as kind
 use Rattle.odd_reader.specs.Characters.{IsNCName, is_name_start, is_name_char, is_ncname}
 use Rattle.odd_reader.specs.Tokens.{NoneTwice}
-use Rattle.odd_reader.proofs.BareSpelledNames.{ascii_codes}
-use Rattle.odd_reader.proofs.BareSpelledDistinct.{Distinct, Lacks, none_twice}
+use Rattle.odd_reader.proofs.Ascii.{ascii_codes}
+use Rattle.odd_reader.proofs.Distinct.{Distinct, Lacks, none_twice}
 use Rattle.odd_reader.proofs.NamesLexed.{ncname_chars}
 use Rattle.odd_decls.specs.declared.library.Component.{Component}
 use Rattle.odd_decls.specs.declared.library.Component.TheVariants as component

@@ -12,8 +12,7 @@ use Rattle.odd_decls.specs.declared.content.Content.TheVariants as content
 use Rattle.odd_decls.specs.declared.library.Component.{Component}
 use Rattle.odd_decls.specs.declared.library.Component.TheVariants as component
 use Rattle.odd_decls.specs.declared.library.Library.{Library}
-use Rattle.odd_reader.specs.Names.{tei_namespace}
-use Rattle.odd_decls.specs.Odd.{StandsIn}
+use Rattle.odd_decls.specs.Odd.{StandsIn, tei_namespace}
 use Rattle.compile_core.specs.Compiled.{content_pattern, definition_of, reference, start_pattern}
 use Rattle.compile_core.specs.Denoting.{AreDefines, ArePatterns, IsDefine, IsElementOf, IsPattern, IsStart, given, parts_of}
 use Rattle.compile_core.specs.Denoting as denoting

@@ -4,14 +4,14 @@ use Rattle.std.specs.Prelude.{All, IsTrue, codes}
 use Rattle.std.proofs.lemmas.Bool.{false≢true}
 use Rattle.std.proofs.lemmas.List.Elements.{All-nil, All-cons, All-head, All-tail}
 use Rattle.odd_base.specs.declared.key.Key.{Key}
-use Rattle.odd_reader.specs.Bare.{is_bare_name}
-use Rattle.odd_reader.specs.Characters.{IsNCName}
+use Rattle.odd_reader.proofs.Ascii.{is_ascii_name}
+use Rattle.odd_reader.specs.Characters.{IsNCName, IsLegal}
 use Rattle.odd_reader.specs.Markup.{Pair}
-use Rattle.odd_reader.specs.Names.{is_same, xml_namespace, xmlns_namespace, tei_namespace}
-use Rattle.odd_reader.proofs.BareSpelledDistinct.{none_twice}
-use Rattle.odd_reader.proofs.BareSpelledNames.{ascii_name, bare_ncname}
+use Rattle.odd_reader.specs.Names.{is_same, xml_namespace, xmlns_namespace}
+use Rattle.odd_reader.proofs.Distinct.{none_twice}
+use Rattle.odd_reader.proofs.Ascii.{ascii_name, ascii_ncname}
 use Rattle.odd_reader.proofs.PrintedSpelledLegal.{ascii_legal, ncname_legal}
-use Rattle.odd_reader.proofs.PrintedTrees.{ArePlain, IsLegal, IsNamespace, IsPlain, IsPlainAttribute, IsPlainTag}
+use Rattle.odd_reader.proofs.PrintedTrees.{ArePlain, IsNamespace, IsPlain, IsPlainAttribute, IsPlainTag}
 use Rattle.odd_decls.specs.declared.content.Content.{Content}
 use Rattle.odd_decls.specs.declared.content.Content.TheVariants as content
 use Rattle.odd_decls.specs.declared.library.Component.{Component}
@@ -22,19 +22,20 @@ use Rattle.compile_core.specs.Schema.{HoldsStart, IsFormed, choice_of, component
 use Rattle.compile_core.proofs.SchemaLinked.{words_named}
 use Rattle.compile_core.proofs.SchemaNames.{IsElementEntry, define_ncname, entries_formed}
 use Rattle.compile_core.proofs.SchemaParts.{root_attributes, schema_parts}
+use Rattle.odd_decls.specs.Odd.{tei_namespace}
 
-literal_name : (name : List ℕ) → IsTrue (is_bare_name name) → IsNCName name
-literal_name name h = (name, ascii_name name h, bare_ncname name h)
+literal_name : (name : List ℕ) → IsTrue (is_ascii_name name) → IsNCName name
+literal_name name h = (name, ascii_name name h, ascii_ncname name h)
 
-literal_attribute : (name value : List ℕ) → IsTrue (is_bare_name name) → name ≢ codes "xmlns" → IsLegal value → IsPlainAttribute (name, value)
+literal_attribute : (name value : List ℕ) → IsTrue (is_ascii_name name) → name ≢ codes "xmlns" → IsLegal value → IsPlainAttribute (name, value)
 literal_attribute name value h apart legal = record { named = literal_name name h; apart = apart; legal = legal }
 
 -- the tags: with no attribute, with a name, with a name and a namespace, and that of the root
 
-bare_tag : (tag : List ℕ) → IsTrue (is_bare_name tag) → IsPlainTag tag []
+bare_tag : (tag : List ℕ) → IsTrue (is_ascii_name tag) → IsPlainTag tag []
 bare_tag tag h = record { named = literal_name tag h; attributed = All-nil IsPlainAttribute; once = none_twice [] tt }
 
-one_tag : (tag : List ℕ) (a : Pair) → IsTrue (is_bare_name tag) → IsPlainAttribute a → IsPlainTag tag (a ∷ [])
+one_tag : (tag : List ℕ) (a : Pair) → IsTrue (is_ascii_name tag) → IsPlainAttribute a → IsPlainTag tag (a ∷ [])
 one_tag tag a h p = record {
   named = literal_name tag h;
   attributed = All-cons IsPlainAttribute a [] p (All-nil IsPlainAttribute);

@@ -12,7 +12,7 @@ use Rattle.compile_core.specs.Compiled.{content_pattern, definition_of, grammar_
 use Rattle.compile_core.specs.Grammar.{define_markup, element_markup, grammar_markup, grammar_text, named, pattern_markup, plain}
 use Rattle.compile_core.specs.Schema.{choice_of, component_define, content_markup, define_name, reference_to, schema_text}
 use Rattle.compile_core.proofs.Printing.{choice_is, not_allowed_is, ref_is}
-use Rattle.odd_reader.specs.Names.{tei_namespace}
+use Rattle.odd_decls.specs.Odd.{tei_namespace}
 
 content_is : (k : Content) → pattern_markup (content_pattern k) ≡ content_markup k
 content_is content.Empty = search (rules, E.the_lemmas)

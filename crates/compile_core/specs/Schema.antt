@@ -15,8 +15,7 @@ use Rattle.odd_decls.specs.declared.content.Content.TheVariants as content
 use Rattle.odd_decls.specs.declared.library.Component.{Component}
 use Rattle.odd_decls.specs.declared.library.Component.TheVariants as component
 use Rattle.odd_decls.specs.declared.library.Library.{Library}
-use Rattle.odd_reader.specs.Names.{tei_namespace}
-use Rattle.odd_decls.specs.Odd.{StandsIn, element_key}
+use Rattle.odd_decls.specs.Odd.{StandsIn, element_key, tei_namespace}
 use Rattle.std.specs.declared.cmp.Ordering.TheVariants.{Less}
 use Rattle.compile_core.specs.Grammar.{plain, named, element_markup, grammar_markup}
 

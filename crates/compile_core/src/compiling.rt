@@ -11,8 +11,7 @@ ghost use Rattle.compile_core.specs.Schema.{HoldsStart, IsFormed, IsLeast, IsSta
 
 use crate::grammar::{AttrPart, Body, Define, Defines, Expr, Exprs, Grammar, NameClass, Rules};
 use odd_base::{Key, Kind, Name, NoMemory, Offence, Text, TryCopy, Who, Words};
-use odd_decls::{Component, Content, Library};
-use odd_reader::TEI;
+use odd_decls::{Component, Content, Library, TEI};
 use std::alloc::Global;
 
 /// Why a library has no schema.

@@ -55,6 +55,13 @@ impl<T> Seq<T> {
         self.items.get(at)
     }
 
+    /// The items themselves, in their order.
+    pub fn into_items(self) -> Vec<T>
+        ensures { result.items ≡ self }
+    {
+        self.items
+    }
+
     /// The items in their order.
     pub fn as_slice(&self) -> &[T]
         ensures { result.now ≡ self.now }

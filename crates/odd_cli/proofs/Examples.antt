@@ -12,16 +12,16 @@ use Rattle.odd_base.specs.Shelf.{FileMap, Held}
 use Rattle.odd_base.specs.declared.key.Key.{Key}
 use Rattle.odd_base.specs.declared.key.Kind.TheVariants as kind
 use Rattle.odd_base.specs.declared.offence.Who.TheVariants as who
-use Rattle.odd_reader.specs.Bare.{IsBareElement, IsBare, empty, full, is_bare_name}
-use Rattle.odd_reader.specs.Characters.{IsNCName}
-use Rattle.odd_reader.proofs.BareSpelledNames.{ascii_name, bare_ncname}
+use Rattle.std.proofs.Math.Utf8.{encode}
+use Rattle.odd_base.specs.declared.name.Name.{Name}
+use Rattle.odd_reader.specs.Characters.{IsNCName, is_char, is_name_char, is_name_start}
+use Rattle.odd_reader.proofs.Ascii.{is_ascii_name, ascii_name, ascii_ncname}
 use Rattle.odd_decls.proofs.Elements.{element_shown}
-use Rattle.odd_reader.specs.Spelled.{Spells}
+use Rattle.odd_reader.specs.Spelled.{GivesTree}
 use Rattle.odd_reader.specs.declared.tree.Tree.{Tree, roll-Tree, out-Tree}
 use Rattle.odd_reader.specs.declared.tree.Node.{Element}
-use Rattle.odd_reader.specs.Machine.{tei_name, plain_name}
-use Rattle.odd_reader.proofs.BareRead.{ended_reads}
-use Rattle.odd_decls.specs.Odd.{Declares, HoldsItems, StandsIn, absent, attribute_value, element_key, elements_of}
+use Rattle.odd_reader.proofs.ReadTrees.{literal_gives, empty_gives_none}
+use Rattle.odd_decls.specs.Odd.{Declares, HoldsItems, StandsIn, absent, attribute_value, element_key, elements_of, tei_namespace}
 use Rattle.odd_decls.specs.declared.content.Content.TheVariants as content
 use Rattle.odd_decls.specs.declared.library.Component.TheVariants as component
 use Rattle.odd_decls.specs.declared.library.Library.{Library}
@@ -178,21 +178,9 @@ longest_is_read bytes e (too_long file other c h long) =
     let short : length other ≡ 16777216 = sym (ap length same) ∙ e in
     omega (arith, short, long)
 
--- an empty file is no ODD file that is read
-element_has_bytes : {is_root : Bool} {levels : ℕ} → IsBareElement is_root levels [] → ⊥
-element_has_bytes (empty name attributes tag e) = cc
-element_has_bytes (full name attributes inside tag k e) = cc
-
-empty_is_not_bare : IsBare [] → ⊥
-empty_is_not_bare bare = nothing bare.before bare.element bare.after bare.parts bare.is_element
-  where
-    nothing : (before element after : List ℕ) → [] ≡ before ++ element ++ after → {levels : ℕ} → IsBareElement true levels element → ⊥
-    nothing [] [] after e h = element_has_bytes h
-    nothing [] (c ∷ cs) after e h = cc
-    nothing (c ∷ cs) element after e h = cc
-
+-- an empty file gives no tree
 not_yet_reply : Reply compile_f (holding []) [] (status.NotYet 1)
-not_yet_reply = not_yet [] (f_reads [] (omega arith)) (λ library g. empty_is_not_bare g.bare)
+not_yet_reply = not_yet [] (f_reads [] (omega arith)) (λ library g. empty_gives_none g.tree g.given)
 
 -- The smallest file that declares an element, and the schema that is its reply.
 
@@ -201,6 +189,12 @@ one_element = codes "<schemaSpec xmlns=\"http://www.tei-c.org/ns/1.0\" ident=\"s
 
 abbrev schema : List ℕ
 schema = codes "<?xml version=\"1.0\" encoding=\"UTF-8\"?>\n<grammar xmlns=\"http://relaxng.org/ns/structure/1.0\" datatypeLibrary=\"http://www.w3.org/2001/XMLSchema-datatypes\">\n<start>\n<ref name=\"e.a\"/>\n</start>\n<define name=\"e.a\">\n<element name=\"a\" ns=\"http://www.tei-c.org/ns/1.0\">\n<empty/>\n</element>\n</define>\n</grammar>\n"
+
+abbrev tei_name : List ℕ → Name
+tei_name local = record { ns = tei_namespace; local = local }
+
+abbrev plain_name : List ℕ → Name
+plain_name local = record { ns = []; local = local }
 
 abbrev element_tree : Tree
 element_tree = roll-Tree (record {
@@ -220,9 +214,10 @@ root_tree = roll-Tree (record {
   at = 0;
 })
 
--- the reader's machine ends with this tree
-one_element_read : IsBare one_element × Spells one_element root_tree
-one_element_read = ended_reads one_element root_tree (record { kept = _; takes = refl; between = refl; rooted = refl })
+-- the reader ends with this tree
+one_element_read : GivesTree one_element root_tree
+unfolding encode is_char is_name_char is_name_start
+one_element_read = literal_gives one_element _ root_tree refl refl (record { between = refl; rooted = refl })
 
 abbrev a_key : Key
 a_key = element_key (codes "a")
@@ -233,9 +228,9 @@ one_doc = record { ident = codes "s"; start = codes "a" ∷ []; entries = entry.
 abbrev one_library : Library
 one_library = record { ident = codes "s"; start = codes "a" ∷ []; parts = (a_key, component.Element (record { content = content.Empty })) ∷ [] }
 
--- a bare name is a name
-name : (word : List ℕ) → IsTrue (is_bare_name word) → IsNCName word
-name word h = (word, ascii_name word h, bare_ncname word h)
+-- a name of ASCII
+name : (word : List ℕ) → IsTrue (is_ascii_name word) → IsNCName word
+name word h = (word, ascii_name word h, ascii_ncname word h)
 
 abbrev IsGiven : Tree → List ℕ → Type 0
 IsGiven t local = IsSome (attribute_value (out-Tree t).attrs local)
@@ -278,9 +273,8 @@ one_element_declares = record {
 
 one_element_gives : Gives one_element one_library
 one_element_gives = record {
-  bare = one_element_read.0;
   tree = root_tree;
-  spelled = one_element_read.1;
+  given = one_element_read;
   doc = one_doc;
   declared = one_element_declares;
   is_library = record { ident = refl; start = refl; rising = refl; holds = λ key. refl };
@@ -312,8 +306,9 @@ empty_tree = roll-Tree (record {
   at = 0;
 })
 
-no_element_read : IsBare no_element × Spells no_element empty_tree
-no_element_read = ended_reads no_element empty_tree (record { kept = _; takes = refl; between = refl; rooted = refl })
+no_element_read : GivesTree no_element empty_tree
+unfolding encode is_char is_name_char is_name_start
+no_element_read = literal_gives no_element _ empty_tree refl refl (record { between = refl; rooted = refl })
 
 abbrev empty_doc : OddDoc
 empty_doc = record { ident = codes "s"; start = codes "a" ∷ []; entries = [] }
@@ -327,9 +322,8 @@ none_once (b ∷ bs) between after item e = cc
 
 no_element_gives : Gives no_element empty_library
 no_element_gives = record {
-  bare = no_element_read.0;
   tree = empty_tree;
-  spelled = no_element_read.1;
+  given = no_element_read;
   doc = empty_doc;
   declared = record {
     start = codes "a";

@@ -37,7 +37,7 @@ one_reading words files b c p q =
 -- a file gives one library
 one_gift : (bytes : List ℕ) (l m : Library) → Gives bytes l → Gives bytes m → l ≡ m
 one_gift bytes l m p q =
-    let trees : p.tree ≡ q.tree = one_tree bytes p.tree q.tree p.spelled q.spelled in
+    let trees : p.tree ≡ q.tree = one_tree bytes p.tree q.tree p.given.spelled q.given.spelled in
     let docs : p.doc ≡ q.doc = one_doc q.tree p.doc q.doc (subst (λ t. Declares t p.doc) trees p.declared) q.declared in
     one_library q.doc l m (subst (λ d. IsLibraryOf d l) docs p.is_library) q.is_library
 
@@ -50,7 +50,7 @@ one_text words files t u (done b l p g h e) (done c m q k i f) =
 
 -- a tree that declares nothing gives no library
 pub gives_none : (bytes : List ℕ) (t : Tree) → Spells bytes t → ((doc : OddDoc) → Declares t doc → ⊥) → GivesNone bytes
-gives_none bytes t s none library g = none g.doc (subst (λ x. Declares x g.doc) (one_tree bytes g.tree t g.spelled s) g.declared)
+gives_none bytes t s none library g = none g.doc (subst (λ x. Declares x g.doc) (one_tree bytes g.tree t g.given.spelled s) g.declared)
 
 module _ (words : List (List ℕ)) (files : FileMap) (bytes : List ℕ) (reads : Reads words files bytes) where
   pub schema_replies : (r : Result (List ℕ) Status) → IfOk r (IsSchemaOf bytes) → IfOk r (λ text. Reply words files text status.Done)

@@ -4,8 +4,7 @@ use Rattle.odd_base.specs.Shelf.{FileMap, Held, NotHeld}
 use Rattle.odd_base.specs.declared.offence.Offence.{Offence}
 use Rattle.odd_base.specs.declared.offence.Who.TheVariants as who
 use Rattle.odd_reader.specs.declared.tree.Tree.{Tree}
-use Rattle.odd_reader.specs.Spelled.{Spells}
-use Rattle.odd_reader.specs.Bare.{IsBare}
+use Rattle.odd_reader.specs.Spelled.{GivesTree}
 use Rattle.odd_decls.specs.declared.odd.OddDoc.{OddDoc}
 use Rattle.odd_decls.specs.declared.library.Library.{Library}
 use Rattle.odd_decls.specs.Odd.{Declares}
@@ -28,11 +27,10 @@ pub record Reads (words : List (List ℕ)) (files : FileMap) (bytes : List ℕ) 
   pub held : Held files file bytes
   pub within : length bytes ≤ file_bytes
 
--- the file is bare, and the library is what its tree declares
+-- the file gives a tree, and the library is what that declares
 pub record Gives (bytes : List ℕ) (library : Library) : Type 0 where
-  pub bare : IsBare bytes
   pub tree : Tree
-  pub spelled : Spells bytes tree
+  pub given : GivesTree bytes tree
   pub doc : OddDoc
   pub declared : Declares tree doc
   pub is_library : IsLibraryOf doc library

@@ -128,7 +128,17 @@ fn a_file_has_its_answer(rt: HostRuntime) -> Result<(), Fail> {
         ),
         ("", 2, "odd: start a: rule 20\n"),
         ("<elementSpec ident=\"b\"/>", 2, "odd: start a: rule 20\n"),
-        ("<!--c-->", 10, "odd: file 1: not yet\n"),
+        ("<!--c-->", 2, "odd: start a: rule 20\n"),
+        (
+            "<?p?><!--c-->&#x20;<![CDATA[<]]><p:elementSpec xmlns:p='http://www.tei-c.org/ns/1.0' ident = '&#97;' />\r\n",
+            0,
+            "",
+        ),
+        (
+            "<elementSpec xmlns='' ident='a'/>",
+            10,
+            "odd: file 1: not yet\n",
+        ),
         (
             "<elementSpec ident=\"a\"/><elementSpec ident=\"a\"/>",
             10,

@@ -2,13 +2,13 @@
 use Rattle.std.proofs.Common.{◌≡◌, ℕ, List, [], ◌∷◌, ◌++◌, Option, Some, None, IsSome, refl, sym, ap, subst, codes, true, arith}
 use Rattle.std.proofs.lemmas.List.Elements.{All-nil, All-cons}
 use Rattle.odd_base.specs.declared.key.Kind.TheVariants as kind
-use Rattle.odd_reader.specs.Bare.{is_bare_name}
+use Rattle.odd_reader.proofs.Ascii.{is_ascii_name}
 use Rattle.odd_reader.specs.Characters.{IsNCName}
 use Rattle.odd_reader.specs.declared.tree.Attr.{Attr}
 use Rattle.odd_reader.specs.declared.tree.Node.{Node, Element}
 use Rattle.odd_reader.specs.declared.tree.Tree.{Tree, roll-Tree}
-use Rattle.odd_reader.proofs.BareSpelledDistinct.{none_twice}
-use Rattle.odd_reader.proofs.BareSpelledNames.{ascii_name, bare_ncname}
+use Rattle.odd_reader.proofs.Distinct.{none_twice}
+use Rattle.odd_reader.proofs.Ascii.{ascii_name, ascii_ncname}
 use Rattle.odd_decls.specs.declared.content.Content.{Content}
 use Rattle.odd_decls.specs.declared.content.Content.TheVariants as content
 use Rattle.odd_decls.specs.declared.library.Component.TheVariants as component
@@ -26,8 +26,8 @@ attribute local value = record { name = record { ns = []; local = local }; value
 abbrev element : ℕ → List ℕ → List Attr → List Node → Tree
 element at local attrs children = roll-Tree (record { name = tei local; attrs = attrs; binds = []; children = children; at = at })
 
-is_name : (name : List ℕ) → is_bare_name name ≡ true → IsNCName name
-is_name name h = (name, ascii_name name h, bare_ncname name h)
+is_name : (name : List ℕ) → is_ascii_name name ≡ true → IsNCName name
+is_name name h = (name, ascii_name name h, ascii_ncname name h)
 
 only_child : (t : Tree) → elements_of (Element t ∷ []) ≡ t ∷ []
 only_child t = ap (λ ts. ts ++ []) (element_shown (Element t) t refl)

@@ -9,13 +9,17 @@ use Rattle.odd_reader.specs.declared.tree.Node.{Node, Node-F, out-Node}
 use Rattle.odd_reader.specs.declared.tree.Node.TheOpen.{Element, Text}
 use Rattle.odd_reader.specs.Characters.{IsNCName}
 use Rattle.odd_reader.specs.Tokens.{NoneTwice}
-use Rattle.odd_reader.specs.Names.{is_same, tei_namespace}
+use Rattle.odd_reader.specs.Names.{is_same}
 use Rattle.odd_decls.specs.declared.content.Content.TheVariants as content
 use Rattle.odd_decls.specs.declared.content.Content.{Content}
 use Rattle.odd_decls.specs.declared.odd.Entry.TheVariants as entry
 use Rattle.odd_decls.specs.declared.odd.Entry.{Entry}
 use Rattle.odd_decls.specs.declared.odd.OddDoc.{OddDoc}
 use Rattle.odd_decls.specs.declared.spec.Spec.{Spec}
+
+-- the namespace of the TEI Guidelines
+abbrev pub tei_namespace : List ℕ
+tei_namespace = codes "http://www.tei-c.org/ns/1.0"
 
 -- the name of an element in it
 abbrev pub tei : List ℕ → Name

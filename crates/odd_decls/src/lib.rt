@@ -12,3 +12,6 @@ pub use library::{Component, ElementPart, Library, Parts, library_of};
 pub use odd::{Entries, Entry, OddDoc};
 pub use reading::{OddRefusal, read_odd};
 pub use spec::Spec;
+
+/// The namespace of the TEI Guidelines.
+pub const TEI: &str = "http://www.tei-c.org/ns/1.0";

@@ -7,11 +7,12 @@ ghost use Rattle.odd_decls.specs.declared.content.Content.{Content as AContent};
 ghost use Rattle.odd_decls.specs.declared.odd.Entry.{Entry as AnEntry};
 ghost use Rattle.odd_decls.specs.declared.odd.OddDoc.{OddDoc as ADoc};
 
+use crate::TEI;
 use crate::content::Content;
 use crate::odd::{Entries, Entry, OddDoc};
 use crate::spec::Spec;
 use odd_base::{Key, Kind, Map, NoMemory, Text, TryCopy, Words};
-use odd_reader::{Attr, Attrs, Node, TEI, Tree, is_ncname};
+use odd_reader::{Attr, Attrs, Node, Tree, is_ncname};
 use std::alloc::Global;
 
 /// Why a file declares nothing.

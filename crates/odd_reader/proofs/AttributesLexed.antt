@@ -48,7 +48,7 @@ white_stops p f (c ∷ cs) more h s = f c (and_parts _ _ h).0
 pub at_quote : (P : ℕ → Type 0) → P 0x22 → P 0x27 → (q : ℕ) → (q == 0x22 || q == 0x27) ≡ true → P q
 at_quote P a b q h = ⊎_elim (λ h₁. rw (eqb-true q 0x22 h₁) a) (λ h₁. rw (eqb-true q 0x27 h₁) b) (or_cases (q == 0x22) (q == 0x27) h)
 
-quote_not_space : (q : ℕ) → (q == 0x22 || q == 0x27) ≡ true → is_space q ≡ false
+pub quote_not_space : (q : ℕ) → (q == 0x22 || q == 0x27) ≡ true → is_space q ≡ false
 quote_not_space q h = at_quote (λ x. is_space x ≡ false) refl refl q h
 
 quote_not_amp : (q : ℕ) → (q == 0x22 || q == 0x27) ≡ true → q ≢ 0x26

@@ -1,16 +1,9 @@
--- The tables of characters are the classes of characters.
-use Rattle.std.proofs.Common.{◌≡◌, ℕ, ◌<◌, Bool, true, false, ◌&&◌, ◌||◌, ◌==◌, nat_le, leb, ⊎_elim, refl, sym, ◌∙◌, arith}
+-- The tables of characters are the classes of characters, and which classes are part of others.
+use Rattle.std.proofs.Common.{◌≡◌, ℕ, ◌<◌, ◌≤◌, true, ◌&&◌, ◌==◌, nat_le, leb, ⊎_elim, sym, ◌∙◌, arith}
 use Rattle.std.proofs.lemmas.Bool.{cases_order, eq-eqb, ne_eqb, le-leb, lt-leb, and_from, and_left, and_right}
-
--- a chain of tests in one order of brackets
-pub or_assoc : (a b c : Bool) → ((a || b) || c) ≡ (a || (b || c))
-or_assoc true b c = refl
-or_assoc false b c = refl
-
--- a test that always fails adds nothing
-pub or_none : (a : Bool) → (a || false) ≡ a
-or_none true = refl
-or_none false = refl
+use Rattle.std.proofs.lemmas.Bool.Decides.{nat_tests}
+use Rattle.std.specs.Char.{IsScalar}
+use Rattle.odd_reader.specs.Characters.{is_char, is_name_start, is_name_char}
 
 -- a range of one character
 pub within_one : (k c : ℕ) → (nat_le k c && nat_le c k) ≡ (c == k)
@@ -24,3 +17,22 @@ within_one k c = ⊎_elim same (⊎_elim below above) (cases_order c k)
 
     above : k < c → (nat_le k c && nat_le c k) ≡ (c == k)
     above h = and_right (leb k c) (leb c k) (lt-leb c k h) ∙ sym (ne_eqb c k (λ e. omega arith))
+
+-- a character of XML is one of Unicode
+pub char_scalar : (n : ℕ) → is_char n ≡ true → IsScalar n
+unfolding is_char
+char_scalar n h = grind (arith, nat_tests)
+
+pub char_is_small : (c : ℕ) → is_char c ≡ true → c ≤ 0x10FFFF
+unfolding is_char
+char_is_small c h = grind (arith, nat_tests)
+
+-- the characters of a name are characters of XML
+
+pub start_is_legal : (c : ℕ) → is_name_start c ≡ true → is_char c ≡ true
+unfolding is_name_start is_char
+start_is_legal c h = grind (arith, nat_tests)
+
+pub name_char_is_legal : (c : ℕ) → is_name_char c ≡ true → is_char c ≡ true
+unfolding is_name_char is_char
+name_char_is_legal c h = grind (arith, nat_tests, start_is_legal)

@@ -21,13 +21,14 @@ use Rattle.odd_reader.specs.Trees.{HasTag, IsElement, IsContent, empty, full}
 use Rattle.odd_reader.specs.Trees as Trees
 use Rattle.odd_reader.specs.Spelled.{Setting, IsSetting, Declaration, IsDeclaration, Opening, opening_written, IsDocument, Begins, Spells, IsWholeOpening, NoneFits, FaultPlace, DepthPlace, deepest}
 use Rattle.odd_reader.specs.Markup.{escaped_text, escaped_value, printed, line}
-use Rattle.odd_reader.proofs.BareSpelledDistinct.{none_twice}
+use Rattle.odd_reader.proofs.Distinct.{none_twice}
 use Rattle.odd_reader.proofs.Fits.{FitAfter, all_fit}
 use Rattle.odd_reader.proofs.Lexing.{same_tokens}
 use Rattle.odd_reader.proofs.Openings.{fitting_tokens, none_open}
 use Rattle.odd_reader.proofs.Readings.{one_content}
+use Rattle.odd_reader.proofs.Sizes.{bytes_of}
 use Rattle.odd_reader.proofs.TextsLexed.{same_at}
-use Rattle.odd_reader.proofs.Places.{bytes_of, Longer, one_here, tokens_part, ends_there, ends_at_end, behind, opening_first, first_of_bytes, one_fault, fault_comes_later, one_depth}
+use Rattle.odd_reader.proofs.Places.{Longer, one_here, tokens_part, ends_there, ends_at_end, behind, opening_first, first_of_bytes, one_fault, fault_comes_later, one_depth}
 
 -- Names
 

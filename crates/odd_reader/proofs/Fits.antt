@@ -25,16 +25,16 @@ open_after {es = es} (more {tag = tag} front inside b o e) c =
     more front (inside ++ es) b (open_after o c) (ap (λ z. z ++ es) e ∙ append_assoc front (start_tag tag ∷ inside) es)
 
 -- a start tag opens one more
-opened : (tag : Tag) {tags : List Tag} {before : List Token} → AreOpen tags before → AreOpen (tags ++ tag ∷ []) (before ++ start_tag tag ∷ [])
+pub opened : (tag : Tag) {tags : List Tag} {before : List Token} → AreOpen tags before → AreOpen (tags ++ tag ∷ []) (before ++ start_tag tag ∷ [])
 opened tag (none {ts = ts} b) = more ts [] b (none nothing) refl
 opened tag (more {tag = u} front inside b o e) =
     more front (inside ++ start_tag tag ∷ []) b (opened tag o) (ap (λ z. z ++ start_tag tag ∷ []) e ∙ append_assoc front (start_tag u ∷ inside) (start_tag tag ∷ []))
 
-binds_opened : (tags : List Tag) (tag : Tag) → open_binds (tags ++ tag ∷ []) ≡ open_binds tags ++ binds_of tag.attributes
+pub binds_opened : (tags : List Tag) (tag : Tag) → open_binds (tags ++ tag ∷ []) ≡ open_binds tags ++ binds_of tag.attributes
 binds_opened [] tag = append-nil (binds_of tag.attributes)
 binds_opened (t ∷ ts) tag = ap (λ z. binds_of t.attributes ++ z) (binds_opened ts tag) ∙ sym (append_assoc (binds_of t.attributes) (open_binds ts) (binds_of tag.attributes))
 
-innermost_opened : (u : Tag) (us : List Tag) (tag : Tag) → innermost u (us ++ tag ∷ []) ≡ tag
+pub innermost_opened : (u : Tag) (us : List Tag) (tag : Tag) → innermost u (us ++ tag ∷ []) ≡ tag
 innermost_opened u [] tag = refl
 innermost_opened u (v ∷ vs) tag = innermost_opened v vs tag
 

@@ -1,16 +1,17 @@
 -- The opening of a file is read in one way: no token that fits first is taken for a part of it.
-use Rattle.std.proofs.Common.{◌≡◌, ◌≢◌, ℕ, ◌+◌, Bool, true, false, not, ◌||◌, ◌==◌, if◌then◌else◌, List, [], ◌∷◌, ◌++◌, map, sym, refl, ap, ap₂, ◌∙◌, append_assoc, Option, Some, None, All, codes, drop, append-nil, ⊎_elim, arith}
+use Rattle.std.proofs.Common.{◌≡◌, ◌≢◌, ℕ, Bool, true, false, not, ◌||◌, ◌==◌, if◌then◌else◌, List, [], ◌∷◌, ◌++◌, map, sym, refl, ap, ap₂, ◌∙◌, append_assoc, Option, Some, None, All, codes, drop, append-nil, ⊎_elim, arith}
 use Rattle.std.proofs.lemmas.Bool.{and_from, and_parts, or_cases, or_parts, ne_eqb}
 use Rattle.std.proofs.lemmas.Bool.Decides.{nat_tests}
 use Rattle.std.proofs.lemmas.List.Elements.{All-nil, All-cons}
 use Rattle.std.proofs.lemmas.List.Folds.{list_all-append}
 use Rattle.std.specs.Cmp.Lexicographic.{same_text}
 use Rattle.std.specs.List.{list_all}
-use Rattle.odd_reader.specs.Characters.{is_within, is_space, is_name_char, is_name_start, is_white}
+use Rattle.odd_reader.specs.Characters.{is_space, is_name_char, is_name_start, is_white}
 use Rattle.odd_reader.specs.Fitting.{AreOpen, none, more, Fits, FitsIn, AllFit}
 use Rattle.odd_reader.specs.Names.{is_same}
 use Rattle.odd_reader.specs.Spelled.{Setting, setting_written, IsSetting, Declaration, declaration_written, IsDeclaration, Opening, opening_written, IsOpening}
 use Rattle.odd_reader.specs.Tokens.{Tag, Token, character, instruction, start_tag, IsToken, token_written, tokens_written}
+use Rattle.odd_reader.proofs.Ascii.{lowered}
 use Rattle.odd_reader.proofs.Fronts.{Stops, same_front, all_weaker}
 use Rattle.odd_reader.proofs.NamesLexed.{at_space, ncname_chars, space_ends}
 use Rattle.odd_reader.proofs.AttributesLexed.{at_quote}
@@ -57,7 +58,7 @@ tokens_stop : (ts : List Token) → AllFit ts → Stops is_mark (tokens_written 
 tokens_stop [] h = tt
 tokens_stop (t ∷ ts) h = unmarked _ (λ ds. no_mark t (tokens_written ts) ds (h [] ts t refl))
 
-abbrev mark_written : Bool → List ℕ
+abbrev pub mark_written : Bool → List ℕ
 mark_written m = if m then 0xFEFF ∷ [] else []
 
 same_mark : (m n : Bool) (xs ys : List ℕ) → Stops is_mark xs → Stops is_mark ys → mark_written m ++ xs ≡ mark_written n ++ ys → (m ≡ n) × (xs ≡ ys)
@@ -88,9 +89,6 @@ setting_plain name accepts s n v h =
 
 same_plain : (xs ys : List ℕ) → is_same xs ys ≡ true → IsPlain ys → IsPlain xs
 same_plain xs ys e h = rw (same_text xs ys (sym e)) h
-
-abbrev lowered : ℕ → ℕ
-lowered c = if is_within 0x41 0x5A c then c + 0x20 else c
 
 lowered_plain : (cs : List ℕ) → IsPlain (map lowered cs) → IsPlain cs
 lowered_plain [] h = refl

@@ -10,6 +10,7 @@ use Rattle.odd_reader.specs.Fitting.{is_start_or_empty, Fits, AllFit}
 use Rattle.odd_reader.specs.Spelled.{opening_written, Begins, IsWholeOpening, NoneFits, FaultPlace, DepthPlace, deepest}
 use Rattle.odd_reader.proofs.Lexing.{one_token, something_written}
 use Rattle.odd_reader.proofs.Openings.{fitting_tokens}
+use Rattle.odd_reader.proofs.Sizes.{bytes_of}
 
 -- characters, and bytes behind them: one goes on where the other ends
 
@@ -26,9 +27,6 @@ characters_part (x ∷ xs) (y ∷ ys) l m e =
     ⊎_elim (λ (g : GoesOn xs ys l m). inl (g.0, ap₂ ◌∷◌ (sym f.0) g.1, g.2)) (λ (g : GoesOn ys xs m l). inr (g.0, ap₂ ◌∷◌ f.0 g.1, g.2)) (characters_part xs ys l m f.1)
 
 -- tokens, and bytes behind them
-
-abbrev pub bytes_of : List Token → List ℕ
-bytes_of ts = encode_utf8_all (tokens_written ts)
 
 -- the token that begins here is one
 pub one_here : (t u : Token) (l m : List ℕ) → IsToken t → IsToken u → encode_utf8_all (token_written t) ++ l ≡ encode_utf8_all (token_written u) ++ m → (t ≡ u) × (l ≡ m)

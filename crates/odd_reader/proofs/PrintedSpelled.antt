@@ -8,12 +8,13 @@ use Rattle.odd_reader.specs.Tokens.{Token, tokens_written, size_of}
 use Rattle.odd_reader.specs.Fitting.{is_tag, AreOpen, none, nothing, piece}
 use Rattle.odd_reader.specs.Spelled.{Setting, IsDeclaration, Opening, opening_written, IsDocument, Spells}
 use Rattle.odd_reader.specs.Markup.{Pair, Markups, element, printed, file_printed}
-use Rattle.odd_reader.proofs.BareSpelledFits.{outer_space_fits}
-use Rattle.odd_reader.proofs.BareSpelledNames.{ascii_codes}
+use Rattle.odd_reader.proofs.Sizes.{bytes_of, bytes-append}
+use Rattle.odd_reader.proofs.SpacesFit.{outer_feed_fits}
+use Rattle.odd_reader.proofs.Ascii.{ascii_codes}
 use Rattle.odd_reader.proofs.Fits.{FitAfter, open_after, fit_append, all_fit}
 use Rattle.odd_reader.proofs.PrintedTrees.{IsPlainTag, ArePlain, IsNamespace, Shows}
 use Rattle.odd_reader.proofs.PrintedSpelledNames.{root_tag_spelled}
-use Rattle.odd_reader.proofs.PrintedSpelledElements.{ElementSpelled, bytes_of, bytes-append}
+use Rattle.odd_reader.proofs.PrintedSpelledElements.{ElementSpelled}
 use Rattle.odd_reader.proofs.PrintedSpelledLines.{feed, feed_before, with_lines, lines_spelled}
 
 -- the opening is the declaration, and the line break after it is a token
@@ -62,9 +63,9 @@ module _ (ns bytes : List ℕ) (Is : Tree → Type 0) (e : ElementSpelled true n
   file_fits : FitAfter [] file_tokens
   file_fits =
       let open_before : AreOpen [] (feed ∷ []) = none (piece refl nothing) in (
-        outer_space_fits 0xA [] refl (none nothing),
+        outer_feed_fits [] (none nothing),
         fit_append (feed ∷ []) e.tokens (feed ∷ []) (e.fit (feed ∷ []) (record { none_open = open_before; none_was = refl }))
-            (outer_space_fits 0xA (feed ∷ e.tokens) refl (open_after open_before e.balanced), tt),
+            (outer_feed_fits (feed ∷ e.tokens) (open_after open_before e.balanced), tt),
       )
 
   file_written : encode_utf8_all (opening_written printed_opening ++ tokens_written file_tokens) ≡ declaration_line ++ bytes

@@ -11,19 +11,14 @@ use Rattle.odd_reader.specs.Fitting.{IsBalanced}
 use Rattle.odd_reader.specs.Fitting as Fitting
 use Rattle.odd_reader.specs.Trees.{HasTag, IsElement, IsContent, empty, full}
 use Rattle.odd_reader.specs.Markup.{Pair, escaped_text, attributes_printed}
-use Rattle.odd_reader.proofs.BareSpelledNames.{ascii_codes}
-use Rattle.odd_reader.proofs.Fits.{written-append, Inside, around, Ready, FitAfter, inside_after, tag_opened, start_fits, empty_fits, end_fits, fit_append}
-use Rattle.odd_reader.proofs.PrintedTrees.{IsLegal, attr_of, HasHead, text_nodes}
+use Rattle.odd_reader.specs.Characters.{IsLegal}
+use Rattle.odd_reader.proofs.Ascii.{ascii_codes}
+use Rattle.odd_reader.proofs.Fits.{Inside, around, Ready, FitAfter, inside_after, tag_opened, start_fits, empty_fits, end_fits, fit_append}
+use Rattle.odd_reader.proofs.PrintedTrees.{attr_of, HasHead, text_nodes}
 use Rattle.odd_reader.proofs.PrintedSpelledNames.{binds_to, TagSpelled}
 use Rattle.odd_reader.proofs.PrintedSpelledCharacters.{text_token}
 use Rattle.odd_reader.proofs.PrintedSpelledTexts.{text_written, text_balanced, text_fits, text_content}
-
--- the bytes of tokens
-abbrev pub bytes_of : List Token → List ℕ
-bytes_of ts = encode_utf8_all (tokens_written ts)
-
-pub bytes-append : (xs ys : List Token) → bytes_of (xs ++ ys) ≡ bytes_of xs ++ bytes_of ys
-bytes-append xs ys = ap encode_utf8_all (written-append xs ys) ∙ encodes-append (tokens_written xs) (tokens_written ys)
+use Rattle.odd_reader.proofs.Sizes.{bytes_of, bytes-append}
 
 -- what an element is written as, without the line break after it, and what it is
 pub record ElementSpelled (is_root : Bool) (ns : List ℕ) (at : ℕ) (bytes : List ℕ) (Is : Tree → Type 0) : Type 0 where

@@ -2,23 +2,16 @@
 use Rattle.std.proofs.Common.{◌≡◌, ℕ, ◌<◌, Bool, true, List, arith, IsTrue}
 use Rattle.std.proofs.lemmas.Bool.Decides.{nat_tests}
 use Rattle.std.specs.List.{list_all}
-use Rattle.odd_reader.specs.Characters.{is_within, is_char, is_name_start, is_name_char, IsNCName}
-use Rattle.odd_reader.proofs.BareSpelledNames.{ascii_text, all_weaker}
+use Rattle.odd_reader.specs.Characters.{is_within, is_char, is_name_char, IsNCName, IsLegal}
+use Rattle.odd_reader.proofs.Ascii.{ascii_text}
+use Rattle.odd_reader.proofs.Characters.{name_char_is_legal}
+use Rattle.odd_reader.proofs.Fronts.{all_weaker}
 use Rattle.odd_reader.proofs.NamesLexed.{ncname_chars}
-use Rattle.odd_reader.proofs.PrintedTrees.{IsLegal}
 
 -- a name
 
-start_legal : (c : ℕ) → is_name_start c ≡ true → is_char c ≡ true
-unfolding is_name_start is_char
-start_legal c h = grind (arith, nat_tests)
-
-name_char_legal : (c : ℕ) → is_name_char c ≡ true → is_char c ≡ true
-unfolding is_name_char is_char
-name_char_legal c h = grind (arith, nat_tests, start_legal)
-
 pub ncname_legal : (bytes : List ℕ) → IsNCName bytes → IsLegal bytes
-ncname_legal bytes n = (n.0, n.1, all_weaker is_name_char is_char name_char_legal n.0 (ncname_chars n.0 n.2))
+ncname_legal bytes n = (n.0, n.1, all_weaker is_name_char is_char name_char_is_legal n.0 (ncname_chars n.0 n.2))
 
 -- ASCII from space to tilde
 

@@ -8,12 +8,13 @@ use Rattle.odd_reader.specs.Fitting as Fitting
 use Rattle.odd_reader.specs.Trees.{with_text, child}
 use Rattle.odd_reader.specs.Trees as Trees
 use Rattle.odd_reader.specs.Markup.{Pair, Markup, element, line, Markups, none, more, escaped_text, attributes_printed, printed, all_printed}
-use Rattle.odd_reader.proofs.BareSpelledFits.{space_fits}
-use Rattle.odd_reader.proofs.BareSpelledNames.{ascii_codes}
+use Rattle.odd_reader.proofs.Sizes.{bytes_of, bytes-append}
+use Rattle.odd_reader.proofs.SpacesFit.{feed_fits}
+use Rattle.odd_reader.proofs.Ascii.{ascii_codes}
 use Rattle.odd_reader.proofs.Fits.{balanced_append, inside_after, fit_append}
 use Rattle.odd_reader.proofs.PrintedTrees.{IsPlain, ArePlain, line_break, text_nodes, Shows, AreLines}
 use Rattle.odd_reader.proofs.PrintedSpelledNames.{binds_to, TagSpelled, plain_tag_spelled}
-use Rattle.odd_reader.proofs.PrintedSpelledElements.{bytes_of, bytes-append, ElementSpelled, ContentSpelled, inside_at, full_bytes, empty_spelled, full_spelled, text_spelled}
+use Rattle.odd_reader.proofs.PrintedSpelledElements.{ElementSpelled, ContentSpelled, inside_at, full_bytes, empty_spelled, full_spelled, text_spelled}
 
 abbrev pub feed : Token
 feed = character 0xA
@@ -41,7 +42,7 @@ broken ns ms at k = record {
   written = feed_before k.tokens ∙ ap (λ z. codes "\n" ++ z) k.written;
   is_content = Trees.piece k.nodes refl k.is_content (sym (break_before ns ms k.nodes k.are));
   balanced = Fitting.piece refl k.balanced;
-  fit = λ before i. (space_fits (binds_to ns) 0xA before refl i, k.fit (before ++ feed ∷ []) (inside_after i (Fitting.piece refl Fitting.nothing)));
+  fit = λ before i. (feed_fits (binds_to ns) before i, k.fit (before ++ feed ∷ []) (inside_after i (Fitting.piece refl Fitting.nothing)));
   are = (k.nodes, refl, k.are);
 }
 

@@ -8,8 +8,8 @@ use Rattle.odd_base.specs.declared.name.Bind.{Bind}
 use Rattle.odd_reader.specs.Tokens.{Tag, IsTag, name_written, tag_written}
 use Rattle.odd_reader.specs.Names.{binds_of, plain_attributes, element_name, attribute_read, IsBinding, NamesFit}
 use Rattle.odd_reader.specs.Markup.{Pair, attributes_printed}
-use Rattle.odd_reader.proofs.BareSpelledDistinct.{Lacks, Distinct, distinct, none_twice, distinct_made}
-use Rattle.odd_reader.proofs.BareSpelledNames.{ascii_codes, bare_ncname}
+use Rattle.odd_reader.proofs.Distinct.{Lacks, Distinct, distinct, none_twice, distinct_made}
+use Rattle.odd_reader.proofs.Ascii.{ascii_codes, ascii_ncname}
 use Rattle.odd_reader.proofs.Fits.{around}
 use Rattle.odd_reader.proofs.PrintedTrees.{IsPlainAttribute, IsPlainTag, IsNamespace, attr_of}
 use Rattle.odd_reader.proofs.PrintedSpelledCharacters.{value_piece}
@@ -156,7 +156,7 @@ root_tag_spelled ns name attributes n p =
     let declaration : Pair = (codes "xmlns", l) in
     let h : IsCharTag p.named.0 (declaration ∷ d.chars) = record {
       named = p.named.2;
-      attributed = All-cons IsCharAttribute declaration d.chars (bare_ncname (codes "xmlns") refl, n.legal.2) d.attributed;
+      attributed = All-cons IsCharAttribute declaration d.chars (ascii_ncname (codes "xmlns") refl, n.legal.2) d.attributed;
       once = none_twice _ (d.others, names);
     } in
     let spelled = root_spelled l p.named.0 d.chars h d.others (subst IsNamespace (sym n.legal.1) n) in

@@ -1,18 +1,12 @@
 -- A printed tree whose text is read back, and the tree that it spells.
-use Rattle.std.specs.Prelude.{◌≡◌, ◌≢◌, ℕ, List, [], ◌∷◌, map, IsTrue, All, codes}
-use Rattle.std.specs.List.{list_all}
-use Rattle.std.specs.Str.{encode_utf8_all}
+use Rattle.std.specs.Prelude.{◌≡◌, ◌≢◌, ℕ, List, [], ◌∷◌, map, All, codes}
 use Rattle.odd_reader.specs.declared.tree.Attr.{Attr}
 use Rattle.odd_reader.specs.declared.tree.Tree.{Tree, out-Tree}
 use Rattle.odd_reader.specs.declared.tree.Node.{Node, Element, Text}
-use Rattle.odd_reader.specs.Characters.{is_char, IsNCName}
+use Rattle.odd_reader.specs.Characters.{IsNCName, IsLegal}
 use Rattle.odd_reader.specs.Tokens.{NoneTwice}
 use Rattle.odd_reader.specs.Names.{xml_namespace, xmlns_namespace}
 use Rattle.odd_reader.specs.Markup.{Pair, Markup, element, line, Markups, none, more}
-
--- the bytes of characters of XML
-abbrev pub IsLegal : List ℕ → Type 0
-IsLegal bytes = (cs : List ℕ) × (encode_utf8_all cs ≡ bytes) × IsTrue (list_all is_char cs)
 
 -- an attribute without a prefix that is no declaration
 pub record IsPlainAttribute (a : Pair) : Type 0 where

@@ -36,7 +36,7 @@ space_stops : (w more : List ℕ) → (w ≢ []) → is_white w ≡ true → Sto
 space_stops [] more n h = absurd (n refl)
 space_stops (c ∷ cs) more n h = space_ends c (and_parts _ _ h).0
 
-attributes_stop : (xs : List Attribute) (s more : List ℕ) → All IsAttribute xs → is_white s ≡ true → Closes more → Stops is_name_part (attributes_written xs ++ (s ++ more))
+pub attributes_stop : (xs : List Attribute) (s more : List ℕ) → All IsAttribute xs → is_white s ≡ true → Closes more → Stops is_name_part (attributes_written xs ++ (s ++ more))
 attributes_stop [] s more h w c = white_stops is_name_part space_ends s more w (closing_ends more c)
 attributes_stop (a ∷ xs) s more h w c =
     let i = All-head IsAttribute a xs h in
@@ -62,7 +62,7 @@ same_attributes (x ∷ xs) (y ∷ ys) s r more rest a b v w c d e =
     let g : (xs ≡ ys) × (s ≡ r) × (more ≡ rest) = same_attributes xs ys s r more rest (All-tail IsAttribute x xs a) (All-tail IsAttribute y ys b) v w c d f.1 in
     (cc (f.0, g.0), g.1, g.2)
 
-tag_parts : (t : Tag) (more : List ℕ) → tag_written t ++ more ≡ name_written t.name ++ (attributes_written t.attributes ++ (t.space ++ more))
+pub tag_parts : (t : Tag) (more : List ℕ) → tag_written t ++ more ≡ name_written t.name ++ (attributes_written t.attributes ++ (t.space ++ more))
 tag_parts t more = simp append_assoc
 
 pub one_tag : (t u : Tag) (more rest : List ℕ) → IsTag t → IsTag u → Closes more → Closes rest → tag_written t ++ more ≡ tag_written u ++ rest → (t ≡ u) × (more ≡ rest)

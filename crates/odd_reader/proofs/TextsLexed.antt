@@ -3,7 +3,7 @@ use Rattle.std.proofs.Common.{◌≡◌, ◌≢◌, ℕ, List, [], ◌∷◌, �
 use Rattle.odd_reader.specs.Tokens.{LacksPart}
 use Rattle.odd_reader.proofs.Fronts.{same_until}
 
-lacks_later : (part : List ℕ) (c : ℕ) (cs : List ℕ) → LacksPart part (c ∷ cs) → LacksPart part cs
+pub lacks_later : (part : List ℕ) (c : ℕ) (cs : List ℕ) → LacksPart part (c ∷ cs) → LacksPart part cs
 lacks_later part c cs h before after e = h (c ∷ before) after (ap (λ l. c ∷ l) e)
 
 -- one list has one character at each place
@@ -29,7 +29,7 @@ one_instruction = same_until (codes "?>") (LacksPart (codes "?>")) (lacks_later 
 abbrev pub IsInComment : List ℕ → Type 0
 IsInComment text = LacksPart (codes "--") text × ((front : List ℕ) → text ≢ front ++ codes "-")
 
-comment_later : (c : ℕ) (cs : List ℕ) → IsInComment (c ∷ cs) → IsInComment cs
+pub comment_later : (c : ℕ) (cs : List ℕ) → IsInComment (c ∷ cs) → IsInComment cs
 comment_later c cs h = (lacks_later (codes "--") c cs h.0, λ front e. h.1 (c ∷ front) (ap (λ l. c ∷ l) e))
 
 comment_apart : (c : ℕ) (cs more rest : List ℕ) → IsInComment (c ∷ cs) → c ∷ (cs ++ (codes "--" ++ more)) ≢ codes "--" ++ rest

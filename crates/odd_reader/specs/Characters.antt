@@ -37,3 +37,7 @@ is_white cs = list_all is_space cs
 -- the bytes of a text that is an NCName
 abbrev pub IsNCName : List ℕ → Type 0
 IsNCName bytes = (cs : List ℕ) × (encode_utf8_all cs ≡ bytes) × IsTrue (is_ncname cs)
+
+-- the bytes of characters of XML
+abbrev pub IsLegal : List ℕ → Type 0
+IsLegal bytes = (cs : List ℕ) × (encode_utf8_all cs ≡ bytes) × IsTrue (list_all is_char cs)

@@ -1,10 +1,13 @@
-pub mod Bare
+pub mod Building
 pub mod Characters
+pub mod Declaring
 pub mod Fitting
-pub mod Keeping
-pub mod Machine
+pub mod Formed
+pub mod Lexing
+pub mod Making
 pub mod Markup
 pub mod Names
+pub mod Reading
 pub mod Spelled
 pub mod Tokens
 pub mod Trees

@@ -9,10 +9,6 @@ use Rattle.odd_reader.specs.declared.tree.Attr.{Attr}
 use Rattle.odd_reader.specs.Characters.{is_space}
 use Rattle.odd_reader.specs.Tokens.{QName, Piece, itself, reference, Attribute, Tag, character_of, NoneTwice}
 
--- the namespace of the TEI Guidelines
-abbrev pub tei_namespace : List ℕ
-tei_namespace = codes "http://www.tei-c.org/ns/1.0"
-
 abbrev pub xml_namespace : List ℕ
 xml_namespace = codes "http://www.w3.org/XML/1998/namespace"
 
@@ -58,7 +54,7 @@ first_some None other = other
 first_some (Some x) other = Some x
 
 -- section 6.1: the last binding of a prefix is in force, and xml is bound from the start
-abbrev last_bound : List Bind → List ℕ → Option (List ℕ)
+abbrev pub last_bound : List Bind → List ℕ → Option (List ℕ)
 last_bound [] prefix = None
 last_bound (b ∷ bs) prefix = first_some (last_bound bs prefix) (if is_same b.prefix prefix then Some b.ns else None)
 

@@ -135,6 +135,11 @@ abbrev pub NoneTooDeep : List Token → Type 0
 NoneTooDeep ts = (before after : List Token) (t : Token) (open_tags : List Tag) → ts ≡ before ++ t ∷ after → is_start_or_empty t ≡ true → AreOpen open_tags before
     → length open_tags < deepest
 
+-- the file spells the tree, and has no more levels than a file may have
+pub record GivesTree (bytes : List ℕ) (t : Tree) : Type 0 where
+  pub spelled : Spells bytes t
+  pub shallow : NoneTooDeep spelled.whole.tokens
+
 -- the first fitting tag that opens one level too many is at the place, and no fault is there or before it
 pub record DepthPlace (bytes : List ℕ) (place : ℕ) : Type 0 where
   pub left : List ℕ

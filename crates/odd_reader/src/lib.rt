@@ -1,17 +1,22 @@
 //! XML 1.0 with namespaces: from the bytes of a file to its tree, and the tags of what is printed.
 #![tactic(auto)]
 
+mod bindings;
+mod builder;
+mod character;
+mod declaration;
+mod lexer;
 pub mod names;
 pub mod printing;
 pub mod reader;
+mod token;
 pub mod tree;
 
 pub use names::is_ncname;
 pub use reader::{ReadRefusal, read_tree};
 pub use tree::{Attr, Attrs, Node, Nodes, Tree};
 
-/// The namespace of the TEI Guidelines.
-pub const TEI: &str = "http://www.tei-c.org/ns/1.0";
-
+#[cfg(test)]
+mod files;
 #[cfg(test)]
 mod tests;

@@ -1,8 +1,188 @@
-//! What the tags look like with each character that is escaped.
+//! Files and their trees, and what the tags look like with each character that is escaped.
 
+use crate::files::{
+    CDATA, ELEMENTS, NAMES, NAMESPACES, NO_CHARACTERS, NO_DECLARATIONS, NO_DOCUMENTS, NO_NAMES,
+    NO_NAMESPACES, NO_TOKENS, NO_UTF8, OPENINGS, PASSED, TEXTS, VALUES,
+};
 use crate::printing::{add_attribute, add_escaped_text};
-use odd_base::Text;
+use crate::reader::{ReadRefusal, read_tree};
+use crate::tree::{Node, Tree};
+use odd_base::{Name, NoMemory, Text};
+use std::alloc::Global;
+use std::process::Abort;
 use std::test::Fail;
+
+fn add_name(out: &mut Text, name: &Name) -> Result<(), NoMemory> {
+    if !name.ns.as_str().is_empty() {
+        out.push('{')?;
+        out.push_str(name.ns.as_str())?;
+        out.push('}')?;
+    }
+    out.push_str(name.local.as_str())
+}
+
+// A start tag as src/files.rt writes it.
+fn add_tag(alloc: Global, out: &mut Text, tree: &Tree) -> Result<(), Fail> {
+    add_name(out, &tree.name)?;
+    out.push_str(format!(in alloc; "@{}", tree.at)?.as_str())?;
+    for bind in tree.binds.as_slice() {
+        out.push_str(format!(in alloc;
+            " {}:={}",
+            bind.prefix.as_str(),
+            bind.ns.as_str()
+        )?.as_str())?;
+    }
+    for attr in tree.attrs.as_slice() {
+        out.push(' ')?;
+        add_name(out, &attr.name)?;
+        out.push_str(format!(in alloc; "='{}'", attr.value.as_str())?.as_str())?;
+    }
+    Ok(())
+}
+
+fn add_tree(alloc: Global, out: &mut Text, tree: &Tree) -> Result<(), Fail> {
+    add_tag(alloc, out, tree)?;
+    let mut before = '(';
+    for node in tree.children.as_slice() {
+        out.push(before)?;
+        before = ' ';
+        match node {
+            Node::Element(child) => add_tree(alloc, out, child)?,
+            Node::Text(text) => {
+                out.push('\'')?;
+                out.push_str(text.as_str())?;
+                out.push('\'')?;
+            }
+        }
+    }
+    if before == ' ' {
+        out.push(')')?;
+    }
+    Ok(())
+}
+
+// Each file has the tree that stands beside it.
+fn have_trees(rt: &impl Abort, alloc: Global, files: &[(&str, &str)]) -> Result<(), Fail> {
+    for (file, expected) in files {
+        let mut shown = Text::new(alloc);
+        match read_tree(alloc, file.as_bytes()) {
+            Ok(tree) => add_tree(alloc, &mut shown, &tree)?,
+            Err(_) => shown.push_str("none")?,
+        }
+        assert_eq!(rt; shown.as_str(), *expected, "{file}");
+    }
+    Ok(())
+}
+
+// None of the files has a tree.
+fn have_no_tree(rt: &impl Abort, alloc: Global, files: &[&str]) -> Result<(), Fail> {
+    for file in files {
+        let read = read_tree(alloc, file.as_bytes());
+        assert!(rt; matches!(read, Err(ReadRefusal::NotYet)), "{file}");
+    }
+    Ok(())
+}
+
+#[test]
+fn elements_have_their_trees(rt: HostRuntime) -> Result<(), Fail> {
+    have_trees(&rt, rt.alloc(), &ELEMENTS)
+}
+
+#[test]
+fn values_are_normalised(rt: HostRuntime) -> Result<(), Fail> {
+    have_trees(&rt, rt.alloc(), &VALUES)
+}
+
+#[test]
+fn texts_have_their_line_ends_and_references(rt: HostRuntime) -> Result<(), Fail> {
+    have_trees(&rt, rt.alloc(), &TEXTS)
+}
+
+#[test]
+fn cdata_gives_its_text(rt: HostRuntime) -> Result<(), Fail> {
+    have_trees(&rt, rt.alloc(), &CDATA)
+}
+
+#[test]
+fn comments_and_instructions_are_passed_over(rt: HostRuntime) -> Result<(), Fail> {
+    have_trees(&rt, rt.alloc(), &PASSED)
+}
+
+#[test]
+fn names_reach_to_the_borders_of_their_ranges(rt: HostRuntime) -> Result<(), Fail> {
+    have_trees(&rt, rt.alloc(), &NAMES)
+}
+
+#[test]
+fn names_are_expanded(rt: HostRuntime) -> Result<(), Fail> {
+    have_trees(&rt, rt.alloc(), &NAMESPACES)
+}
+
+#[test]
+fn a_file_may_have_an_opening(rt: HostRuntime) -> Result<(), Fail> {
+    have_trees(&rt, rt.alloc(), &OPENINGS)
+}
+
+#[test]
+fn a_file_has_one_root(rt: HostRuntime) -> Result<(), Fail> {
+    have_no_tree(&rt, rt.alloc(), &NO_DOCUMENTS)
+}
+
+#[test]
+fn what_is_no_token_is_refused(rt: HostRuntime) -> Result<(), Fail> {
+    have_no_tree(&rt, rt.alloc(), &NO_TOKENS)
+}
+
+#[test]
+fn a_declaration_has_its_form(rt: HostRuntime) -> Result<(), Fail> {
+    have_no_tree(&rt, rt.alloc(), &NO_DECLARATIONS)
+}
+
+#[test]
+fn a_name_has_its_characters(rt: HostRuntime) -> Result<(), Fail> {
+    have_no_tree(&rt, rt.alloc(), &NO_NAMES)
+}
+
+#[test]
+fn a_prefix_is_declared_as_it_may_be(rt: HostRuntime) -> Result<(), Fail> {
+    have_no_tree(&rt, rt.alloc(), &NO_NAMESPACES)
+}
+
+#[test]
+fn a_file_has_characters_of_xml(rt: HostRuntime) -> Result<(), Fail> {
+    have_no_tree(&rt, rt.alloc(), &NO_CHARACTERS)
+}
+
+#[test]
+fn a_file_is_utf8(rt: HostRuntime) -> Result<(), Fail> {
+    for file in NO_UTF8 {
+        let read = read_tree(rt.alloc(), file);
+        assert!(rt; matches!(read, Err(ReadRefusal::NotYet)), "{file:?}");
+    }
+    Ok(())
+}
+
+// Elements in one another, of so many levels.
+fn nested(alloc: Global, levels: usize) -> Result<Text, NoMemory> {
+    let mut file = Text::new(alloc);
+    for _level in 0..levels {
+        file.push_str("<a>")?;
+    }
+    for _level in 0..levels {
+        file.push_str("</a>")?;
+    }
+    Ok(file)
+}
+
+#[test]
+fn a_file_has_at_most_200_levels(rt: HostRuntime) -> Result<(), Fail> {
+    let file = nested(rt.alloc(), 200)?;
+    assert!(rt; read_tree(rt.alloc(), file.as_str().as_bytes()).is_ok());
+    let file = nested(rt.alloc(), 201)?;
+    let read = read_tree(rt.alloc(), file.as_str().as_bytes());
+    assert!(rt; matches!(read, Err(ReadRefusal::NotYet)));
+    Ok(())
+}
 
 #[test]
 fn a_value_and_a_text_are_escaped(rt: HostRuntime) -> Result<(), Fail> {

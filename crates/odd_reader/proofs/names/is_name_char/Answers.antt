@@ -1,6 +1,7 @@
 use Rattle.std.proofs.Common.{◌≡◌, true, false, ◌∙◌, sym}
 use Rattle.odd_reader.specs.Characters.{is_name_start as a_name_start, is_name_char as a_name_char}
-use Rattle.odd_reader.proofs.Characters.{or_assoc, or_none, within_one}
+use Rattle.std.proofs.Math.Bool.{or_assoc, or-false}
+use Rattle.odd_reader.proofs.Characters.{within_one}
 use Rattle.odd_reader.proofs.names.is_name_char.Goals as goal
 
 pub returns-then-is_name_start : goal.returns-then-is_name_start
@@ -13,4 +14,4 @@ pub returns-else-is_name_start : goal.returns-else-is_name_start
 unfolding a_name_char
 returns-else-is_name_start c =
     let is : a_name_start c.args.c ≡ false = sym c.is_name_start.ensures ∙ c.if-is_name_start.false in
-    c.is_in.ensures ∙ simp (is, or_assoc, or_none, within_one)
+    c.is_in.ensures ∙ simp (is, or_assoc, or-false, within_one)

@@ -1,7 +1,7 @@
-use Rattle.std.proofs.Common.{◌≡◌, Some, take}
-use Rattle.odd_reader.specs.Keeping.{kept_of}
-use Rattle.odd_reader.specs.Machine.{started, taken}
+use Rattle.std.specs.Str.Iter.{char_indices_offset, char_indices_rest}
+use Rattle.odd_reader.specs.Reading.{read_of}
+use Rattle.odd_reader.proofs.ReadTo.{IsReadTo}
 use Rattle.odd_reader.proofs.reader.read_tree.Given as goal
 
 abbrev pub invariant-loop-at : goal.invariant-loop-at
-invariant-loop-at l = taken (Some started) 0 (take l.at l.bytes) ≡ Some (kept_of l.reader)
+invariant-loop-at l = IsReadTo l.bytes (char_indices_rest l.at-iterator) (read_of l.reader (char_indices_offset l.at-iterator))

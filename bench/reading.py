@@ -1,0 +1,95 @@
+#!/usr/bin/env python3
+"""How fast a large ODD file is read, and in how much memory, beside xmllint.
+
+    bench/reading.py PROGRAM [FOLDER]
+
+writes two files into FOLDER (a new one under /tmp where none is given): an ODD file of 15 MB with 20,000 elementSpec
+among comments, prose, references and CDATA sections, and a file whose root has 200,000 attributes. Then it runs
+`PROGRAM compile FILE` and `xmllint --noout FILE` in turn, seven times each, and prints the least time in seconds and
+the greatest memory in MB. The program reads the whole file and then answers with code 10, since it does not take such
+declarations yet. The second file goes to PROGRAM alone: xmllint compares its attributes in pairs, for many minutes.
+"""
+import os
+import sys
+import tempfile
+import time
+
+SPECS = 20_000
+ATTRIBUTES = 200_000
+RUNS = 7
+WORDS = "the name of a person, place or thing as it stands in the source".split()
+
+
+def prose(number):
+    words = " ".join(WORDS[(number + i) % len(WORDS)] for i in range(32))
+    return f"<p xml:id=\"p{number}\" rend='it&#x61;lic &amp; bold'>{words} &#8212; {words} &lt;hi&gt;</p>"
+
+
+def spec(number):
+    return (
+        f"  <!-- specification {number} of {SPECS} -->\r\n"
+        f'  <elementSpec ident="e{number}" module="m{number % 20}">\n'
+        f"    <gloss xml:lang='en'>an element</gloss>\n"
+        f"    <desc>{WORDS[number % len(WORDS)]} &quot;quoted&quot;, caf\u00e9</desc>\n"
+        f"    <content><textNode/></content>\n"
+        f"    <exemplum><egXML xmlns='http://www.tei-c.org/ns/Examples'><![CDATA[<e{number} n=\"1\">text</e{number}>]]></egXML></exemplum>\n"
+        f"    <remarks>{prose(number)}</remarks>\n"
+        f"  </elementSpec>\n"
+    )
+
+
+def odd_file():
+    specs = "".join(spec(number) for number in range(SPECS))
+    return (
+        '<?xml version="1.0" encoding="UTF-8"?>\n<?xml-model href="odd.rng"?>\n'
+        '<TEI xmlns="http://www.tei-c.org/ns/1.0"><text><body>\n'
+        f'<schemaSpec ident="large" start="e0">\n{specs}</schemaSpec>\n</body></text></TEI>\n'
+    )
+
+
+def wide_file():
+    attributes = "".join(f" a{number}='{number}'" for number in range(ATTRIBUTES))
+    return f"<wide{attributes}/>\n"
+
+
+def run(words):
+    """The seconds and the peak memory in MB of one run."""
+    begin = time.perf_counter()
+    child = os.fork()
+    if child == 0:
+        null = os.open(os.devnull, os.O_RDWR)
+        for stream in (0, 1, 2):
+            os.dup2(null, stream)
+        os.execvp(words[0], words)
+    _, status, usage = os.wait4(child, 0)
+    return time.perf_counter() - begin, usage.ru_maxrss / 1024, os.waitstatus_to_exitcode(status)
+
+
+def main():
+    if len(sys.argv) not in (2, 3):
+        sys.exit(__doc__)
+    program = sys.argv[1]
+    folder = sys.argv[2] if len(sys.argv) == 3 else tempfile.mkdtemp(prefix="odd-bench-")
+    os.makedirs(folder, exist_ok=True)
+    for name, text, beside in (("large.odd", odd_file(), True), ("wide.xml", wide_file(), False)):
+        path = os.path.join(folder, name)
+        with open(path, "wb") as out:
+            out.write(text.encode("utf-8"))
+        size = os.path.getsize(path)
+        print(f"{path}: {size} bytes")
+        readers = [[program, "compile", path]]
+        if beside:
+            readers.append(["xmllint", "--huge", "--noout", path])
+        runs = [[] for _ in readers]
+        for _ in range(RUNS):
+            for which, words in enumerate(readers):
+                runs[which].append(run(words))
+        for which, words in enumerate(readers):
+            seconds = min(r[0] for r in runs[which])
+            memory = max(r[1] for r in runs[which])
+            codes = sorted({r[2] for r in runs[which]})
+            print(f"  {words[0]}: {seconds:.3f} s, {memory:.0f} MB, {memory * 1048576 / size:.1f} times the file, codes {codes}")
+
+
+if __name__ == "__main__":
+    main()
