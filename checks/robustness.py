@@ -20,7 +20,7 @@ import tempfile
 
 TEI = b"http://www.tei-c.org/ns/1.0"
 SEED = 20261127
-NAMED = {0, 2, 5, 8, 10}
+NAMED = {0, 2, 3, 5, 8, 10}
 PIECES = [
     b"<", b">", b"/>", b"</", b"=", b'"', b"'", b"&", b"&amp;", b"&#60;", b"<!--", b"-->", b"<![CDATA[", b"]]>", b"<?", b"?>",
     b"<?xml", b"<!DOCTYPE", b"xmlns", b"xmlns:", b":", b" ", b"\n", b"\r", b"\t", b"\0", b"\xef\xbb\xbf", b"\xc3\xa9", b"\xff", b"\xed\xa0\x80",

@@ -1,5 +1,5 @@
 -- Small checks of what the definitions of this crate say: where they hold, and where they do not.
-use Rattle.std.proofs.Common.{◌≡◌, ◌≤◌, ℕ, Bool, true, false, List, [], ◌∷◌, ◌++◌, length, None, refl, sym, ap, subst, ◌∙◌, arith, slice_get}
+use Rattle.std.proofs.Common.{◌≡◌, ◌≤◌, ℕ, false, List, [], ◌∷◌, ◌++◌, length, None, refl, sym, ap, subst, ◌∙◌, arith, slice_get}
 use Rattle.std.specs.Fmt.{digits}
 use Rattle.std.specs.Prelude.{◌≢◌, codes, IsTrue, IsSome}
 use Rattle.std.specs.FinMap as map
@@ -20,7 +20,10 @@ use Rattle.odd_decls.proofs.Elements.{element_shown}
 use Rattle.odd_reader.specs.Spelled.{GivesTree}
 use Rattle.odd_reader.specs.declared.tree.Tree.{Tree, roll-Tree, out-Tree}
 use Rattle.odd_reader.specs.declared.tree.Node.{Element}
-use Rattle.odd_reader.proofs.ReadTrees.{literal_gives, empty_gives_none}
+use Rattle.odd_reader.specs.Reading.{nothing_read}
+use Rattle.odd_reader.proofs.Faults.{ended_place}
+use Rattle.odd_reader.proofs.ReadTo.{nothing_read_to}
+use Rattle.odd_reader.proofs.ReadTrees.{literal_gives}
 use Rattle.odd_decls.specs.Odd.{Declares, HoldsItems, StandsIn, absent, attribute_value, element_key, elements_of, tei_namespace}
 use Rattle.odd_decls.specs.declared.content.Content.TheVariants as content
 use Rattle.odd_decls.specs.declared.library.Component.TheVariants as component
@@ -31,7 +34,7 @@ use Rattle.std.specs.declared.cmp.Ordering.TheVariants.{Less}
 use Rattle.compile_core.specs.Schema.{IsLeastMissing}
 use Rattle.odd_cli.specs.Note.{code_of, note_text}
 use Rattle.odd_cli.specs.Words.{Compiles, WordsMean, compile}
-use Rattle.odd_cli.specs.Reply.{Reply, Reads, Gives, no_job, no_file, too_long, not_yet, refused, done}
+use Rattle.odd_cli.specs.Reply.{Reply, Reads, Gives, not_xml, start_missing, no_job, no_file, too_long, refused, done}
 use Rattle.odd_cli.specs.declared.words.Command.TheVariants as command
 use Rattle.odd_cli.specs.declared.words.Job.{Job}
 use Rattle.odd_cli.specs.declared.status.LimitKind.TheVariants as limit
@@ -151,6 +154,7 @@ usage_writes_nothing files h = elim h [ ]
 -- `compile f` is no usage
 job_is_no_usage : (files : FileMap) → Reply compile_f files [] status.Usage → ⊥
 job_is_no_usage files (no_job none) = none compile_job f_has_a_job
+job_is_no_usage files (refused bytes p f) = elim f [ ]
 
 -- a shelf without `f`
 not_held_reply : Reply compile_f map.empty [] (status.ReadFault 1)
@@ -158,14 +162,14 @@ not_held_reply = no_file (codes "f") f_compiles (map.get-empty text_cmp (codes "
 
 -- another number is no reply
 not_held_is_file_one : (words : List (List ℕ)) (files : FileMap) → Reply words files [] (status.ReadFault 2) → ⊥
-not_held_is_file_one words files h = elim h [ ]
+not_held_is_file_one words files (refused bytes p f) = elim f [ ]
 
 -- the outside's other failures are no reply
 no_memory_is_no_reply : (words : List (List ℕ)) (files : FileMap) (text : List ℕ) → Reply words files text status.NoMemory → ⊥
-no_memory_is_no_reply words files text h = elim h [ ]
+no_memory_is_no_reply words files text (refused bytes p f) = elim f [ ]
 
 write_fault_is_no_reply : (words : List (List ℕ)) (files : FileMap) (text : List ℕ) → Reply words files text status.WriteFault → ⊥
-write_fault_is_no_reply words files text h = elim h [ ]
+write_fault_is_no_reply words files text (refused bytes p f) = elim f [ ]
 
 -- a file of 16,777,217 bytes is too long, and one of 16,777,216 is not
 too_long_reply : (bytes : List ℕ) → length bytes ≡ 16777217 → Reply compile_f (holding bytes) [] (status.Limit (limit.Bytes 1))
@@ -177,10 +181,11 @@ longest_is_read bytes e (too_long file other c h long) =
     let same : bytes ≡ other = same_Some bytes other (sym (f_held bytes) ∙ ap (map.get (holding bytes)) f_is ∙ h) in
     let short : length other ≡ 16777216 = sym (ap length same) ∙ e in
     omega (arith, short, long)
+longest_is_read bytes e (refused c p f) = elim f [ ]
 
--- an empty file gives no tree
-not_yet_reply : Reply compile_f (holding []) [] (status.NotYet 1)
-not_yet_reply = not_yet [] (f_reads [] (omega arith)) (λ library g. empty_gives_none g.tree g.given)
+-- an empty file is not XML from its end on
+empty_reply : Reply compile_f (holding []) [] (status.NotXml 1 0)
+empty_reply = refused [] (f_reads [] (omega arith)) (not_xml 0 (ended_place [] [] nothing_read (nothing_read_to [] nothing_read refl) refl (λ t f. let no = f.rooted in cc)))
 
 -- The smallest file that declares an element, and the schema that is its reply.
 
@@ -350,4 +355,4 @@ a_is_least = record { among = ([], [], refl); missing = refl; least = least }
     least other (b ∷ (c ∷ cs), after, e) missing less = cc
 
 refused_reply : Reply compile_f (holding no_element) [] (status.Refused (record { file = 1; who = who.Start (codes "a"); rule = 20 }))
-refused_reply = refused no_element (codes "a") empty_library (f_reads no_element (omega arith)) no_element_gives a_is_least refl
+refused_reply = refused no_element (f_reads no_element (omega arith)) (start_missing (codes "a") empty_library no_element_gives a_is_least refl)

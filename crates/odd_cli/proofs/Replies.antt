@@ -10,7 +10,9 @@ use Rattle.std.specs.declared.cmp.Ordering.TheVariants.{Less, Equal, Greater}
 use Rattle.odd_base.specs.Text.{text_cmp}
 use Rattle.odd_base.specs.Shelf.{FileMap, Held, NotHeld}
 use Rattle.odd_reader.specs.declared.tree.Tree.{Tree}
-use Rattle.odd_reader.specs.Spelled.{Spells}
+use Rattle.odd_reader.specs.Spelled.{GivesTree, IsNotXml}
+use Rattle.odd_reader.proofs.Faults.{gives_not_deep}
+use Rattle.odd_reader.proofs.Places.{one_depth, one_fault}
 use Rattle.odd_reader.proofs.Spelling.{one_tree}
 use Rattle.odd_decls.specs.Odd.{Declares}
 use Rattle.odd_decls.specs.Library.{IsLibraryOf}
@@ -20,10 +22,11 @@ use Rattle.odd_decls.proofs.OneLibrary.{one_doc, one_library}
 use Rattle.compile_core.specs.Schema.{schema_text, HoldsStart, IsLeastMissing}
 use Rattle.odd_cli.specs.declared.status.Status.{Status}
 use Rattle.odd_cli.specs.declared.status.Status.TheVariants as status
+use Rattle.odd_cli.specs.declared.status.LimitKind.TheVariants as limit
 use Rattle.odd_cli.specs.declared.words.Job.{Job}
 use Rattle.odd_cli.specs.Words.{WordsMean, Compiles, compile}
-use Rattle.odd_cli.specs.Reply.{file_bytes, start_offence, Reply, Reads, Gives, GivesNone, no_job, no_file, too_long, not_yet, refused, done}
-use Rattle.odd_cli.specs.Running.{IsReplied, IsSilent, IsReadPlace, IsComplete, IsSchemaOf, IsRefusalOf, Compiling, compiled_text}
+use Rattle.odd_cli.specs.Reply.{file_bytes, start_offence, FileRefusal, not_xml, too_deep, not_yet, start_missing, Reply, Reads, Gives, no_job, no_file, too_long, refused, done}
+use Rattle.odd_cli.specs.Running.{IsReplied, IsSilent, IsReadPlace, IsComplete, IsSchemaOf, IsStartError, IsRefusalOf, Compiling, compiled_text}
 
 one_file : (words : List (List ℕ)) (f g : List ℕ) → Compiles words f → Compiles words g → f ≡ g
 one_file words f g p q =
@@ -47,10 +50,21 @@ one_text words files t u (done b l p g h e) (done c m q k i f) =
     let bytes : b ≡ c = one_reading words files b c p q in
     let libraries : l ≡ m = one_gift c l m (subst (λ x. Gives x l) bytes g) k in
     e ∙ ap (λ x. schema_text x x.start) libraries ∙ sym f
+one_text words files t u (refused b p f) q = elim f [ ]
+one_text words files t u (done b l p g h e) (refused c q f) = elim f [ ]
 
--- a tree that declares nothing gives no library
-pub gives_none : (bytes : List ℕ) (t : Tree) → Spells bytes t → ((doc : OddDoc) → Declares t doc → ⊥) → GivesNone bytes
-gives_none bytes t s none library g = none g.doc (subst (λ x. Declares x g.doc) (one_tree bytes g.tree t g.given.spelled s) g.declared)
+-- why a library has no schema is why its file has none
+pub start_refusals : (bytes : List ℕ) (library : Library) (r : Result (List ℕ) Status) → Gives bytes library → IfErr r (IsStartError library) → IfErr r (IsRefusalOf bytes)
+start_refusals bytes library (Ok text) g s = tt
+start_refusals bytes library (Err status.NoMemory) g s = inl refl
+start_refusals bytes library (Err (status.Refused offence)) g s = inr (start_missing s.0 library g s.1 s.2)
+start_refusals bytes library (Err status.Done) g s = absurd s
+start_refusals bytes library (Err (status.NotXml file at)) g s = absurd s
+start_refusals bytes library (Err status.Usage) g s = absurd s
+start_refusals bytes library (Err (status.Limit kind)) g s = absurd s
+start_refusals bytes library (Err (status.ReadFault file)) g s = absurd s
+start_refusals bytes library (Err status.WriteFault) g s = absurd s
+start_refusals bytes library (Err (status.NotYet file)) g s = absurd s
 
 module _ (words : List (List ℕ)) (files : FileMap) (bytes : List ℕ) (reads : Reads words files bytes) where
   pub schema_replies : (r : Result (List ℕ) Status) → IfOk r (IsSchemaOf bytes) → IfOk r (λ text. Reply words files text status.Done)
@@ -59,14 +73,8 @@ module _ (words : List (List ℕ)) (files : FileMap) (bytes : List ℕ) (reads :
 
   pub refusal_replies : (r : Result (List ℕ) Status) → IfErr r (IsRefusalOf bytes) → IfErr r (λ s. IsReplied s → Reply words files [] s)
   refusal_replies (Ok text) s = tt
-  refusal_replies (Err (status.NotYet file)) s = λ replied. subst (λ n. Reply words files [] (status.NotYet n)) (sym s.0) (not_yet bytes reads s.1)
-  refusal_replies (Err (status.Refused offence)) s = λ replied. refused bytes s.word s.library reads s.gives s.least s.offence_is
-  refusal_replies (Err status.NoMemory) s = λ replied. absurd replied
-  refusal_replies (Err status.Done) s = absurd s
-  refusal_replies (Err status.Usage) s = absurd s
-  refusal_replies (Err (status.Limit kind)) s = absurd s
-  refusal_replies (Err (status.ReadFault file)) s = absurd s
-  refusal_replies (Err status.WriteFault) s = absurd s
+  refusal_replies (Err status) (inl e) = λ replied. absurd (subst IsReplied e replied)
+  refusal_replies (Err status) (inr refusal) = λ replied. refused bytes reads refusal
 
 -- the reply to a job that compiles
 pub compiles : (words : List (List ℕ)) (files : FileMap) (job : Compiling words files) → Reply words files (compiled_text job) status.Done
@@ -77,8 +85,15 @@ pub no_job_but : (words : List (List ℕ)) (file : List ℕ) → ((job : Job) �
 no_job_but words file none c = none _ (compile file c refl)
 
 -- why a file has no schema is never that the words have no job
+no_usage_of : (bytes : List ℕ) (s : Status) → s ≡ status.Usage → IsRefusalOf bytes s → ⊥
+no_usage_of bytes s e (inl n) = let no : status.Usage ≡ status.NoMemory = sym e ∙ n in cc
+no_usage_of bytes s e (inr f) = no_usage_refusal (subst (FileRefusal bytes) e f)
+  where
+    no_usage_refusal : FileRefusal bytes status.Usage → ⊥
+    no_usage_refusal h = elim h [ ]
+
 pub no_usage : (bytes : List ℕ) (r : Result (List ℕ) Status) → IfErr r (IsRefusalOf bytes) → r ≡ Err status.Usage → ⊥
-no_usage bytes r s e = subst (λ (x : Result (List ℕ) Status). IfErr x (IsRefusalOf bytes)) e s
+no_usage bytes r s e = no_usage_of bytes status.Usage refl (subst (λ (x : Result (List ℕ) Status). IfErr x (IsRefusalOf bytes)) e s)
 
 -- a file that is held is held with other bytes nowhere, and is not absent
 held_once : (words : List (List ℕ)) (files : FileMap) (f g b c : List ℕ) → Compiles words f → Compiles words g → Held files f b → Held files g c → b ≡ c
@@ -93,16 +108,6 @@ too_long_but words files f b c p h l r =
     let short = subst (λ x. length x ≤ file_bytes) (sym same) r.within in
     omega (arith, l, short)
 
-gives_but : (words : List (List ℕ)) (files : FileMap) (b c : List ℕ) (l : Library) → Reads words files b → Reads words files c → GivesNone b → Gives c l → ⊥
-gives_but words files b c l p q none g = none l (subst (λ x. Gives x l) (sym (one_reading words files b c p q)) g)
-
-least_but : (words : List (List ℕ)) (files : FileMap) (b c w : List ℕ) (l m : Library) → Reads words files b → Reads words files c → Gives b l → Gives c m
-    → IsLeastMissing l l.start w → HoldsStart m m.start → ⊥
-least_but words files b c w l m p q g k least holds =
-    let libraries : l ≡ m = one_gift c l m (subst (λ x. Gives x l) (one_reading words files b c p q) g) k in
-    let moved = subst (λ x. IsLeastMissing x x.start w) libraries least in
-    holds w moved.among moved.missing
-
 -- the least of some words is one word
 one_least : (library : Library) (start : List (List ℕ)) (v w : List ℕ) → IsLeastMissing library start v → IsLeastMissing library start w → v ≡ w
 one_least library start v w p q =
@@ -112,46 +117,69 @@ one_least library start v w p q =
       | Greater ↦ λ e. absurd (p.least w q.among q.missing (nat_list_cmp_total.antisymm w v ∙ ap ordering_reverse e))
     ] refl
 
+-- a file has one refusal, and none where it gives a library that holds its start words
+
+no_refusal_of_tree : (bytes : List ℕ) (t : Tree) (place : ℕ) → GivesTree bytes t → IsNotXml bytes place → ⊥
+no_refusal_of_tree bytes t place g n = n.fault.spells_none t g.spelled
+
+undeclared_but : (bytes : List ℕ) (t : Tree) (library : Library) → GivesTree bytes t → ((doc : OddDoc) → Declares t doc → ⊥) → Gives bytes library → ⊥
+undeclared_but bytes t library g none h = none h.doc (subst (λ x. Declares x h.doc) (one_tree bytes h.tree t h.given.spelled g.spelled) h.declared)
+
+refusal_but : (bytes : List ℕ) (s : Status) (library : Library) → FileRefusal bytes s → Gives bytes library → HoldsStart library library.start → ⊥
+refusal_but bytes s library (not_xml place n) g h = no_refusal_of_tree bytes g.tree place g.given n
+refusal_but bytes s library (too_deep place d) g h = gives_not_deep bytes g.tree place g.given d
+refusal_but bytes s library (not_yet tree given none) g h = undeclared_but bytes tree library given none g
+refusal_but bytes s library (start_missing word other k least e) g h =
+    let moved = subst (λ x. IsLeastMissing x x.start word) (one_gift bytes other library k g) least in
+    h word moved.among moved.missing
+
+one_refusal : (bytes : List ℕ) (s r : Status) → FileRefusal bytes s → FileRefusal bytes r → s ≡ r
+one_refusal bytes s r (not_xml p n) (not_xml q m) = ap (λ x. status.NotXml 1 x) (one_fault bytes p q n.fault m.fault)
+one_refusal bytes s r (not_xml p n) (too_deep q d) = absurd (n.not_deep q d)
+one_refusal bytes s r (not_xml p n) (not_yet t g none) = absurd (no_refusal_of_tree bytes t p g n)
+one_refusal bytes s r (not_xml p n) (start_missing w l k x e) = absurd (no_refusal_of_tree bytes k.tree p k.given n)
+one_refusal bytes s r (too_deep p d) (not_xml q n) = absurd (n.not_deep p d)
+one_refusal bytes s r (too_deep p d) (too_deep q f) = ap (λ x. status.Limit (limit.Depth 1 x)) (one_depth bytes p q d f)
+one_refusal bytes s r (too_deep p d) (not_yet t g none) = absurd (gives_not_deep bytes t p g d)
+one_refusal bytes s r (too_deep p d) (start_missing w l k x e) = absurd (gives_not_deep bytes k.tree p k.given d)
+one_refusal bytes s r (not_yet t g none) (not_xml q n) = absurd (no_refusal_of_tree bytes t q g n)
+one_refusal bytes s r (not_yet t g none) (too_deep q d) = absurd (gives_not_deep bytes t q g d)
+one_refusal bytes s r (not_yet t g none) (not_yet u h other) = refl
+one_refusal bytes s r (not_yet t g none) (start_missing w l k x e) = absurd (undeclared_but bytes t l g none k)
+one_refusal bytes s r (start_missing v l g x d) (not_xml q n) = absurd (no_refusal_of_tree bytes g.tree q g.given n)
+one_refusal bytes s r (start_missing v l g x d) (too_deep q f) = absurd (gives_not_deep bytes g.tree q g.given f)
+one_refusal bytes s r (start_missing v l g x d) (not_yet t h none) = absurd (undeclared_but bytes t l h none g)
+one_refusal bytes s r (start_missing v l g x d) (start_missing w m k y e) =
+    let libraries : l ≡ m = one_gift bytes l m g k in
+    let words_same : v ≡ w = one_least m m.start v w (subst (λ z. IsLeastMissing z z.start v) libraries x) y in
+    ap status.Refused (d ∙ ap start_offence words_same ∙ sym e)
+
 -- the reply has one status
 pub one_status : (words : List (List ℕ)) (files : FileMap) (t u : List ℕ) (s r : Status) → Reply words files t s → Reply words files u r → s ≡ r
 one_status words files t u s r (no_job none) (no_job n) = refl
 one_status words files t u s r (no_job none) (no_file g q a) = absurd (no_job_but words g none q)
 one_status words files t u s r (no_job none) (too_long g c q h l) = absurd (no_job_but words g none q)
-one_status words files t u s r (no_job none) (not_yet c q n) = absurd (no_job_but words q.file none q.compiles)
-one_status words files t u s r (no_job none) (refused c w m q k l e) = absurd (no_job_but words q.file none q.compiles)
+one_status words files t u s r (no_job none) (refused c q k) = absurd (no_job_but words q.file none q.compiles)
 one_status words files t u s r (no_job none) (done c m q k i e) = absurd (no_job_but words q.file none q.compiles)
 one_status words files t u s r (no_file f p a) (no_job n) = absurd (no_job_but words f n p)
 one_status words files t u s r (no_file f p a) (no_file g q b) = refl
 one_status words files t u s r (no_file f p a) (too_long g c q h l) = absurd (held_absent words files g f c q p h a)
-one_status words files t u s r (no_file f p a) (not_yet c q n) = absurd (held_absent words files q.file f c q.compiles p q.held a)
-one_status words files t u s r (no_file f p a) (refused c w m q k l e) = absurd (held_absent words files q.file f c q.compiles p q.held a)
+one_status words files t u s r (no_file f p a) (refused c q k) = absurd (held_absent words files q.file f c q.compiles p q.held a)
 one_status words files t u s r (no_file f p a) (done c m q k i e) = absurd (held_absent words files q.file f c q.compiles p q.held a)
 one_status words files t u s r (too_long f b p h l) (no_job n) = absurd (no_job_but words f n p)
 one_status words files t u s r (too_long f b p h l) (no_file g q a) = absurd (held_absent words files f g b p q h a)
 one_status words files t u s r (too_long f b p h l) (too_long g c q i m) = refl
-one_status words files t u s r (too_long f b p h l) (not_yet c q n) = absurd (too_long_but words files f b c p h l q)
-one_status words files t u s r (too_long f b p h l) (refused c w m q k x e) = absurd (too_long_but words files f b c p h l q)
+one_status words files t u s r (too_long f b p h l) (refused c q k) = absurd (too_long_but words files f b c p h l q)
 one_status words files t u s r (too_long f b p h l) (done c m q k i e) = absurd (too_long_but words files f b c p h l q)
-one_status words files t u s r (not_yet b p none) (no_job n) = absurd (no_job_but words p.file n p.compiles)
-one_status words files t u s r (not_yet b p none) (no_file g q a) = absurd (held_absent words files p.file g b p.compiles q p.held a)
-one_status words files t u s r (not_yet b p none) (too_long g c q h l) = absurd (too_long_but words files g c b q h l p)
-one_status words files t u s r (not_yet b p none) (not_yet c q n) = refl
-one_status words files t u s r (not_yet b p none) (refused c w m q k l e) = absurd (gives_but words files b c m p q none k)
-one_status words files t u s r (not_yet b p none) (done c m q k i e) = absurd (gives_but words files b c m p q none k)
-one_status words files t u s r (refused b v l p g x d) (no_job n) = absurd (no_job_but words p.file n p.compiles)
-one_status words files t u s r (refused b v l p g x d) (no_file h q a) = absurd (held_absent words files p.file h b p.compiles q p.held a)
-one_status words files t u s r (refused b v l p g x d) (too_long h c q i m) = absurd (too_long_but words files h c b q i m p)
-one_status words files t u s r (refused b v l p g x d) (not_yet c q n) = absurd (gives_but words files c b l q p n g)
-one_status words files t u s r (refused b v l p g x d) (refused c w m q k y e) =
-    let libraries : l ≡ m = one_gift c l m (subst (λ z. Gives z l) (one_reading words files b c p q) g) k in
-    let words_same : v ≡ w = one_least m m.start v w (subst (λ z. IsLeastMissing z z.start v) libraries x) y in
-    ap status.Refused (d ∙ ap start_offence words_same ∙ sym e)
-one_status words files t u s r (refused b v l p g x d) (done c m q k i e) = absurd (least_but words files b c v l m p q g k x i)
+one_status words files t u s r (refused b p g) (no_job n) = absurd (no_job_but words p.file n p.compiles)
+one_status words files t u s r (refused b p g) (no_file h q a) = absurd (held_absent words files p.file h b p.compiles q p.held a)
+one_status words files t u s r (refused b p g) (too_long h c q i m) = absurd (too_long_but words files h c b q i m p)
+one_status words files t u s r (refused b p g) (refused c q k) = one_refusal c s r (subst (λ x. FileRefusal x s) (one_reading words files b c p q) g) k
+one_status words files t u s r (refused b p g) (done c m q k i e) = absurd (refusal_but c s m (subst (λ x. FileRefusal x s) (one_reading words files b c p q) g) k i)
 one_status words files t u s r (done b l p g h d) (no_job n) = absurd (no_job_but words p.file n p.compiles)
 one_status words files t u s r (done b l p g h d) (no_file f q a) = absurd (held_absent words files p.file f b p.compiles q p.held a)
 one_status words files t u s r (done b l p g h d) (too_long f c q i m) = absurd (too_long_but words files f c b q i m p)
-one_status words files t u s r (done b l p g h d) (not_yet c q n) = absurd (gives_but words files c b l q p n g)
-one_status words files t u s r (done b l p g h d) (refused c w m q k y e) = absurd (least_but words files c b w m l q p k g y h)
+one_status words files t u s r (done b l p g h d) (refused c q k) = absurd (refusal_but b r l (subst (λ x. FileRefusal x r) (one_reading words files c b q p) k) g h)
 one_status words files t u s r (done b l p g h d) (done c m q k i e) = refl
 
 -- a reply to a job that compiles has the status Done
@@ -163,6 +191,7 @@ pub silent_complete : (words : List (List ℕ)) (files : FileMap) (job : Compili
     → ((file : ℕ) → s ≡ status.ReadFault file → ⊥) → IsComplete s
 silent_complete words files job status.Done silent reply read = absurd silent
 silent_complete words files job (status.Refused offence) silent reply read = replied_done words files job (status.Refused offence) (reply tt)
+silent_complete words files job (status.NotXml file at) silent reply read = replied_done words files job (status.NotXml file at) (reply tt)
 silent_complete words files job status.Usage silent reply read = replied_done words files job status.Usage (reply tt)
 silent_complete words files job (status.Limit kind) silent reply read = replied_done words files job (status.Limit kind) (reply tt)
 silent_complete words files job (status.ReadFault file) silent reply read = absurd (read file refl)
@@ -179,6 +208,5 @@ pub silent_text : (words : List (List ℕ)) (files : FileMap) (text : List ℕ) 
 silent_text words files text s silent (no_job none) = refl
 silent_text words files text s silent (no_file f p a) = refl
 silent_text words files text s silent (too_long f b p h l) = refl
-silent_text words files text s silent (not_yet b p none) = refl
-silent_text words files text s silent (refused b w l p g x e) = refl
+silent_text words files text s silent (refused b p g) = refl
 silent_text words files text s silent (done b l p g h e) = absurd silent

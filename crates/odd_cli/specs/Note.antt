@@ -7,6 +7,7 @@ use Rattle.odd_base.specs.declared.offence.Who.{Who}
 use Rattle.odd_base.specs.declared.offence.Who.TheVariants as who
 use Rattle.odd_cli.specs.declared.status.Status.{Status}
 use Rattle.odd_cli.specs.declared.status.Status.TheVariants as status
+use Rattle.odd_cli.specs.declared.status.LimitKind.{LimitKind}
 use Rattle.odd_cli.specs.declared.status.LimitKind.TheVariants as limit
 
 abbrev pub kind_word : Kind → List ℕ
@@ -15,19 +16,28 @@ kind_word kind.Class = codes "class"
 kind_word kind.Macro = codes "macro"
 kind_word kind.Datatype = codes "datatype"
 
+-- a byte of a file
+abbrev pub place_text : ℕ → ℕ → List ℕ
+place_text file at = codes "file " ++ decimal file ++ codes ": byte " ++ decimal at
+
 -- whom an offence in the file is of
 abbrev pub who_text : ℕ → Who → List ℕ
-who_text file (who.At at) = codes "file " ++ decimal file ++ codes ": byte " ++ decimal at
+who_text file (who.At at) = place_text file at
 who_text file (who.Part key) = codes "file " ++ decimal file ++ codes ": " ++ kind_word key.kind ++ codes " " ++ key.ident
 who_text file (who.Start word) = codes "start " ++ word
 who_text file (who.Asked ident) = codes "explain " ++ ident
+
+abbrev pub limit_text : LimitKind → List ℕ
+limit_text (limit.Bytes file) = codes "odd: limit bytes file " ++ decimal file ++ codes "\n"
+limit_text (limit.Depth file at) = codes "odd: limit depth file " ++ decimal file ++ codes " byte " ++ decimal at ++ codes "\n"
 
 -- Done has no line
 abbrev pub note_text : Status → List ℕ
 note_text status.Done = []
 note_text (status.Refused offence) = codes "odd: " ++ who_text offence.file offence.who ++ codes ": rule " ++ decimal offence.rule ++ codes "\n"
+note_text (status.NotXml file at) = codes "odd: " ++ place_text file at ++ codes ": not XML\n"
 note_text status.Usage = codes "odd: usage\n"
-note_text (status.Limit (limit.Bytes file)) = codes "odd: limit bytes file " ++ decimal file ++ codes "\n"
+note_text (status.Limit kind) = limit_text kind
 note_text (status.ReadFault file) = codes "odd: read fault file " ++ decimal file ++ codes "\n"
 note_text status.WriteFault = codes "odd: write fault\n"
 note_text status.NoMemory = codes "odd: no memory\n"
@@ -37,6 +47,7 @@ note_text (status.NotYet file) = codes "odd: file " ++ decimal file ++ codes ": 
 abbrev pub code_of : Status → ℕ
 code_of status.Done = 0
 code_of (status.Refused offence) = 2
+code_of (status.NotXml file at) = 3
 code_of status.Usage = 4
 code_of (status.Limit kind) = 5
 code_of (status.ReadFault file) = 6

@@ -4,7 +4,7 @@ use Rattle.odd_base.specs.Shelf.{FileMap, Held, NotHeld}
 use Rattle.odd_base.specs.declared.offence.Offence.{Offence}
 use Rattle.odd_base.specs.declared.offence.Who.TheVariants as who
 use Rattle.odd_reader.specs.declared.tree.Tree.{Tree}
-use Rattle.odd_reader.specs.Spelled.{GivesTree}
+use Rattle.odd_reader.specs.Spelled.{DepthPlace, GivesTree, IsNotXml}
 use Rattle.odd_decls.specs.declared.odd.OddDoc.{OddDoc}
 use Rattle.odd_decls.specs.declared.library.Library.{Library}
 use Rattle.odd_decls.specs.Odd.{Declares}
@@ -35,18 +35,21 @@ pub record Gives (bytes : List ℕ) (library : Library) : Type 0 where
   pub declared : Declares tree doc
   pub is_library : IsLibraryOf doc library
 
-abbrev pub GivesNone : List ℕ → Type 0
-GivesNone bytes = (library : Library) → Gives bytes library → ⊥
-
 abbrev pub start_offence : List ℕ → Offence
 start_offence word = record { file = 1; who = who.Start word; rule = 20 }
+
+-- why a file of these bytes has no schema
+pub data FileRefusal (bytes : List ℕ) : Status → Type 0 where
+  not_xml : (place : ℕ) → IsNotXml bytes place → FileRefusal bytes (status.NotXml 1 place)
+  too_deep : (place : ℕ) → DepthPlace bytes place → FileRefusal bytes (status.Limit (limit.Depth 1 place))
+  not_yet : (tree : Tree) → GivesTree bytes tree → ((doc : OddDoc) → Declares tree doc → ⊥) → FileRefusal bytes (status.NotYet 1)
+  start_missing : {offence : Offence} (word : List ℕ) (library : Library) → Gives bytes library → IsLeastMissing library library.start word → offence ≡ start_offence word
+      → FileRefusal bytes (status.Refused offence)
 
 pub data Reply (words : List (List ℕ)) (files : FileMap) : List ℕ → Status → Type 0 where
   no_job : ((job : Job) → WordsMean words job → ⊥) → Reply words files [] status.Usage
   no_file : (file : List ℕ) → Compiles words file → NotHeld files file → Reply words files [] (status.ReadFault 1)
   too_long : (file bytes : List ℕ) → Compiles words file → Held files file bytes → file_bytes < length bytes → Reply words files [] (status.Limit (limit.Bytes 1))
-  not_yet : (bytes : List ℕ) → Reads words files bytes → GivesNone bytes → Reply words files [] (status.NotYet 1)
-  refused : {offence : Offence} (bytes word : List ℕ) (library : Library) → Reads words files bytes → Gives bytes library
-      → IsLeastMissing library library.start word → offence ≡ start_offence word → Reply words files [] (status.Refused offence)
+  refused : {s : Status} (bytes : List ℕ) → Reads words files bytes → FileRefusal bytes s → Reply words files [] s
   done : {text : List ℕ} (bytes : List ℕ) (library : Library) → Reads words files bytes → Gives bytes library
       → HoldsStart library library.start → text ≡ schema_text library library.start → Reply words files text status.Done

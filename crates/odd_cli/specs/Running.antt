@@ -2,7 +2,6 @@
 use Rattle.std.specs.Prelude.{◌≡◌, ◌↔◌, ◌⊎◌, ℕ, Bool, List, ◌++◌, Option, Some, IsTrue}
 use Rattle.odd_base.specs.Count.{HasRisen}
 use Rattle.odd_base.specs.Shelf.{FileMap, Held, NotHeld, LeavesSuffix}
-use Rattle.odd_base.specs.declared.offence.Offence.{Offence}
 use Rattle.odd_decls.specs.declared.library.Library.{Library}
 use Rattle.odd_reader.specs.declared.tree.Tree.{Tree}
 use Rattle.compile_core.specs.Acceptance.{Accepts}
@@ -14,7 +13,7 @@ use Rattle.odd_cli.specs.declared.status.Status.{Status}
 use Rattle.odd_cli.specs.declared.status.Status.TheVariants as status
 use Rattle.odd_cli.specs.Words.{Compiles}
 use Rattle.odd_cli.specs.Note.{IsFrontWritten}
-use Rattle.odd_cli.specs.Reply.{Reads, Gives, GivesNone, start_offence}
+use Rattle.odd_cli.specs.Reply.{FileRefusal, Reads, Gives, start_offence}
 
 -- the answer is none of those that the outside causes
 abbrev pub IsReplied : Status → Type 0
@@ -70,19 +69,9 @@ pub record AcceptsOfWords (words : List (List ℕ)) (files : FileMap) (text : Li
   pub reads : Reads words files bytes
   pub right : AcceptsOfFile bytes text
 
-pub record IsStartRefusal (bytes : List ℕ) (offence : Offence) : Type 0 where
-  pub library : Library
-  pub gives : Gives bytes library
-  pub word : List ℕ
-  pub least : IsLeastMissing library library.start word
-  pub offence_is : offence ≡ start_offence word
-
--- why a file of these bytes has no schema
+-- why a file of these bytes has no schema, or there was no memory
 abbrev pub IsRefusalOf : List ℕ → Status → Type 0
-IsRefusalOf bytes (status.NotYet file) = (file ≡ 1) × GivesNone bytes
-IsRefusalOf bytes (status.Refused offence) = IsStartRefusal bytes offence
-IsRefusalOf bytes status.NoMemory = Unit {0}
-IsRefusalOf bytes s = ⊥
+IsRefusalOf bytes s = (s ≡ status.NoMemory) ⊎ FileRefusal bytes s
 
 -- why a library has no schema
 abbrev pub IsStartError : Library → Status → Type 0
@@ -90,7 +79,7 @@ IsStartError library (status.Refused offence) = (word : List ℕ) × IsLeastMiss
 IsStartError library status.NoMemory = Unit {0}
 IsStartError library s = ⊥
 
--- the words name a file that compiles: within the limit, bare and thin, and each start word is a held element
+-- the words name a file that compiles: within the limit, of a form that is read, and each start word is a held element
 pub record Compiling (words : List (List ℕ)) (files : FileMap) : Type 0 where
   pub bytes : List ℕ
   pub reads : Reads words files bytes

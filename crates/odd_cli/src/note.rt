@@ -1,5 +1,5 @@
 ghost use Rattle.std.specs.Prelude.{◌≡◌, ◌++◌, is_ok, codes, decimal};
-ghost use Rattle.odd_cli.specs.Note.{Says, note_text, who_text, kind_word};
+ghost use Rattle.odd_cli.specs.Note.{Says, kind_word, limit_text, note_text, place_text, who_text};
 
 use crate::status::{LimitKind, Status};
 use itoa::Buffer;
@@ -13,18 +13,43 @@ pub fn write_note<N: Sink>(note: &mut N, status: &Status) -> Result<(), SinkFaul
     match status {
         Status::Done => Ok(()),
         Status::Refused(offence) => write_offence(note, offence),
+        Status::NotXml { file, at } => write_not_xml(note, *file, *at),
         Status::Usage => say(note, "odd: usage\n"),
-        Status::Limit(LimitKind::Bytes { file }) => line(
-            note,
-            "odd: limit bytes file ",
-            *file,
-            "\n",
-        ),
+        Status::Limit(kind) => write_limit(note, kind),
         Status::ReadFault { file } => line(note, "odd: read fault file ", *file, "\n"),
         Status::WriteFault => say(note, "odd: write fault\n"),
         Status::NoMemory => say(note, "odd: no memory\n"),
         Status::NotYet { file } => line(note, "odd: file ", *file, ": not yet\n"),
     }
+}
+
+fn write_limit<N: Sink>(note: &mut N, kind: &LimitKind) -> Result<(), SinkFault>
+    ensures { Says N.written N.faults note.old note.new (limit_text kind.now) (is_ok result) }
+{
+    match kind {
+        LimitKind::Bytes { file } => line(note, "odd: limit bytes file ", *file, "\n"),
+        LimitKind::Depth { file, at } => {
+            line(note, "odd: limit depth file ", *file, " byte ")?;
+            say_number(note, *at)?;
+            say(note, "\n")
+        }
+    }
+}
+
+fn write_not_xml<N: Sink>(note: &mut N, file: u32, at: u64) -> Result<(), SinkFault>
+    ensures { Says N.written N.faults note.old note.new (codes "odd: " ++ place_text file at ++ codes ": not XML\n") (is_ok result) }
+{
+    say(note, "odd: ")?;
+    write_place(note, file, at)?;
+    say(note, ": not XML\n")
+}
+
+// A byte of a file.
+fn write_place<N: Sink>(note: &mut N, file: u32, at: u64) -> Result<(), SinkFault>
+    ensures { Says N.written N.faults note.old note.new (place_text file at) (is_ok result) }
+{
+    line(note, "file ", file, ": byte ")?;
+    say_number(note, at)
 }
 
 fn write_offence<N: Sink>(note: &mut N, offence: &Offence) -> Result<(), SinkFault>
@@ -42,10 +67,7 @@ fn write_who<N: Sink>(note: &mut N, file: u32, who: &Who) -> Result<(), SinkFaul
     ensures { Says N.written N.faults note.old note.new (who_text file who.now) (is_ok result) }
 {
     match who {
-        Who::At(at) => {
-            line(note, "file ", file, ": byte ")?;
-            say_number(note, *at)
-        }
+        Who::At(at) => write_place(note, file, *at),
         Who::Part(key) => {
             line(note, "file ", file, ": ")?;
             say(note, word_of_kind(key.kind))?;

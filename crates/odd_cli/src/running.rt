@@ -120,7 +120,10 @@ fn library_of_file(alloc: Global, bytes: &Bytes) -> Result<Library, Status>
 {
     let tree = match read_tree(alloc, bytes.as_slice()) {
         Ok(tree) => tree,
-        Err(ReadRefusal::NotYet) => return Err(Status::NotYet { file: 1 }),
+        Err(ReadRefusal::NotXml { at }) => return Err(Status::NotXml { file: 1, at }),
+        Err(ReadRefusal::TooDeep { at }) => {
+            return Err(Status::Limit(LimitKind::Depth { file: 1, at }));
+        }
         Err(ReadRefusal::NoMemory) => return Err(Status::NoMemory),
     };
     let doc = match read_odd(alloc, &tree, 1, false) {

@@ -7,6 +7,8 @@ use odd_base::Offence;
 pub enum LimitKind {
     /// A file has more than 16,777,216 bytes.
     Bytes { file: u32 },
+    /// A file has over 200 levels of elements: the byte where the tag begins that opens the 201st.
+    Depth { file: u32, at: u64 },
 }
 
 /// How a run ended. Files are numbered from 1 in the order of the words.
@@ -16,6 +18,8 @@ pub enum Status {
     Done,
     /// The declarations have an offence, which is the first.
     Refused(Offence),
+    /// A file is not XML: the byte where its first fault is.
+    NotXml { file: u32, at: u64 },
     /// The words have no job.
     Usage,
     /// A limit is passed.
@@ -40,6 +44,7 @@ impl Status {
         match self {
             Status::Done => 0,
             Status::Refused(_) => 2,
+            Status::NotXml { file: _, at: _ } => 3,
             Status::Usage => 4,
             Status::Limit(_) => 5,
             Status::ReadFault { file: _ } => 6,

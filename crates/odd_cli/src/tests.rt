@@ -151,9 +151,10 @@ fn a_file_has_its_answer(rt: HostRuntime) -> Result<(), Fail> {
         ),
         (
             "<elementSpec ident=\"a\"></a>",
-            10,
-            "odd: file 1: not yet\n",
+            3,
+            "odd: file 1: byte 91: not XML\n",
         ),
+        ("&nbsp;", 3, "odd: file 1: byte 68: not XML\n"),
         ("<elementSpec ident=\"a b\"/>", 10, "odd: file 1: not yet\n"),
     ] {
         let file = format!(in rt.alloc();
@@ -163,6 +164,26 @@ fn a_file_has_its_answer(rt: HostRuntime) -> Result<(), Fail> {
         assert_eq!(rt; left.status.code(), code, "{items}");
         assert_eq!(rt; left.note.as_str(), note, "{items}");
         assert_eq!(rt; left.out.as_str().is_empty(), code != 0, "{items}");
+    }
+    Ok(())
+}
+
+#[test]
+fn a_file_that_is_not_xml_or_too_deep_has_its_place(rt: HostRuntime) -> Result<(), Fail> {
+    let mut deep = Text::new(rt.alloc());
+    for _level in 0..201 {
+        deep.push_str("<a>")?;
+    }
+    for (file, code, note) in [
+        ("", 3, "odd: file 1: byte 0: not XML\n"),
+        ("<!DOCTYPE a><a/>", 3, "odd: file 1: byte 0: not XML\n"),
+        ("<a/>\n<b/>", 3, "odd: file 1: byte 5: not XML\n"),
+        (deep.as_str(), 5, "odd: limit depth file 1 byte 600\n"),
+    ] {
+        let left = run_with(rt.alloc(), &compiling(file))?;
+        assert_eq!(rt; left.status.code(), code, "{note}");
+        assert_eq!(rt; left.note.as_str(), note);
+        assert_eq!(rt; left.out.as_str(), "", "{note}");
     }
     Ok(())
 }
@@ -259,6 +280,16 @@ fn each_status_has_its_line(rt: HostRuntime) -> Result<(), Fail> {
             Status::Limit(LimitKind::Bytes { file: 2 }),
             5,
             "odd: limit bytes file 2\n"
+        ),
+        (
+            Status::Limit(LimitKind::Depth { file: 2, at: 90 }),
+            5,
+            "odd: limit depth file 2 byte 90\n"
+        ),
+        (
+            Status::NotXml { file: 2, at: 90 },
+            3,
+            "odd: file 2: byte 90: not XML\n"
         ),
         (Status::NoMemory, 8, "odd: no memory\n"),
         (offence(Who::At(89), 1), 2, "odd: file 3: byte 89: rule 1\n"),

@@ -1,15 +1,18 @@
 pub mod Ascii
 pub mod AttributesLexed
+pub mod Beyond
 pub mod BuildingBindings
 pub mod BuildingChildren
 pub mod BuildingElements
 pub mod BuildingTags
 pub mod BuildingTwice
 pub mod Characters
+pub mod DeepTags
 pub mod Depth
 pub mod Distinct
 pub mod Escapes
 pub mod Examples
+pub mod Faults
 pub mod Fits
 pub mod Formed
 pub mod FormedPlaces
@@ -57,6 +60,7 @@ pub mod LexedTokens
 pub mod LexedValues
 pub mod Lexes
 pub mod Lexing
+pub mod LongestFront
 pub mod NCNames
 pub mod NamesLexed
 pub mod OneMore
@@ -75,9 +79,11 @@ pub mod ReadTo
 pub mod ReadTrees
 pub mod Readings
 pub mod ReferencesLexed
+pub mod Runs
 pub mod Sizes
 pub mod SpacesFit
 pub mod Spelling
+pub mod Standing
 pub mod Stands
 pub mod StandsContent
 pub mod StandsDistinct
@@ -95,4 +101,5 @@ pub mod Taking
 pub mod Telling
 pub mod TextsLexed
 pub mod Told
+pub mod ToldPlaces
 pub mod Unprefixed

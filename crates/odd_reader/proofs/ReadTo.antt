@@ -38,7 +38,7 @@ read_to_next bytes rest left r s c h e f = record {
 
 -- where no more is taken
 
-encodes_front : (cs ds rest : List ℕ) → encode_utf8_all ds ≡ encode_utf8_all cs ++ rest → (es : List ℕ) × (ds ≡ cs ++ es) × (encode_utf8_all es ≡ rest)
+pub encodes_front : (cs ds rest : List ℕ) → encode_utf8_all ds ≡ encode_utf8_all cs ++ rest → (es : List ℕ) × (ds ≡ cs ++ es) × (encode_utf8_all es ≡ rest)
 encodes_front [] ds rest e = (ds, refl, e)
 encodes_front (c ∷ cs) ds rest e =
     let first = cons_from_encodes ds (encode_utf8_all cs ++ rest) c (e ∙ append_assoc (encode_utf8 c) (encode_utf8_all cs) rest) in

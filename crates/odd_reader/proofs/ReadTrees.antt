@@ -18,7 +18,7 @@ use Rattle.odd_reader.proofs.Taking.{file_taken}
 use Rattle.odd_reader.proofs.Telling.{read_told}
 use Rattle.odd_reader.proofs.Told.{IsTold, idle, unfinished}
 
-told_tree : (cs : List ℕ) (r : Read) (t : Tree) → IsTold cs r → IsFinished r t → GivesTree (encode_utf8_all cs) t
+told_tree : (cs : List ℕ) (r : Read) (t : Tree) → IsTold 0 0 cs r → IsFinished r t → GivesTree (encode_utf8_all cs) t
 told_tree cs r t (idle i z told) f = record {
   spelled = record {
     whole = record {

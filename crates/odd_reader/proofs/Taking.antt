@@ -1,5 +1,5 @@
 -- The reader takes each file that spells a tree of no more levels than a file may have.
-use Rattle.std.proofs.Common.{◌≡◌, ◌≢◌, ℕ, ◌+◌, ◌<◌, Bool, true, false, List, [], ◌∷◌, ◌++◌, length, refl, sym, ap, ◌∙◌, subst, append_assoc, append-nil, arith}
+use Rattle.std.proofs.Common.{◌≡◌, ◌≢◌, ℕ, ◌+◌, ◌<◌, ◌≤◌, Bool, true, false, List, [], ◌∷◌, ◌++◌, length, refl, sym, ap, ◌∙◌, subst, append_assoc, append-nil, arith}
 use Rattle.std.proofs.Math.Utf8.{encode}
 use Rattle.std.specs.Prelude.{Option, Some, None, Result, Ok, Err, encode_utf8, if◌then◌else◌}
 use Rattle.odd_reader.specs.Building.{Kept, Built, build, begun}
@@ -10,6 +10,7 @@ use Rattle.odd_reader.specs.Reading.{Read, nothing_read, read_character, read_fr
 use Rattle.odd_reader.specs.Spelled.{Declaration, IsDeclaration, Opening, IsOpening, NoneTooDeep, opening_written, declaration_written, deepest}
 use Rattle.odd_reader.specs.Tokens.{Tag, Token, character, referred, cdata, comment, instruction, start_tag, empty_tag, end_tag, IsToken, token_written, tokens_written, size_of}
 use Rattle.odd_reader.specs.declared.builder.Misfit.{Misfit}
+use Rattle.odd_reader.specs.declared.builder.Misfit.TheVariants as misfit
 use Rattle.odd_reader.specs.declared.token.Token.{Token as Made}
 use Rattle.odd_reader.specs.declared.token.Token.TheVariants as made
 use Rattle.odd_reader.proofs.Fits.{written-append}
@@ -17,7 +18,7 @@ use Rattle.odd_reader.proofs.Lexed.{token_lexed, declaration_lexed, mark_lexed}
 use Rattle.odd_reader.proofs.Lexes.{IsIdle, IsLexed, Lexes, last, more}
 use Rattle.odd_reader.proofs.Openings.{mark_written, none_open}
 use Rattle.odd_reader.proofs.Sizes.{size_of_append}
-use Rattle.odd_reader.proofs.Stands.{Stands, nothing_stands, taken_stands, fit_taken, stands_open}
+use Rattle.odd_reader.proofs.Stands.{Stands, nothing_stands, taken_stands, taken_shallow, fit_taken, stands_open}
 
 -- characters in two parts
 
@@ -71,20 +72,28 @@ no_mark_fits : (before : List Token) (tags : List Tag) → AreOpen tags before �
 no_mark_fits before [] o e f = cc
 no_mark_fits before (tag ∷ tags) o e f = let none : tag ∷ tags ≡ [] = none_open (tag ∷ tags) before o e in cc
 
--- a token is read that fits, and opens no level too many
-pub token_taken : (start : ℕ) (before : List Token) (t : Token) (r : Read) → IsReady start before r → Fits before t
-    → (is_start_or_empty t ≡ true → (tags : List Tag) → AreOpen tags before → length tags < deepest)
-    → (s : Read) × (read_from (token_written t) r ≡ Ok s) × IsReady start (before ++ t ∷ []) s
-token_taken start before t r y f shallow = built (build r.kept (token_made r.size t)) refl
+-- the lexer reads a token that fits
+pub token_lexes : (start : ℕ) (before : List Token) (t : Token) (r : Read) → IsReady start before r → Fits before t
+    → (after : Lexed) × IsIdle after × (after.opening ≡ false) × Lexes r.lexed r.size (token_written t) after (token_made r.size t)
+token_lexes start before t r y f = token_lexed r.lexed r.size t y.idle f.token apart
   where
     apart : r.lexed.opening ≡ true → r.size ≡ 0 → t ≢ character 0xFEFF
     apart o z e = no_mark_fits before f.open_tags f.are_open (y.fresh o) (subst (FitsIn before f.open_tags) e f.fits_in)
 
-    taken : (after : Lexed) × IsIdle after × (after.opening ≡ false) × Lexes r.lexed r.size (token_written t) after (token_made r.size t)
-    taken = token_lexed r.lexed r.size t y.idle f.token apart
+-- what becomes of a token that fits: it is read, or it opens a level too many
+pub data TokenRun (start : ℕ) (before : List Token) (t : Token) (r : Read) : Type 0 where
+  taken : (s : Read) → read_from (token_written t) r ≡ Ok s → IsReady start (before ++ t ∷ []) s → (is_start_or_empty t ≡ true → length r.kept.open_elements < deepest)
+      → TokenRun start before t r
+  too_deep : read_from (token_written t) r ≡ Err misfit.TooDeep → is_start_or_empty t ≡ true → deepest ≤ length r.kept.open_elements → TokenRun start before t r
 
-    reads : read_from (token_written t) r ≡ with_kept taken.0 (r.size + size_of (token_written t)) (build r.kept (token_made r.size t))
-    reads = lexes_read r.lexed taken.0 r.kept r.size (token_written t) (token_made r.size t) taken.3
+pub token_run : (start : ℕ) (before : List Token) (t : Token) (r : Read) → IsReady start before r → Fits before t → TokenRun start before t r
+token_run start before t r y f = built (build r.kept (token_made r.size t)) refl
+  where
+    lexes : (after : Lexed) × IsIdle after × (after.opening ≡ false) × Lexes r.lexed r.size (token_written t) after (token_made r.size t)
+    lexes = token_lexes start before t r y f
+
+    reads : read_from (token_written t) r ≡ with_kept lexes.0 (r.size + size_of (token_written t)) (build r.kept (token_made r.size t))
+    reads = lexes_read r.lexed lexes.0 r.kept r.size (token_written t) (token_made r.size t) lexes.3
 
     sized : r.size + size_of (token_written t) ≡ start + size_of (tokens_written (before ++ t ∷ []))
     sized =
@@ -92,22 +101,33 @@ token_taken start before t r y f shallow = built (build r.kept (token_made r.siz
         let two = ap size_of (append-nil (token_written t)) in
         omega (arith, y.size, one, two)
 
-    built : (x : Built) → build r.kept (token_made r.size t) ≡ x → (s : Read) × (read_from (token_written t) r ≡ Ok s) × IsReady start (before ++ t ∷ []) s
-    built (Ok m) e = (
-      record { lexed = taken.0; kept = m; size = r.size + size_of (token_written t) },
-      reads ∙ ap (with_kept taken.0 (r.size + size_of (token_written t))) e,
-      record {
-        idle = taken.1;
-        stands = (taken_stands start before t r.kept m y.stands (lexed_token t f.token) (ap (λ n. build r.kept (token_made n t)) (sym y.size) ∙ e)).1;
-        size = sized;
-        fresh = λ o. let w : true ≡ false = sym o ∙ taken.2 in cc;
-      },
-    )
+    built : (x : Built) → build r.kept (token_made r.size t) ≡ x → TokenRun start before t r
+    built (Ok m) e =
+        taken (record { lexed = lexes.0; kept = m; size = r.size + size_of (token_written t) })
+        (reads ∙ ap (with_kept lexes.0 (r.size + size_of (token_written t))) e)
+        (record {
+          idle = lexes.1;
+          stands = (taken_stands start before t r.kept m y.stands (lexed_token t f.token) (ap (λ n. build r.kept (token_made n t)) (sym y.size) ∙ e)).1;
+          size = sized;
+          fresh = λ o. let w : true ≡ false = sym o ∙ lexes.2 in cc;
+        })
+        (λ h. taken_shallow r.kept m r.size t h e)
     built (Err x) e =
         let d = fit_taken start r.size before t r.kept x y.stands f e in
+        too_deep (reads ∙ ap (with_kept lexes.0 (r.size + size_of (token_written t))) (e ∙ ap Err d.0)) d.1 d.2
+
+-- a token is read that fits, and opens no level too many
+pub token_taken : (start : ℕ) (before : List Token) (t : Token) (r : Read) → IsReady start before r → Fits before t
+    → (is_start_or_empty t ≡ true → (tags : List Tag) → AreOpen tags before → length tags < deepest)
+    → (s : Read) × (read_from (token_written t) r ≡ Ok s) × IsReady start (before ++ t ∷ []) s
+token_taken start before t r y f shallow = run (token_run start before t r y f)
+  where
+    run : TokenRun start before t r → (s : Read) × (read_from (token_written t) r ≡ Ok s) × IsReady start (before ++ t ∷ []) s
+    run (taken s e z low) = (s, e, z)
+    run (too_deep e h high) =
         let o = stands_open start before r.kept y.stands in
-        let low = shallow d.1 o.0 o.1 in
-        absurd (omega (arith, low, o.2, d.2))
+        let low = shallow h o.0 o.1 in
+        absurd (omega (arith, low, o.2, high))
 
 -- more tokens, to the end
 pub tokens_taken : (start : ℕ) (all before ts : List Token) (r : Read) → AllFit all → NoneTooDeep all → all ≡ before ++ ts → IsReady start before r
@@ -163,7 +183,7 @@ declared_opening mark d h =
       },
     )
 
-opening_parts : (mark : Bool) (declaration : Option Declaration) → IsOpening (record { mark = mark; declaration = declaration }) → Opened mark declaration
+pub opening_parts : (mark : Bool) (declaration : Option Declaration) → IsOpening (record { mark = mark; declaration = declaration }) → Opened mark declaration
 opening_parts mark None h = plain_opening mark
 opening_parts mark (Some d) h = declared_opening mark d h
 

@@ -1,5 +1,5 @@
 -- The reader keeps what tells of the characters, from character to character.
-use Rattle.std.proofs.Common.{◌≡◌, ⊎_elim, ℕ, ◌+◌, Bool, true, false, List, [], ◌∷◌, ◌++◌, length, refl, sym, ap, ap₂, ◌∙◌, subst, subst₂, append_assoc, append-nil, arith}
+use Rattle.std.proofs.Common.{◌≡◌, ⊎_elim, ℕ, ◌+◌, ◌≤◌, Bool, true, false, List, [], ◌∷◌, ◌++◌, length, refl, sym, ap, ap₂, ◌∙◌, subst, subst₂, append_assoc, append-nil, arith}
 use Rattle.std.proofs.lemmas.Str.{length-le-encodes}
 use Rattle.std.specs.Prelude.{Option, Some, None, Result, Ok, Err, encode_utf8}
 use Rattle.odd_reader.specs.Building.{Kept, begun, build}
@@ -19,7 +19,8 @@ use Rattle.odd_reader.proofs.Stands.{Stands, nothing_stands, taken_stands, taken
 use Rattle.odd_reader.proofs.Told.{Told, IsTold, idle, unfinished, nothing_told}
 
 -- one more token was read whole
-told_token : (whole read : List ℕ) (k m : Kept) (fresh : Bool) (made : Made) → Told whole k fresh → IsRead (size_of whole) read made → build k made ≡ Ok m → Told (whole ++ read) m false
+told_token : {long far : ℕ} (whole read : List ℕ) (k m : Kept) (fresh : Bool) (made : Made) → Told long far whole k fresh → IsRead (size_of whole) read made → build k made ≡ Ok m
+    → Told long far (whole ++ read) m false
 told_token whole read k m fresh made t r e =
     let at : size_of whole ≡ size_of (opening_written t.opening) + size_of (tokens_written t.tokens) = ap size_of t.written ∙ size_of_append _ _ in
     let built = ap (build k) (sym (r.is_made ∙ ap (λ n. token_made n r.token) at)) ∙ e in
@@ -36,11 +37,13 @@ told_token whole read k m fresh made t r e =
           ∙ ap (λ cs. opening_written t.opening ++ cs) (ap (λ cs. tokens_written t.tokens ++ cs) (sym r.is_written ∙ sym (append-nil (token_written r.token))) ∙ sym (written-append t.tokens (r.token ∷ [])));
       stands = s.1;
       fresh = λ h. cc;
+      opened = t.opened;
+      placed = omega (arith, t.placed, size_of_append whole read);
     }
 
 -- what a character was, where it was taken
 
-kept_given : (m : Lexed) (size : ℕ) (x : Result Kept Misfit) (s : Read) → with_kept m size x ≡ Ok s → (k : Kept) × (x ≡ Ok k) × (record { lexed = m; kept = k; size = size } ≡ s)
+pub kept_given : (m : Lexed) (size : ℕ) (x : Result Kept Misfit) (s : Read) → with_kept m size x ≡ Ok s → (k : Kept) × (x ≡ Ok k) × (record { lexed = m; kept = k; size = size } ≡ s)
 kept_given m size (Err e) s h = cc
 kept_given m size (Ok k) s h = (k, refl, cc)
 
@@ -77,8 +80,8 @@ no_bytes (c ∷ cs) h = absurd (omega (arith, h, length-le-encodes (c ∷ cs)))
 abbrev marked : Opening
 marked = record { mark = true; declaration = None }
 
-told_mark : (m : Lexed) (k : Kept) → k ≡ begun → IsIdle m → IsTold (0xFEFF ∷ []) (record { lexed = m; kept = k; size = size_of (0xFEFF ∷ []) })
-told_mark m k e i = idle i refl (record {
+told_mark : {long far : ℕ} (m : Lexed) (k : Kept) → k ≡ begun → IsIdle m → long ≤ 0 → far ≤ 0 → IsTold long far (0xFEFF ∷ []) (record { lexed = m; kept = k; size = size_of (0xFEFF ∷ []) })
+told_mark m k e i long_none far_none = idle i refl (record {
   opening = marked;
   is_opening = tt;
   tokens = [];
@@ -87,6 +90,8 @@ told_mark m k e i = idle i refl (record {
   written = refl;
   stands = subst (Stands (size_of (opening_written marked)) []) (sym e) (nothing_stands (size_of (opening_written marked)));
   fresh = λ h. record { undeclared = refl; no_tokens = refl; kept = e };
+  opened = omega arith;
+  placed = omega arith;
 })
 
 -- after a declaration
@@ -95,20 +100,27 @@ mark_alone : (o : Opening) (ts : List Token) (whole : List ℕ) → o.declaratio
     → whole ++ declaration_written d ≡ opening_written (record { mark = o.mark; declaration = Some d }) ++ []
 mark_alone o ts whole e f w d = rw (w, f, e) (simp (append-nil))
 
-told_declaration : (whole read : List ℕ) (k m : Kept) (fresh : Bool) (made : Made) → Told whole k fresh → fresh ≡ true → IsDeclared read made → build k made ≡ Ok m → Told (whole ++ read) m false
+told_declaration : {long far : ℕ} (whole read : List ℕ) (k m : Kept) (fresh : Bool) (made : Made) → Told long far whole k fresh → fresh ≡ true → IsDeclared read made → build k made ≡ Ok m
+    → Told long far (whole ++ read) m false
 told_declaration whole read k m fresh made t h d e =
     let f = t.fresh h in
     let same : begun ≡ m = one_ok (build k made) begun m (ap₂ build f.kept d.is_made) e in
     let o : Opening = record { mark = t.opening.mark; declaration = Some d.declaration } in
+    let all = mark_alone t.opening t.tokens whole f.undeclared f.no_tokens t.written d.declaration in
+    let before : size_of whole ≡ size_of (opening_written t.opening) + size_of (tokens_written t.tokens) = ap size_of t.written ∙ size_of_append _ _ in
+    let grown : size_of whole + size_of (declaration_written d.declaration) ≡ size_of (opening_written o) =
+    sym (size_of_append whole (declaration_written d.declaration)) ∙ ap size_of all ∙ ap size_of (append-nil (opening_written o)) in
     record {
       opening = o;
       is_opening = d.is_declaration;
       tokens = [];
       fit = tt;
       shallow = none_deep;
-      written = ap (λ cs. whole ++ cs) (sym d.is_written) ∙ mark_alone t.opening t.tokens whole f.undeclared f.no_tokens t.written d.declaration;
+      written = ap (λ cs. whole ++ cs) (sym d.is_written) ∙ all;
       stands = subst (Stands (size_of (opening_written o)) []) same (nothing_stands (size_of (opening_written o)));
       fresh = λ h. cc;
+      opened = omega (arith, t.opened, before, grown);
+      placed = omega (arith, t.placed, size_of_append whole read);
     }
 
 -- one more character was read
@@ -116,41 +128,46 @@ told_declaration whole read k m fresh made t h d e =
 abbrev after : Lexed → Kept → List ℕ → Read
 after l k cs = record { lexed = l; kept = k; size = size_of cs }
 
-told_idle : (cs : List ℕ) (l m : Lexed) (c : ℕ) (k n : Kept) (given : Option Made) → IsIdle l → Told cs k l.opening → next l (size_of cs) c ≡ Some (m, given) → with_token k given ≡ Ok n
-    → IsTold (cs ++ c ∷ []) (after m n (cs ++ c ∷ []))
-told_idle cs l m c k n None i t e b = ⊎_elim mark token (token_begins l m (size_of cs) c i e)
+told_idle : {long far : ℕ} (cs : List ℕ) (l m : Lexed) (c : ℕ) (k n : Kept) (given : Option Made) → IsIdle l → Told long far cs k l.opening
+    → next l (size_of cs) c ≡ Some (m, given) → with_token k given ≡ Ok n → IsTold long far (cs ++ c ∷ []) (after m n (cs ++ c ∷ []))
+told_idle {long = long} {far = far} cs l m c k n None i t e b = ⊎_elim mark token (token_begins l m (size_of cs) c i e)
   where
     same : k ≡ n
     same = one_ok (with_token k None) k n refl b
 
-    mark : (l.opening ≡ true) × (size_of cs ≡ 0) × (c ≡ 0xFEFF) × IsIdle m × (m.opening ≡ true) → IsTold (cs ++ c ∷ []) (after m n (cs ++ c ∷ []))
+    mark : (l.opening ≡ true) × (size_of cs ≡ 0) × (c ≡ 0xFEFF) × IsIdle m × (m.opening ≡ true) → IsTold long far (cs ++ c ∷ []) (after m n (cs ++ c ∷ []))
     mark h =
         let all : 0xFEFF ∷ [] ≡ cs ++ c ∷ [] = sym (ap₂ (λ xs x. xs ++ x ∷ []) (no_bytes cs h.1) h.2) in
-        subst (λ xs. IsTold xs (after m n xs)) all (told_mark m n (sym same ∙ (t.fresh h.0).kept) h.3)
+        let none : size_of cs ≡ size_of (opening_written t.opening) + size_of (tokens_written t.tokens) = ap size_of t.written ∙ size_of_append _ _ in
+        subst (λ xs. IsTold long far xs (after m n xs)) all (told_mark m n (sym same ∙ (t.fresh h.0).kept) h.3
+        (omega (arith, h.1, none, t.opened)) (omega (arith, h.1, t.placed)))
 
-    token : InToken l.opening (size_of cs) (c ∷ []) m → IsTold (cs ++ c ∷ []) (after m n (cs ++ c ∷ []))
-    token h = unfinished cs (c ∷ []) l.opening h refl refl (subst (λ x. Told cs x l.opening) same t)
-told_idle cs l m c k n (Some made) i t e b =
+    token : InToken l.opening (size_of cs) (c ∷ []) m → IsTold long far (cs ++ c ∷ []) (after m n (cs ++ c ∷ []))
+    token h = unfinished cs (c ∷ []) l.opening h refl refl (subst (λ x. Told long far cs x l.opening) same t)
+told_idle {long = long} {far = far} cs l m c k n (Some made) i t e b =
     let a = token_alone l m (size_of cs) c made i e in
-    idle a.0 refl (subst (Told (cs ++ c ∷ []) n) (sym a.1) (told_token cs (c ∷ []) k n l.opening made t a.2 b))
+    idle a.0 refl (subst (Told long far (cs ++ c ∷ []) n) (sym a.1) (told_token cs (c ∷ []) k n l.opening made t a.2 b))
 
-told_unfinished : (whole read : List ℕ) (here : ℕ) (l m : Lexed) (c : ℕ) (k n : Kept) (fresh : Bool) (given : Option Made) → InToken fresh (size_of whole) read l → Told whole k fresh
-    → next l here c ≡ Some (m, given) → with_token k given ≡ Ok n → IsTold (whole ++ (read ++ c ∷ [])) (after m n (whole ++ (read ++ c ∷ [])))
-told_unfinished whole read here l m c k n fresh None i t e b =
-    unfinished whole (read ++ c ∷ []) fresh (token_goes_on fresh (size_of whole) here c read l m i e) refl refl (subst (λ x. Told whole x fresh) (one_ok (with_token k None) k n refl b) t)
-told_unfinished whole read here l m c k n fresh (Some made) i t e b =
+told_unfinished : {long far : ℕ} (whole read : List ℕ) (here : ℕ) (l m : Lexed) (c : ℕ) (k n : Kept) (fresh : Bool) (given : Option Made) → InToken fresh (size_of whole) read l
+    → Told long far whole k fresh → next l here c ≡ Some (m, given) → with_token k given ≡ Ok n → IsTold long far (whole ++ (read ++ c ∷ [])) (after m n (whole ++ (read ++ c ∷ [])))
+told_unfinished {long = long} {far = far} whole read here l m c k n fresh None i t e b =
+    unfinished whole (read ++ c ∷ []) fresh (token_goes_on fresh (size_of whole) here c read l m i e) refl refl
+    (subst (λ x. Told long far whole x fresh) (one_ok (with_token k None) k n refl b) t)
+told_unfinished {long = long} {far = far} whole read here l m c k n fresh (Some made) i t e b =
     let a = token_ends fresh (size_of whole) here c read l m made i e in
     let all = read ++ c ∷ [] in
-    let told : Told (whole ++ all) n false =
+    let told : Told long far (whole ++ all) n false =
     ⊎_elim (λ r. told_token whole all k n fresh made t r b) (λ d. told_declaration whole all k n fresh made t d.0 d.1 b) a.2 in
-    idle a.0 refl (subst (Told (whole ++ all) n) (sym a.1) told)
+    idle a.0 refl (subst (Told long far (whole ++ all) n) (sym a.1) told)
 
-told_next : (cs : List ℕ) (r s : Read) (c : ℕ) → IsTold cs r → IsTaken r s c → IsTold (cs ++ c ∷ []) s
-told_next cs r s c (idle i z t) g = subst (IsTold (cs ++ c ∷ [])) (taken_is cs r s c z g) (told_idle cs r.lexed g.lexed c r.kept g.kept g.given i t (subst (λ n. next r.lexed n c ≡ Some (g.lexed, g.given)) z g.goes) g.builds)
-told_next cs r s c (unfinished whole read fresh i z w t) g =
+told_next : {long far : ℕ} (cs : List ℕ) (r s : Read) (c : ℕ) → IsTold long far cs r → IsTaken r s c → IsTold long far (cs ++ c ∷ []) s
+told_next {long = long} {far = far} cs r s c (idle i z t) g =
+    subst (IsTold long far (cs ++ c ∷ [])) (taken_is cs r s c z g)
+    (told_idle cs r.lexed g.lexed c r.kept g.kept g.given i t (subst (λ n. next r.lexed n c ≡ Some (g.lexed, g.given)) z g.goes) g.builds)
+told_next {long = long} {far = far} cs r s c (unfinished whole read fresh i z w t) g =
     let all : whole ++ (read ++ c ∷ []) ≡ cs ++ c ∷ [] = sym (append_assoc whole read (c ∷ [])) ∙ ap (λ xs. xs ++ c ∷ []) (sym w) in
-    subst (IsTold (cs ++ c ∷ [])) (taken_is cs r s c z g)
-    (subst (λ xs. IsTold xs (after g.lexed g.kept xs)) all (told_unfinished whole read r.size r.lexed g.lexed c r.kept g.kept fresh g.given i t g.goes g.builds))
+    subst (IsTold long far (cs ++ c ∷ [])) (taken_is cs r s c z g)
+    (subst (λ xs. IsTold long far xs (after g.lexed g.kept xs)) all (told_unfinished whole read r.size r.lexed g.lexed c r.kept g.kept fresh g.given i t g.goes g.builds))
 
 -- characters after what was read
 
@@ -158,11 +175,11 @@ pub read_then : (later : Read → Result Read Misfit) (x : Result Read Misfit) (
 read_then later (Err e) s h = cc
 read_then later (Ok q) s h = (q, refl, h)
 
-told_from : (cs ds : List ℕ) (r s : Read) → IsTold cs r → read_from ds r ≡ Ok s → IsTold (cs ++ ds) s
-told_from cs [] r s t e = subst₂ IsTold (sym (append-nil cs)) (one_ok (read_from [] r) r s refl e) t
-told_from cs (d ∷ ds) r s t e =
+pub told_from : {long far : ℕ} (cs ds : List ℕ) (r s : Read) → IsTold long far cs r → read_from ds r ≡ Ok s → IsTold long far (cs ++ ds) s
+told_from {long = long} {far = far} cs [] r s t e = subst₂ (IsTold long far) (sym (append-nil cs)) (one_ok (read_from [] r) r s refl e) t
+told_from {long = long} {far = far} cs (d ∷ ds) r s t e =
     let g = read_then (read_from ds) (read_character r d) s e in
-    subst (λ xs. IsTold xs s) (append_assoc cs (d ∷ []) ds) (told_from (cs ++ d ∷ []) ds g.0 s (told_next cs r g.0 d t (character_taken r g.0 d g.1)) g.2)
+    subst (λ xs. IsTold long far xs s) (append_assoc cs (d ∷ []) ds) (told_from (cs ++ d ∷ []) ds g.0 s (told_next cs r g.0 d t (character_taken r g.0 d g.1)) g.2)
 
-pub read_told : (cs : List ℕ) (r : Read) → read_from cs nothing_read ≡ Ok r → IsTold cs r
+pub read_told : (cs : List ℕ) (r : Read) → read_from cs nothing_read ≡ Ok r → IsTold 0 0 cs r
 read_told cs r e = told_from [] cs nothing_read r nothing_told e

@@ -156,3 +156,8 @@ pub record DepthPlace (bytes : List ℕ) (place : ℕ) : Type 0 where
   pub more : List ℕ
   pub follows : left ≡ encode_utf8_all (token_written tag) ++ more
   pub no_fault : (p : ℕ) → FaultPlace bytes p → place < p
+
+-- the file spells no tree and has its fault at the place, and no level too many before that
+pub record IsNotXml (bytes : List ℕ) (place : ℕ) : Type 0 where
+  pub fault : FaultPlace bytes place
+  pub not_deep : (p : ℕ) → DepthPlace bytes p → ⊥

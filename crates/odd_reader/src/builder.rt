@@ -409,9 +409,10 @@ fn tree_of(element: Open) -> Tree
         name,
         attrs,
         binds,
-        children,
+        mut children,
         at,
     } = element;
+    children.fit();
     Tree {
         name,
         attrs,

@@ -212,6 +212,13 @@ impl Lexer {
         self.state == State::Between
     }
 
+    /// The byte where the unfinished token begins, or the last one began.
+    pub fn begin(&self) -> u64
+        ensures { result ≡ self.now.begin }
+    {
+        self.begin
+    }
+
     /// Takes the character that begins at a byte, and gives the token that it ends.
     pub fn take(&mut self, at: u64, c: char) -> Taken
         ensures { Follows (next (lexed self.old) at c) result (lexed self.new) }

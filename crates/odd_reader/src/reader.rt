@@ -1,7 +1,7 @@
-ghost use Rattle.std.specs.Prelude.{◌≡◌, ◌+◌, length, encode_utf8, Err, IfOk};
+ghost use Rattle.std.specs.Prelude.{◌≡◌, ◌+◌, length, encode_utf8, ℕ, IfOk, IfErr};
 ghost use Rattle.odd_reader.specs.Formed.{IsFormed};
-ghost use Rattle.odd_reader.specs.Reading.{Follows, IsFinished, nothing_read, read_character, read_of};
-ghost use Rattle.odd_reader.specs.Spelled.{GivesTree};
+ghost use Rattle.odd_reader.specs.Reading.{Follows, IsFinished, IsLongestFront, nothing_read, place_of, read_character, read_of, refusal_of_fault, refusal_of_misfit};
+ghost use Rattle.odd_reader.specs.Spelled.{DepthPlace, GivesTree, IsNotXml};
 ghost use Rattle.odd_reader.specs.declared.tree.Tree.{Tree as ATree};
 
 use crate::builder::{Builder, Misfit};
@@ -11,38 +11,35 @@ use std::alloc::Global;
 use std::str;
 
 /// Why a file has no tree.
-#[derive(Clone, Copy, Debug, PartialEq, Eq)]
+#[derive(Clone, Copy, Debug, PartialEq, Eq, thiserror::Error)]
 pub enum ReadRefusal {
-    /// The file is no XML file that is read.
-    NotYet,
+    /// The file is not XML of the profile: the byte where its first fault is.
+    #[error("the file is not XML at byte {at}")]
+    NotXml { at: u64 },
+    /// The file has over 200 levels: the byte where the first tag begins that opens one too many.
+    #[error("the file has a level too many at byte {at}")]
+    TooDeep { at: u64 },
+    #[error("there is no memory")]
     NoMemory,
 }
 
-impl From<Fault> for ReadRefusal {
-    ghost use Rattle.odd_reader.specs.Formed.{IsFormed};
-    ghost use Rattle.odd_reader.specs.Reading.{refusal_of_fault};
-
-    ghost from_gives = { λ fault error. error ≡ refusal_of_fault fault };
-
-    fn from(fault: Fault) -> ReadRefusal {
-        match fault {
-            Fault::Malformed => ReadRefusal::NotYet,
-            Fault::NoMemory => ReadRefusal::NoMemory,
-        }
+// The refusal of a token that begins at a byte.
+fn of_fault(fault: Fault, at: u64) -> ReadRefusal
+    ensures { result ≡ refusal_of_fault at fault }
+{
+    match fault {
+        Fault::Malformed => ReadRefusal::NotXml { at },
+        Fault::NoMemory => ReadRefusal::NoMemory,
     }
 }
 
-impl From<Misfit> for ReadRefusal {
-    ghost use Rattle.odd_reader.specs.Formed.{IsFormed};
-    ghost use Rattle.odd_reader.specs.Reading.{refusal_of_misfit};
-
-    ghost from_gives = { λ misfit error. error ≡ refusal_of_misfit misfit };
-
-    fn from(misfit: Misfit) -> ReadRefusal {
-        match misfit {
-            Misfit::Misplaced | Misfit::TooDeep => ReadRefusal::NotYet,
-            Misfit::NoMemory => ReadRefusal::NoMemory,
-        }
+fn of_misfit(misfit: Misfit, at: u64) -> ReadRefusal
+    ensures { result ≡ refusal_of_misfit at misfit }
+{
+    match misfit {
+        Misfit::Misplaced => ReadRefusal::NotXml { at },
+        Misfit::TooDeep => ReadRefusal::TooDeep { at },
+        Misfit::NoMemory => ReadRefusal::NoMemory,
     }
 }
 
@@ -63,43 +60,82 @@ impl Reader {
         }
     }
 
-    // Takes the character that begins at a byte.
-    fn take(&mut self, at: u64, c: char) -> Result<(), ReadRefusal>
-        ensures { Follows (read_character (read_of self.old at) c) result (read_of self.new (at + length (encode_utf8 c))) }
+    // The byte where the unfinished token begins; where none is unfinished, that of the next character.
+    fn place(&self, next: u64) -> u64
+        ensures { result ≡ place_of (read_of self.now next) }
     {
-        if let Some(token) = self.lexer.take(at, c)? {
-            self.builder.take(token)?;
+        if self.lexer.is_between() {
+            next
+        } else {
+            self.lexer.begin()
         }
-        Ok(())
     }
 
-    // The tree, where no token and no element is unfinished.
-    fn finish(self) -> Result<Tree, ReadRefusal>
-        ensures ok { IfOk result (λ tree. IsFinished (read_of self 0) tree) }
-        ensures not_yet { result ≡ Err ReadRefusal.NotYet → (tree : ATree) → IsFinished (read_of self 0) tree → ⊥ }
+    // Takes the character that begins at a byte.
+    fn take(&mut self, at: u64, c: char) -> Result<(), ReadRefusal>
+        ensures { Follows (read_character (read_of self.old at) c) (place_of (read_of self.old at)) result (read_of self.new (at + length (encode_utf8 c))) }
     {
+        let place = self.place(at);
+        let token = match self.lexer.take(at, c) {
+            Ok(Some(token)) => token,
+            Ok(None) => return Ok(()),
+            Err(fault) => return Err(of_fault(fault, place)),
+        };
+        match self.builder.take(token) {
+            Ok(()) => Ok(()),
+            Err(misfit) => Err(of_misfit(misfit, place)),
+        }
+    }
+
+    // The tree, where no token and no element is unfinished at the end of the file.
+    fn finish(self, end: u64) -> Result<Tree, ReadRefusal>
+        ensures ok { IfOk result (λ tree. IsFinished (read_of self end) tree) }
+        ensures place { IfErr result (λ e. e ≡ ReadRefusal.NotXml (place_of (read_of self end))) }
+        ensures err { IfErr result (λ e. (tree : ATree) → IsFinished (read_of self end) tree → ⊥) }
+    {
+        let place = self.place(end);
         let Reader { lexer, builder } = self;
         if !lexer.is_between() {
-            return Err(ReadRefusal::NotYet);
+            return Err(ReadRefusal::NotXml { at: place });
         }
-        builder.finish().ok_or(ReadRefusal::NotYet)
+        builder.finish().ok_or(ReadRefusal::NotXml { at: place })
+    }
+}
+
+// The longest front of the bytes that is UTF-8.
+fn longest_front(bytes: &[u8]) -> &str
+    ensures { IsLongestFront bytes.now result.now }
+{
+    let error = match str::from_utf8(bytes) {
+        Ok(text) => return text,
+        Err(error) => error,
+    };
+    match str::from_utf8(&bytes[..error.valid_up_to()]) {
+        Ok(front) => front,
+        Err(_) => "",
     }
 }
 
 /// The tree of a file, from its bytes (XML 1.0 and Namespaces in XML 1.0, in the profile of docs/xml.md). A file that
-/// is not XML of this profile, or has over 200 levels of elements, is NotYet. A tree that can't be kept for want of
-/// memory is NoMemory.
+/// is not XML of this profile is NotXml at its first fault: the byte where the first token begins that does not fit, or
+/// the number of its bytes where it ends too early. A file with over 200 levels of elements is TooDeep at the tag that
+/// opens the 201st, unless a fault stands before that. A tree that can't be kept for want of memory is NoMemory.
 pub fn read_tree(alloc: Global, bytes: &[u8]) -> Result<Tree, ReadRefusal>
     ensures ok { IfOk result (GivesTree bytes.now) }
     ensures formed { IfOk result (IsFormed 0 (length bytes.now)) }
-    ensures not_yet { result ≡ Err ReadRefusal.NotYet → (tree : ATree) → GivesTree bytes.now tree → ⊥ }
+    ensures not_xml { IfErr result (λ e. (at : ℕ) → e ≡ ReadRefusal.NotXml at → IsNotXml bytes.now at) }
+    ensures too_deep { IfErr result (λ e. (at : ℕ) → e ≡ ReadRefusal.TooDeep at → DepthPlace bytes.now at) }
 {
-    let Ok(text) = str::from_utf8(bytes) else {
-        return Err(ReadRefusal::NotYet);
-    };
+    let front = longest_front(bytes);
     let mut reader = Reader::new(alloc);
-    for (at, c) in text.char_indices() {
+    for (at, c) in front.char_indices() {
         reader.take(at as u64, c)?;
     }
-    reader.finish()
+    let read = front.len() as u64;
+    if front.len() < bytes.len() {
+        return Err(ReadRefusal::NotXml {
+            at: reader.place(read),
+        });
+    }
+    reader.finish(read)
 }

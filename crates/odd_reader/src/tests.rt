@@ -74,11 +74,14 @@ fn have_trees(rt: &impl Abort, alloc: Global, files: &[(&str, &str)]) -> Result<
     Ok(())
 }
 
-// None of the files has a tree.
-fn have_no_tree(rt: &impl Abort, alloc: Global, files: &[&str]) -> Result<(), Fail> {
-    for file in files {
+// Each file has a fault at the byte that stands beside it.
+fn have_faults(rt: &impl Abort, alloc: Global, files: &[(&str, u64)]) -> Result<(), Fail> {
+    for (file, place) in files {
         let read = read_tree(alloc, file.as_bytes());
-        assert!(rt; matches!(read, Err(ReadRefusal::NotYet)), "{file}");
+        assert!(rt;
+            matches!(read, Err(ReadRefusal::NotXml { at }) if at == *place),
+            "{file}"
+        );
     }
     Ok(())
 }
@@ -125,62 +128,85 @@ fn a_file_may_have_an_opening(rt: HostRuntime) -> Result<(), Fail> {
 
 #[test]
 fn a_file_has_one_root(rt: HostRuntime) -> Result<(), Fail> {
-    have_no_tree(&rt, rt.alloc(), &NO_DOCUMENTS)
+    have_faults(&rt, rt.alloc(), &NO_DOCUMENTS)
 }
 
 #[test]
 fn what_is_no_token_is_refused(rt: HostRuntime) -> Result<(), Fail> {
-    have_no_tree(&rt, rt.alloc(), &NO_TOKENS)
+    have_faults(&rt, rt.alloc(), &NO_TOKENS)
 }
 
 #[test]
 fn a_declaration_has_its_form(rt: HostRuntime) -> Result<(), Fail> {
-    have_no_tree(&rt, rt.alloc(), &NO_DECLARATIONS)
+    have_faults(&rt, rt.alloc(), &NO_DECLARATIONS)
 }
 
 #[test]
 fn a_name_has_its_characters(rt: HostRuntime) -> Result<(), Fail> {
-    have_no_tree(&rt, rt.alloc(), &NO_NAMES)
+    have_faults(&rt, rt.alloc(), &NO_NAMES)
 }
 
 #[test]
 fn a_prefix_is_declared_as_it_may_be(rt: HostRuntime) -> Result<(), Fail> {
-    have_no_tree(&rt, rt.alloc(), &NO_NAMESPACES)
+    have_faults(&rt, rt.alloc(), &NO_NAMESPACES)
 }
 
 #[test]
 fn a_file_has_characters_of_xml(rt: HostRuntime) -> Result<(), Fail> {
-    have_no_tree(&rt, rt.alloc(), &NO_CHARACTERS)
+    have_faults(&rt, rt.alloc(), &NO_CHARACTERS)
 }
 
 #[test]
 fn a_file_is_utf8(rt: HostRuntime) -> Result<(), Fail> {
-    for file in NO_UTF8 {
+    for (file, place) in NO_UTF8 {
         let read = read_tree(rt.alloc(), file);
-        assert!(rt; matches!(read, Err(ReadRefusal::NotYet)), "{file:?}");
+        assert!(rt;
+            matches!(read, Err(ReadRefusal::NotXml { at }) if at == place),
+            "{file:?}"
+        );
     }
     Ok(())
 }
 
-// Elements in one another, of so many levels.
-fn nested(alloc: Global, levels: usize) -> Result<Text, NoMemory> {
+// So many start tags in one another, and a text.
+fn opened(alloc: Global, levels: usize, then: &str) -> Result<Text, NoMemory> {
     let mut file = Text::new(alloc);
     for _level in 0..levels {
         file.push_str("<a>")?;
     }
-    for _level in 0..levels {
-        file.push_str("</a>")?;
-    }
+    file.push_str(then)?;
     Ok(file)
 }
 
 #[test]
 fn a_file_has_at_most_200_levels(rt: HostRuntime) -> Result<(), Fail> {
-    let file = nested(rt.alloc(), 200)?;
+    let mut file = opened(rt.alloc(), 200, "")?;
+    for _level in 0..200 {
+        file.push_str("</a>")?;
+    }
     assert!(rt; read_tree(rt.alloc(), file.as_str().as_bytes()).is_ok());
-    let file = nested(rt.alloc(), 201)?;
-    let read = read_tree(rt.alloc(), file.as_str().as_bytes());
-    assert!(rt; matches!(read, Err(ReadRefusal::NotYet)));
+    Ok(())
+}
+
+#[test]
+fn what_stands_first_is_told(rt: HostRuntime) -> Result<(), Fail> {
+    for (levels, then, refusal) in [
+        (201, "", ReadRefusal::TooDeep { at: 600 }),
+        (201, "</b>", ReadRefusal::TooDeep { at: 600 }),
+        (200, "<b/>&", ReadRefusal::TooDeep { at: 600 }),
+        (200, "<b", ReadRefusal::NotXml { at: 600 }),
+        (200, "<p:b/>", ReadRefusal::NotXml { at: 600 }),
+        (200, "</b><a>", ReadRefusal::NotXml { at: 600 }),
+        (200, "]]><a>", ReadRefusal::NotXml { at: 602 }),
+        (200, "t", ReadRefusal::NotXml { at: 601 }),
+    ] {
+        let file = opened(rt.alloc(), levels, then)?;
+        let read = read_tree(rt.alloc(), file.as_str().as_bytes());
+        assert!(rt;
+            matches!(read, Err(found) if found == refusal),
+            "{levels} {then}"
+        );
+    }
     Ok(())
 }
 

@@ -1,14 +1,8 @@
 use Rattle.odd_cli.proofs.Saying.{says_then, says_stop, says_err, says_same}
 use Rattle.odd_cli.proofs.note.write_who.Goals as goal
 
-pub returns-in_err-line-in-At : goal.returns-in_err-line-in-At
-returns-in_err-line-in-At g c = rw c.in-At.is (says_err g.N.Sink.written g.N.Sink.faults _ _ _ c.from_residual.result c.from_residual.ensures.0 (says_stop g.N.Sink.written g.N.Sink.faults _ _ _ _ c.in_err-line-in-At.ensures))
-
-pub returns-in_ok-line-in-At : goal.returns-in_ok-line-in-At
-returns-in_ok-line-in-At g c = rw c.in-At.is (says_then g.N.Sink.written g.N.Sink.faults _ _ _ _ _ _ c.in_ok-line-in-At.ensures c.say_number.ensures)
-
 pub returns-in_err-line-in-Part : goal.returns-in_err-line-in-Part
-returns-in_err-line-in-Part g c = rw c.in-Part.is (says_err g.N.Sink.written g.N.Sink.faults _ _ _ c.from_residual-in_err-line-in-Part.result c.from_residual-in_err-line-in-Part.ensures.0 (says_stop g.N.Sink.written g.N.Sink.faults _ _ _ _ (says_stop g.N.Sink.written g.N.Sink.faults _ _ _ _ (says_stop g.N.Sink.written g.N.Sink.faults _ _ _ _ c.in_err-line-in-Part.ensures))))
+returns-in_err-line-in-Part g c = rw c.in-Part.is (says_err g.N.Sink.written g.N.Sink.faults _ _ _ c.from_residual.result c.from_residual.ensures.0 (says_stop g.N.Sink.written g.N.Sink.faults _ _ _ _ (says_stop g.N.Sink.written g.N.Sink.faults _ _ _ _ (says_stop g.N.Sink.written g.N.Sink.faults _ _ _ _ c.in_err-line-in-Part.ensures))))
 
 pub returns-in_err-say-in-Part : goal.returns-in_err-say-in-Part
 returns-in_err-say-in-Part g c = rw c.in-Part.is (says_err g.N.Sink.written g.N.Sink.faults _ _ _ c.from_residual-in_err-say-in-Part.result c.from_residual-in_err-say-in-Part.ensures.0 (says_stop g.N.Sink.written g.N.Sink.faults _ _ _ _ (says_stop g.N.Sink.written g.N.Sink.faults _ _ _ _ (says_then g.N.Sink.written g.N.Sink.faults _ _ _ _ _ _ c.in_ok-line-in-Part.ensures (says_same g.N.Sink.written g.N.Sink.faults _ _ _ _ _ c.word_of_kind.ensures c.in_err-say-in-Part.ensures)))))
