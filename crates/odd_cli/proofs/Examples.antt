@@ -95,6 +95,14 @@ line_of_limit : note_text (status.Limit (limit.Bytes 12)) ≡ codes "odd: limit 
 unfolding digits
 line_of_limit = refl
 
+line_of_depth : note_text (status.Limit (limit.Depth 1 600)) ≡ codes "odd: limit depth file 1 byte 600\n"
+unfolding digits
+line_of_depth = refl
+
+line_of_not_xml : note_text (status.NotXml 1 92) ≡ codes "odd: file 1: byte 92: not XML\n"
+unfolding digits
+line_of_not_xml = refl
+
 line_of_read_fault : note_text (status.ReadFault 1) ≡ codes "odd: read fault file 1\n"
 unfolding digits
 line_of_read_fault = refl
