@@ -1,13 +1,15 @@
 -- Small documents, libraries, grammars and schemas: what the definitions say of them, where they hold and where they don't.
-use Rattle.std.proofs.Common.{◌≡◌, ℕ, suc, Bool, true, false, not, ◌||◌, List, [], ◌∷◌, ◌++◌, filter, Some, None, inl, inr, refl, sym, ap, subst, ◌∙◌, codes, rules}
+use Rattle.std.proofs.Common.{◌≡◌, ℕ, suc, Bool, true, false, not, ◌||◌, List, [], ◌∷◌, ◌++◌, filter, map, Some, None, ◌⊎◌, inl, inr, refl, sym, ap, subst, ◌∙◌, codes, rules}
 use Rattle.std.specs.Prelude.{All, IsTrue}
+use Rattle.std.specs.FinMap.{find}
 use Rattle.std.specs.List.{list_all, list_any}
 use Rattle.std.proofs.lemmas.Bool.{false≢true}
 use Rattle.std.proofs.lemmas.List.Elements.{All-nil, All-cons, All-head}
 use Rattle.std.proofs.lemmas.Option.{same_Some}
+use Rattle.odd_base.specs.Key.{key_cmp}
 use Rattle.odd_reader.proofs.Ascii.{is_ascii_name}
 use Rattle.odd_reader.specs.Characters.{IsNCName}
-use Rattle.odd_reader.specs.Markup.{Markup}
+use Rattle.odd_reader.specs.Markup.{Markup, printed}
 use Rattle.odd_reader.specs.Names.{is_same}
 use Rattle.odd_reader.specs.declared.tree.Attr.{Attr}
 use Rattle.odd_reader.specs.declared.tree.Node.{Node, Element, Text}
@@ -20,18 +22,19 @@ use Rattle.odd_decls.specs.declared.content.Content.{Content}
 use Rattle.odd_decls.specs.declared.content.Content.TheVariants as content
 use Rattle.odd_decls.specs.declared.library.Component.{Component}
 use Rattle.odd_decls.specs.declared.library.Component.TheVariants as component
+use Rattle.odd_decls.specs.declared.library.ElementPart.{ElementPart}
 use Rattle.odd_decls.specs.declared.library.Library.{Library}
-use Rattle.odd_decls.specs.Odd.{StandsIn, element_key, elements_of, tei}
+use Rattle.odd_decls.specs.Odd.{StandsIn, element_key, elements_of, tei, tei_namespace}
 use Rattle.odd_decls.proofs.Elements.{element_shown}
 use Rattle.compile_core.specs.Acceptance.{Accepts, AreMatched, HasRule, IsAcceptedWithin, IsMatched, IsThere}
 use Rattle.compile_core.specs.Acceptance as acceptance
-use Rattle.compile_core.specs.Admission.{Admits, IsAdmitted, IsValid, IsValidBy, IsValidWithin}
+use Rattle.compile_core.specs.Admission.{Admits, IsAdmitted, IsValid, IsValidBy, IsValidWithin, name_in_documents}
 use Rattle.compile_core.specs.Admission as admission
 use Rattle.compile_core.specs.Children.{IsSignificant, Marking, beside_elements, blank, depth, is_blank, is_element, whole}
 use Rattle.compile_core.specs.Denoting.{IsElementOf, IsLinked, RefersTo, StandsFor, here, inside, relax_ng}
 use Rattle.compile_core.specs.Denoting as denoting
 use Rattle.compile_core.specs.Grammar.{plain}
-use Rattle.compile_core.specs.Schema.{choice_of}
+use Rattle.compile_core.specs.Schema.{choice_of, component_define, reference_to}
 use Rattle.compile_core.specs.declared.grammar.AttrPart.TheVariants as attributes
 use Rattle.compile_core.specs.declared.grammar.AttrRule.{AttrRule}
 use Rattle.compile_core.specs.declared.grammar.Body.TheVariants as body
@@ -56,6 +59,10 @@ attribute local value = record { name = record { ns = []; local = local }; value
 -- an element of TEI's
 abbrev element : List ℕ → List Attr → List Node → Tree
 element local attrs children = roll-Tree (record { name = tei local; attrs = attrs; binds = []; children = children; at = 0 })
+
+-- an element of a namespace, with nothing in it
+abbrev bare : List ℕ → List ℕ → Tree
+bare ns local = roll-Tree (record { name = record { ns = ns; local = local }; attrs = []; binds = []; children = []; at = 0 })
 
 -- `<b/>`, and `<a> <b/></a>`
 abbrev leaf : Tree
@@ -86,6 +93,9 @@ leaf_not_blank = search (rules, N.the_lemmas)
 
 childless_depth : (local : List ℕ) (attrs : List Attr) → depth (element local attrs []) ≡ 1
 childless_depth local attrs = search (rules, T.the_lemmas, N.the_lemmas)
+
+bare_depth : (ns local : List ℕ) → depth (bare ns local) ≡ 1
+bare_depth ns local = search (rules, T.the_lemmas, N.the_lemmas)
 
 words_depth : (local : List ℕ) (attrs : List Attr) → depth (element local attrs (words ∷ [])) ≡ 1
 words_depth local attrs = search (rules, T.the_lemmas, N.the_lemmas)
@@ -140,29 +150,39 @@ words_count all kept e (whole h) = e
 
 -- validity
 
--- a library that holds one element
+-- a namespace and a content, with no module
+abbrev part_in : List ℕ → Content → ElementPart
+part_in ns k = record { «module» = []; ns = ns; content = k }
+
+-- a library that holds one element, and one that holds an element of TEI's
+abbrev holding_part : List ℕ → ElementPart → Library
+holding_part ident part = record { ident = codes "s"; start = ident ∷ []; parts = (element_key ident, component.Element part) ∷ [] }
+
 abbrev holding : List ℕ → Content → Library
-holding ident k = record { ident = codes "s"; start = ident ∷ []; parts = (element_key ident, component.Element (record { content = k })) ∷ [] }
+holding ident k = holding_part ident (part_in tei_namespace k)
 
 -- what an element `a` with these children needs to be valid for the held `a`
 valid : (k : Content) (children kept : List Node) (levels : ℕ) → depth (element (codes "a") [] children) ≡ suc levels → IsSignificant children kept
     → IsAdmitted (IsValidWithin levels (holding (codes "a") k)) k kept → IsValid (holding (codes "a") k) (element (codes "a") [] children) (codes "a")
 valid k children kept levels e s m =
     subst (λ n. IsValidWithin n (holding (codes "a") k) (element (codes "a") [] children) (codes "a")) (sym e)
-    (record { content = k; held = refl; named = refl; attributed = refl; children = kept; significant = s; admitted = m })
+    (record { part = part_in tei_namespace k; held = refl; named = refl; attributed = refl; children = kept; significant = s; admitted = m })
 
 -- and what it tells where it is
 opened : (library : Library) (t : Tree) (ident : List ℕ) (levels : ℕ) → depth t ≡ suc levels → IsValid library t ident → IsValidBy (IsValidWithin levels library) library t ident
 opened library t ident levels e v = subst (λ n. IsValidWithin n library t ident) e v
 
--- the content of the held `a`
-abbrev content_in : Component → Content
-content_in (component.Element part) = part.content
+-- the held `a`, and its content
+abbrev part_of : Component → ElementPart
+part_of (component.Element part) = part
 
-the_content : (k : Content) (t : Tree) (counts : Marking) (v : IsValidBy counts (holding (codes "a") k) t (codes "a")) → k ≡ v.content
-the_content k t counts v =
-    let e : Some (component.Element (record { content = k })) ≡ Some (component.Element (record { content = v.content })) = v.held in
-    ap content_in (same_Some _ _ e)
+the_part : (part : ElementPart) (t : Tree) (counts : Marking) (v : IsValidBy counts (holding_part (codes "a") part) t (codes "a")) → part ≡ v.part
+the_part part t counts v =
+    let e : Some (component.Element part) ≡ Some (component.Element v.part) = v.held in
+    ap part_of (same_Some _ _ e)
+
+the_content : (k : Content) (t : Tree) (counts : Marking) (v : IsValidBy counts (holding (codes "a") k) t (codes "a")) → k ≡ v.part.content
+the_content k t counts v = ap (λ (p : ElementPart). p.content) (the_part (part_in tei_namespace k) t counts v)
 
 -- empty content: no child and white space, no words, no element
 empty_without_children : IsValid (holding (codes "a") content.Empty) (element (codes "a") [] []) (codes "a")
@@ -178,14 +198,14 @@ empty_admits_none counts k kept e (admission.text h) = cc
 empty_with_words : IsValid (holding (codes "a") content.Empty) (element (codes "a") [] (words ∷ [])) (codes "a") → ⊥
 empty_with_words v =
     let o = opened _ _ _ 0 (words_depth (codes "a") []) v in
-    let none = empty_admits_none _ o.content o.children (sym (the_content content.Empty _ _ o)) o.admitted in
+    let none = empty_admits_none _ o.part.content o.children (sym (the_content content.Empty _ _ o)) o.admitted in
     let one = words_count _ o.children refl o.significant in
     cc
 
 empty_with_element : IsValid (holding (codes "a") content.Empty) branch (codes "a") → ⊥
 empty_with_element v =
     let o = opened _ _ _ 1 branch_depth v in
-    let none = empty_admits_none _ o.content o.children (sym (the_content content.Empty _ _ o)) o.admitted in
+    let none = empty_admits_none _ o.part.content o.children (sym (the_content content.Empty _ _ o)) o.admitted in
     let one = leaf_alone_counts _ o.children refl o.significant in
     cc
 
@@ -206,27 +226,42 @@ texts_admit_no_element counts k kept e (admission.text h) = false≢true (sym h 
 text_with_element : IsValid (holding (codes "a") content.Text) branch (codes "a") → ⊥
 text_with_element v =
     let o = opened _ _ _ 1 branch_depth v in
-    texts_admit_no_element _ o.content o.children (leaf_alone_counts _ o.children refl o.significant) o.admitted
+    texts_admit_no_element _ o.part.content o.children (leaf_alone_counts _ o.children refl o.significant) o.admitted
 
--- for no content an attribute, another name, or another namespace
+-- for no content an attribute, or another name
 with_attribute : (k : Content) → IsValid (holding (codes "a") k) (element (codes "a") (attribute (codes "n") [] ∷ []) []) (codes "a") → ⊥
 with_attribute k v = let e : attribute (codes "n") [] ∷ [] ≡ [] = (opened _ _ _ 0 (childless_depth (codes "a") (attribute (codes "n") [] ∷ [])) v).attributed in cc
 
 with_another_name : (k : Content) → IsValid (holding (codes "a") k) leaf (codes "a") → ⊥
 with_another_name k v = let e : codes "b" ≡ codes "a" = ap (λ n. n.local) (opened _ _ _ 0 (childless_depth (codes "b") []) v).named in false≢true (ap (λ name. is_same name (codes "a")) e)
 
-abbrev elsewhere : Tree
-elsewhere = roll-Tree (record { name = record { ns = codes "urn:x"; local = codes "a" }; attrs = []; binds = []; children = []; at = 0 })
+-- each content admits no child
+no_child_admitted : (counts : Marking) (k : Content) → IsAdmitted counts k []
+no_child_admitted counts content.Empty = admission.empty
+no_child_admitted counts content.Text = admission.text refl
 
-elsewhere_depth : depth elsewhere ≡ 1
-elsewhere_depth = search (rules, T.the_lemmas, N.the_lemmas)
+-- in the namespace of its part, whichever that is, an element is valid, and in another one it is not
+in_its_namespace : (ns : List ℕ) (k : Content) → IsValid (holding_part (codes "a") (part_in ns k)) (bare ns (codes "a")) (codes "a")
+in_its_namespace ns k =
+    subst (λ n. IsValidWithin n (holding_part (codes "a") (part_in ns k)) (bare ns (codes "a")) (codes "a")) (sym (bare_depth ns (codes "a")))
+    (record { part = part_in ns k; held = refl; named = refl; attributed = refl; children = []; significant = none_counts; admitted = no_child_admitted _ k })
 
-in_another_namespace : (k : Content) → IsValid (holding (codes "a") k) elsewhere (codes "a") → ⊥
-in_another_namespace k v = let e : codes "urn:x" ≡ (tei (codes "a")).ns = ap (λ n. n.ns) (opened _ _ _ 0 elsewhere_depth v).named in cc
+in_another_namespace : (ns other : List ℕ) (k : Content) → (other ≡ ns → ⊥) → IsValid (holding_part (codes "a") (part_in ns k)) (bare other (codes "a")) (codes "a") → ⊥
+in_another_namespace ns other k apart v =
+    let o = opened _ _ _ 0 (bare_depth other (codes "a")) v in
+    let named : other ≡ o.part.ns = ap (λ n. n.ns) o.named in
+    apart (named ∙ ap (λ (p : ElementPart). p.ns) (sym (the_part (part_in ns k) _ _ o)))
+
+-- so an element of TEI's is none of no namespace, and the other way round
+without_namespace : (k : Content) → IsValid (holding (codes "a") k) (bare [] (codes "a")) (codes "a") → ⊥
+without_namespace k = in_another_namespace tei_namespace [] k (λ e. cc)
+
+with_tei_namespace : (k : Content) → IsValid (holding_part (codes "a") (part_in [] k)) (element (codes "a") [] []) (codes "a") → ⊥
+with_tei_namespace k = in_another_namespace [] tei_namespace k (λ e. cc)
 
 -- and nothing is valid for an element that is not held
 for_one_not_held : (k : Content) → IsValid (holding (codes "a") k) leaf (codes "b") → ⊥
-for_one_not_held k v = let o = opened _ _ _ 0 (childless_depth (codes "b") []) v in let e : None ≡ Some (component.Element (record { content = o.content })) = o.held in cc
+for_one_not_held k v = let o = opened _ _ _ 0 (childless_depth (codes "b") []) v in let e : None ≡ Some (component.Element o.part) = o.held in cc
 
 -- one of the start words is enough, and of none nothing is admitted
 second_word : Admits (holding (codes "a") content.Text) (codes "b" ∷ codes "a" ∷ []) (element (codes "a") [] (words ∷ []))
@@ -234,6 +269,61 @@ second_word = record { word = codes "a"; among = (codes "b" ∷ [], [], refl); v
 
 no_word : (library : Library) (t : Tree) → Admits library [] t → ⊥
 no_word library t a = none_stands a.word a.among
+
+-- a library of an `a` in a namespace of its own and a `b` of TEI's
+abbrev of_two : Library
+of_two = record {
+  ident = codes "s";
+  start = codes "a" ∷ codes "b" ∷ [];
+  parts = (element_key (codes "a"), component.Element (part_in (codes "urn:x") content.Empty)) ∷ (element_key (codes "b"), component.Element (part_in tei_namespace content.Empty)) ∷ [];
+}
+
+-- it admits each in its namespace
+first_of_two : Admits of_two of_two.start (bare (codes "urn:x") (codes "a"))
+first_of_two = record {
+  word = codes "a";
+  among = ([], codes "b" ∷ [], refl);
+  valid = subst (λ n. IsValidWithin n of_two (bare (codes "urn:x") (codes "a")) (codes "a")) (sym (bare_depth (codes "urn:x") (codes "a")))
+      (record { part = part_in (codes "urn:x") content.Empty; held = refl; named = refl; attributed = refl; children = []; significant = none_counts; admitted = admission.empty });
+}
+
+second_of_two : Admits of_two of_two.start leaf
+second_of_two = record {
+  word = codes "b";
+  among = (codes "a" ∷ [], [], refl);
+  valid = subst (λ n. IsValidWithin n of_two leaf (codes "b")) (sym (childless_depth (codes "b") []))
+      (record { part = part_in tei_namespace content.Empty; held = refl; named = refl; attributed = refl; children = []; significant = none_counts; admitted = admission.empty });
+}
+
+-- what is valid for one of the two has its ident and its part's namespace
+named_as_held : (part : ElementPart) (ident word : List ℕ) (t : Tree) (counts : Marking) → word ≡ ident → find key_cmp (element_key ident) of_two.parts ≡ Some (component.Element part)
+    → IsValidBy counts of_two t word → (out-Tree t).name ≡ name_in_documents ident part
+named_as_held part ident word t counts e held v =
+    let o : IsValidBy counts of_two t ident = subst (IsValidBy counts of_two t) e v in
+    o.named ∙ ap (name_in_documents ident) (ap part_of (same_Some _ _ (sym o.held ∙ held)))
+
+-- so the library admits two names alone
+name_of_two : (t : Tree) → depth t ≡ 1 → Admits of_two of_two.start t → ((out-Tree t).name ≡ record { ns = codes "urn:x"; local = codes "a" }) ⊎ ((out-Tree t).name ≡ tei (codes "b"))
+name_of_two t e a = elim (stands_in (codes "a") a.word (codes "b" ∷ []) a.among) [
+  | inl first ↦ inl (named_as_held (part_in (codes "urn:x") content.Empty) (codes "a") a.word t _ first refl (opened of_two t a.word 0 e a.valid))
+  | inr later ↦ elim (stands_in (codes "b") a.word [] later) [
+    | inl second ↦ inr (named_as_held (part_in tei_namespace content.Empty) (codes "b") a.word t _ second refl (opened of_two t a.word 0 e a.valid))
+    | inr last ↦ absurd (none_stands a.word last)
+  ]
+]
+
+-- and neither element in the other's namespace
+first_of_tei : Admits of_two of_two.start (element (codes "a") [] []) → ⊥
+first_of_tei a = elim (name_of_two _ (childless_depth (codes "a") []) a) [
+  | inl first ↦ let e : tei_namespace ≡ codes "urn:x" = ap (λ n. n.ns) first in cc
+  | inr second ↦ let e : codes "a" ≡ codes "b" = ap (λ n. n.local) second in false≢true (ap (λ name. is_same name (codes "b")) e)
+]
+
+second_elsewhere : Admits of_two of_two.start (bare (codes "urn:x") (codes "b")) → ⊥
+second_elsewhere a = elim (name_of_two _ (bare_depth (codes "urn:x") (codes "b")) a) [
+  | inl first ↦ let e : codes "b" ≡ codes "a" = ap (λ n. n.local) first in false≢true (ap (λ name. is_same name (codes "a")) e)
+  | inr second ↦ let e : codes "urn:x" ≡ tei_namespace = ap (λ n. n.ns) second in cc
+]
 
 -- acceptance
 
@@ -327,6 +417,19 @@ one_choice m = refl
 two_choices : (m n : Markup) → choice_of (m ∷ n ∷ []) ≡ plain (codes "choice") (m ∷ n ∷ [])
 two_choices m n = refl
 
+-- and their text, for a start of two words
+two_words : printed (choice_of (map reference_to (codes "a" ∷ codes "b" ∷ []))) ≡ codes "<choice>\n<ref name=\"e.a\"/>\n<ref name=\"e.b\"/>\n</choice>\n"
+two_words = refl
+
+-- the define of an element has its namespace, which may be the empty one
+define_elsewhere : printed (component_define (element_key (codes "a"), component.Element (part_in (codes "urn:x") content.Text)))
+    ≡ codes "<define name=\"e.a\">\n<element name=\"a\" ns=\"urn:x\">\n<text/>\n</element>\n</define>\n"
+define_elsewhere = refl
+
+define_without_namespace : printed (component_define (element_key (codes "a"), component.Element (part_in [] content.Empty)))
+    ≡ codes "<define name=\"e.a\">\n<element name=\"a\" ns=\"\">\n<empty/>\n</element>\n</define>\n"
+define_without_namespace = refl
+
 -- schemas
 
 is_name : (name : List ℕ) → is_ascii_name name ≡ true → IsNCName name
@@ -396,17 +499,36 @@ none_given allowed = All-nil (IsAllowed allowed)
 one_given : (allowed : List (List ℕ)) (local value : List ℕ) → StandsIn allowed local → All (IsAllowed allowed) (attribute local value ∷ [])
 one_given allowed local value s = All-cons (IsAllowed allowed) (attribute local value) [] (λ e. s) (All-nil (IsAllowed allowed))
 
+-- `<empty/>` is a pattern
+empty_stands : denoting.IsPattern empty_part expr.Empty
+empty_stands = denoting.empty (record { named = refl; attributed = none_given []; blank = refl }) refl
+
 element_stands : IsElementOf (codes "urn:x") element_a (body.Element (class.One (record { ns = codes "urn:x"; local = codes "a" })) (attributes.Listed []) expr.Empty)
 element_stands = record {
   is_part = record { named = refl; attributed = one_given _ (codes "name") (codes "a") ([], codes "ns" ∷ [], refl); blank = one_passes empty_part };
   name = codes "a";
   named = record { is_given = refl; is_ncname = is_name (codes "a") refl };
   content = expr.Empty;
-  holds = record {
-    inside = empty_part;
-    alone = part_alone empty_part refl;
-    is_pattern = denoting.empty (record { named = refl; attributed = none_given []; blank = refl }) refl;
+  holds = record { inside = empty_part; alone = part_alone empty_part refl; is_pattern = empty_stands };
+  body_is = refl;
+}
+
+-- `<element name="b" ns=""><empty/></element>` is of no namespace, also where the grammar has one
+abbrev element_b : Tree
+element_b = rng (codes "element") (attribute (codes "name") (codes "b") ∷ attribute (codes "ns") [] ∷ []) (Element empty_part ∷ [])
+
+element_of_none : IsElementOf (codes "urn:x") element_b (body.Element (class.One (record { ns = []; local = codes "b" })) (attributes.Listed []) expr.Empty)
+element_of_none = record {
+  is_part = record {
+    named = refl;
+    attributed = All-cons (IsAllowed (codes "name" ∷ codes "ns" ∷ [])) (attribute (codes "name") (codes "b")) (attribute (codes "ns") [] ∷ []) (λ e. ([], codes "ns" ∷ [], refl))
+        (one_given _ (codes "ns") [] (codes "name" ∷ [], [], refl));
+    blank = one_passes empty_part;
   };
+  name = codes "b";
+  named = record { is_given = refl; is_ncname = is_name (codes "b") refl };
+  content = expr.Empty;
+  holds = record { inside = empty_part; alone = part_alone empty_part refl; is_pattern = empty_stands };
   body_is = refl;
 }
 

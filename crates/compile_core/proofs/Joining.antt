@@ -6,13 +6,13 @@ use Rattle.odd_base.specs.KeyOrder.{key_total, key_exact}
 use Rattle.odd_base.specs.declared.key.Key.{Key}
 use Rattle.odd_reader.specs.declared.tree.Tree.{Tree, out-Tree}
 use Rattle.odd_reader.specs.declared.tree.Node.{Node}
-use Rattle.odd_decls.specs.Odd.{StandsIn, element_key, tei}
-use Rattle.odd_decls.specs.declared.content.Content.{Content}
+use Rattle.odd_decls.specs.Odd.{StandsIn, element_key}
 use Rattle.odd_decls.specs.declared.library.Component.{Component}
 use Rattle.odd_decls.specs.declared.library.Component.TheVariants as component
+use Rattle.odd_decls.specs.declared.library.ElementPart.{ElementPart}
 use Rattle.odd_decls.specs.declared.library.Library.{Library}
 use Rattle.compile_core.specs.Acceptance.{AreMatched, IsAcceptedBy, IsAcceptedWithin, IsInClass, IsMatched, empty, text, reference, choice}
-use Rattle.compile_core.specs.Admission.{IsValidBy, IsValidWithin}
+use Rattle.compile_core.specs.Admission.{IsValidBy, IsValidWithin, name_in_documents}
 use Rattle.compile_core.specs.Children.{Marking}
 use Rattle.compile_core.specs.Compiled.{content_pattern, definition_of, element_definition, grammar_of}
 use Rattle.compile_core.specs.Schema.{IsFormed, define_name}
@@ -39,9 +39,9 @@ one_name a b e = cc
 -- the define of a held element
 record DefinesHeld (library : Library) (d : Define) : Type 0 where
   pub ident : List ℕ
-  pub content : Content
-  pub held : find key_cmp (element_key ident) library.parts ≡ Some (component.Element (record { content = content }))
-  pub is : d ≡ element_definition ident content
+  pub part : ElementPart
+  pub held : find key_cmp (element_key ident) library.parts ≡ Some (component.Element part)
+  pub is : d ≡ element_definition ident part
 
 defines_held : (library : Library) (d : Define) → IsFormed library → StandsIn (map definition_of library.parts) d → DefinesHeld library d
 defines_held library d f s = let h = stands_map definition_of library.parts d s in from h.0 h.1 h.2
@@ -50,47 +50,47 @@ defines_held library d f s = let h = stands_map definition_of library.parts d s 
     from (key, component.Element part) stands e =
         let there : find key_cmp key library.parts ≡ Some (component.Element part) = found key_cmp key_total key_exact key (component.Element part) library.parts f.rising stands in
         let same : key ≡ element_key key.ident = λ i. record { kind = (f.formed key (component.Element part) there).0 i; ident = key.ident } in
-        record { ident = key.ident; content = part.content; held = subst (λ k. find key_cmp k library.parts ≡ Some (component.Element part)) same there; is = e }
+        record { ident = key.ident; part = part; held = subst (λ k. find key_cmp k library.parts ≡ Some (component.Element part)) same there; is = e }
 
-held_defined : (library : Library) (ident : List ℕ) (content : Content) → find key_cmp (element_key ident) library.parts ≡ Some (component.Element (record { content = content }))
-    → StandsIn (map definition_of library.parts) (element_definition ident content)
-held_defined library ident content e =
-    map_stands definition_of library.parts (element_key ident, component.Element (record { content = content })) (held_stands key_cmp key_total key_exact (element_key ident) _ library.parts e)
+held_defined : (library : Library) (ident : List ℕ) (part : ElementPart) → find key_cmp (element_key ident) library.parts ≡ Some (component.Element part)
+    → StandsIn (map definition_of library.parts) (element_definition ident part)
+held_defined library ident part e =
+    map_stands definition_of library.parts (element_key ident, component.Element part) (held_stands key_cmp key_total key_exact (element_key ident) _ library.parts e)
 
 module _ (library : Library) (start : List (List ℕ)) (f : IsFormed library) where
   -- a step of the induction, from markings that agree on the children
   module _ (valid accepted : Marking) (to : (t : Tree) (name : List ℕ) → ByDefine valid t name → accepted t name) (from : (t : Tree) (name : List ℕ) → accepted t name → ByDefine valid t name) where
     valid_accepted : (t : Tree) (ident : List ℕ) → IsValidBy valid library t ident → IsAcceptedBy accepted (grammar_of library start) t (define_name ident)
     valid_accepted t ident v = record {
-      names = class.One (tei ident);
+      names = class.One (name_in_documents ident v.part);
       rules = [];
-      content = content_pattern v.content;
-      defined = held_defined library ident v.content v.held;
+      content = content_pattern v.part.content;
+      defined = held_defined library ident v.part v.held;
       named = v.named;
       attributed = (attribute_law library ident (out-Tree t).attrs).0 v.attributed;
       children = v.children;
       significant = v.significant;
-      matched = matched_under to ((content_law valid v.content v.children).0 v.admitted);
+      matched = matched_under to ((content_law valid v.part.content v.children).0 v.admitted);
     }
 
     accepted_valid : (t : Tree) (name : List ℕ) → IsAcceptedBy accepted (grammar_of library start) t name → ByDefine (IsValidBy valid library) t name
     accepted_valid t name a =
         let d = defines_held library _ f a.defined in
         let named : name ≡ define_name d.ident = ap (λ (x : Define). x.name) d.is in
-        let bodies : body.Element a.names (attributes.Listed a.rules) a.content ≡ body.Element (class.One (tei d.ident)) (attributes.Listed []) (content_pattern d.content) = ap (λ (x : Define). x.body) d.is in
-        let names : a.names ≡ class.One (tei d.ident) = cc in
+        let bodies : body.Element a.names (attributes.Listed a.rules) a.content ≡ (element_definition d.ident d.part).body = ap (λ (x : Define). x.body) d.is in
+        let names : a.names ≡ class.One (name_in_documents d.ident d.part) = cc in
         let rules : a.rules ≡ [] = cc in
-        let content : a.content ≡ content_pattern d.content = cc in (
+        let content : a.content ≡ content_pattern d.part.content = cc in (
           d.ident,
           named,
           record {
-            content = d.content;
+            part = d.part;
             held = d.held;
             named = subst (λ n. IsInClass n (out-Tree t).name) names a.named;
             attributed = (attribute_law library d.ident (out-Tree t).attrs).1 (subst (λ r. AreMatched r (out-Tree t).attrs) rules a.attributed);
             children = a.children;
             significant = a.significant;
-            admitted = (content_law valid d.content a.children).1 (matched_under from (subst (λ p. IsMatched accepted p a.children) content a.matched));
+            admitted = (content_law valid d.part.content a.children).1 (matched_under from (subst (λ p. IsMatched accepted p a.children) content a.matched));
           },
         )
 

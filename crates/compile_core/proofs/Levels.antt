@@ -97,13 +97,13 @@ valid_more : (m n : ℕ) (library : Library) (t : Tree) (ident : List ℕ) → d
 valid_more zero n library t ident h k v = absurd v
 valid_more (suc m) zero library t ident h k v = let d = depth_is t in absurd (omega arith)
 valid_more (suc m) (suc n) library t ident h k v = record {
-  content = v.content;
+  part = v.part;
   held = v.held;
   named = v.named;
   attributed = v.attributed;
   children = v.children;
   significant = v.significant;
-  admitted = admitted_on (IsValidWithin m library) (IsValidWithin n library) v.content v.children v.admitted;
+  admitted = admitted_on (IsValidWithin m library) (IsValidWithin n library) v.part.content v.children v.admitted;
 }
 
 pub valid_enough : (n : ℕ) (library : Library) (t : Tree) (ident : List ℕ) → depth t ≤ n → IsValidWithin n library t ident ↔ IsValid library t ident

@@ -25,7 +25,7 @@ use Rattle.odd_decls.specs.Odd.{StandsIn, element_key}
 use Rattle.compile_core.specs.declared.grammar.Define.{Define}
 use Rattle.compile_core.specs.Compiled.{definition_of}
 use Rattle.compile_core.specs.Denoting.{entry_of, names_of}
-use Rattle.compile_core.specs.Schema.{IsFormed, define_name}
+use Rattle.compile_core.specs.Schema.{IsFormed, IsFormedPart, define_name}
 use Rattle.compile_core.proofs.Missing.{not_below}
 use Rattle.compile_core.proofs.Standing.{each_stands, found, held_stands, is_less, map_stands}
 
@@ -37,16 +37,17 @@ front_chars cs h = h
 pub define_ncname : (ident : List ℕ) → IsNCName ident → IsNCName (define_name ident)
 define_ncname ident n = (codes "e." ++ n.0, encodes-append (codes "e.") n.0 ∙ (λ k. ascii_codes (codes "e.") refl k ++ n.1 k), front_chars n.0 (ncname_chars n.0 n.2))
 
--- the key is that of an element whose ident is a name
+-- the key is that of an element whose ident is a name, and whose namespace is of XML's characters
 pub record IsElementEntry (e : Key × Component) : Type 0 where
   pub kind : e.0.kind ≡ kind.Element
   pub ident : IsNCName e.0.ident
+  pub part : IsFormedPart e.1
 
 -- each entry of a formed library is an element's
 pub entries_formed : (library : Library) → IsFormed library → All IsElementEntry library.parts
 entries_formed library f = each_stands IsElementEntry library.parts (λ e s.
     let at = f.formed e.0 e.1 (found key_cmp key_total key_exact e.0 e.1 library.parts f.rising s) in
-    record { kind = at.0; ident = at.1 })
+    record { kind = at.0; ident = at.1; part = at.2 })
 
 -- an entry of a library, and what it is compiled to, have one order
 name_of : (e : Key × Component) → (definition_of e).name ≡ define_name e.0.ident

@@ -12,7 +12,7 @@ use Rattle.odd_decls.specs.declared.content.Content.TheVariants as content
 use Rattle.odd_decls.specs.declared.library.Component.{Component}
 use Rattle.odd_decls.specs.declared.library.Component.TheVariants as component
 use Rattle.odd_decls.specs.declared.library.Library.{Library}
-use Rattle.odd_decls.specs.Odd.{StandsIn, tei_namespace}
+use Rattle.odd_decls.specs.Odd.{StandsIn}
 use Rattle.compile_core.specs.Compiled.{content_pattern, definition_of, reference, start_pattern}
 use Rattle.compile_core.specs.Denoting.{AreDefines, ArePatterns, IsDefine, IsElementOf, IsPattern, IsStart, given, parts_of}
 use Rattle.compile_core.specs.Denoting as denoting
@@ -90,29 +90,29 @@ is_start start t n s =
     }
 
 -- an element
-element_shown : (default ident : List ℕ) (c : Content) (t : Tree) → IsNCName ident → Shows relax_ng_namespace (element_markup ident tei_namespace (content_markup c)) t
-    → IsElementOf default t (body.Element (class.One (record { ns = tei_namespace; local = ident })) (attributes.Listed []) (content_pattern c))
-element_shown default ident c t n s =
-    let given_two : List Pair = (codes "name", ident) ∷ (codes "ns", tei_namespace) ∷ [] in
+element_shown : (default ident ns : List ℕ) (c : Content) (t : Tree) → IsNCName ident → Shows relax_ng_namespace (element_markup ident ns (content_markup c)) t
+    → IsElementOf default t (body.Element (class.One (record { ns = ns; local = ident })) (attributes.Listed []) (content_pattern c))
+element_shown default ident ns c t n s =
+    let given_two : List Pair = (codes "name", ident) ∷ (codes "ns", ns) ∷ [] in
     let allowed : List (List ℕ) = codes "name" ∷ codes "ns" ∷ [] in
     let h = shown (codes "element") given_two (content_markup c ∷ []) t s in
     let one = one_part (content_markup c) (parts_of t) h.parts in
-    let ns : given t (codes "ns") ≡ Some tei_namespace = value_in _ _ _ t (codes "ns") h in
+    let namespace : given t (codes "ns") ≡ Some ns = value_in _ _ _ t (codes "ns") h in
     record {
       is_part = is_part _ _ _ allowed t h
-          (All-cons (Allows allowed) (codes "name", ident) ((codes "ns", tei_namespace) ∷ []) ([], codes "ns" ∷ [], refl)
-          (All-cons (Allows allowed) (codes "ns", tei_namespace) [] (codes "name" ∷ [], [], refl) (no_attribute allowed)));
+          (All-cons (Allows allowed) (codes "name", ident) ((codes "ns", ns) ∷ []) ([], codes "ns" ∷ [], refl)
+          (All-cons (Allows allowed) (codes "ns", ns) [] (codes "name" ∷ [], [], refl) (no_attribute allowed)));
       name = ident;
       named = record { is_given = value_in _ _ _ t (codes "name") h; is_ncname = n };
       content = content_pattern c;
       holds = record { inside = one.inside; alone = one.alone; is_pattern = content_shown c one.inside one.shows };
-      body_is = ap (λ o. body.Element (class.One (record { ns = unwrap_or o default; local = ident })) (attributes.Listed []) (content_pattern c)) (sym ns);
+      body_is = ap (λ o. body.Element (class.One (record { ns = unwrap_or o default; local = ident })) (attributes.Listed []) (content_pattern c)) (sym namespace);
     }
 
 -- a define
 define_shown : (default : List ℕ) (e : Key × Component) (t : Tree) → IsElementEntry e → Shows relax_ng_namespace (component_define e) t → IsDefine default t (definition_of e)
 define_shown default (key, component.Element part) t n s =
-    let m = element_markup key.ident tei_namespace (content_markup part.content) in
+    let m = element_markup key.ident part.ns (content_markup part.content) in
     let h = shown (codes "define") ((codes "name", define_name key.ident) ∷ []) (m ∷ []) t s in
     let one = one_part m (parts_of t) h.parts in
     record {
@@ -120,7 +120,7 @@ define_shown default (key, component.Element part) t n s =
       named = record { is_given = value_in _ _ _ t (codes "name") h; is_ncname = define_ncname key.ident n.ident };
       inside = one.inside;
       alone = one.alone;
-      is_element = element_shown default key.ident part.content one.inside n.ident one.shows;
+      is_element = element_shown default key.ident part.ns part.content one.inside n.ident one.shows;
     }
 
 pub are_defines : (default : List ℕ) (es : List (Key × Component)) (ts : List Tree) → All IsElementEntry es → AreShown (map component_define es) ts

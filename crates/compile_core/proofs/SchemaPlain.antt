@@ -22,7 +22,6 @@ use Rattle.compile_core.specs.Schema.{HoldsStart, IsFormed, choice_of, component
 use Rattle.compile_core.proofs.SchemaLinked.{words_named}
 use Rattle.compile_core.proofs.SchemaNames.{IsElementEntry, define_ncname, entries_formed}
 use Rattle.compile_core.proofs.SchemaParts.{root_attributes, schema_parts}
-use Rattle.odd_decls.specs.Odd.{tei_namespace}
 
 literal_name : (name : List ℕ) → IsTrue (is_ascii_name name) → IsNCName name
 literal_name name h = (name, ascii_name name h, ascii_ncname name h)
@@ -45,11 +44,11 @@ one_tag tag a h p = record {
 name_attribute : (name : List ℕ) → IsNCName name → IsPlainAttribute (codes "name", name)
 name_attribute name n = literal_attribute (codes "name") name refl (λ e. cc) (ncname_legal name n)
 
-element_tag : (ident : List ℕ) → IsNCName ident → IsPlainTag (codes "element") ((codes "name", ident) ∷ (codes "ns", tei_namespace) ∷ [])
-element_tag ident n = record {
+element_tag : (ident ns : List ℕ) → IsNCName ident → IsLegal ns → IsPlainTag (codes "element") ((codes "name", ident) ∷ (codes "ns", ns) ∷ [])
+element_tag ident ns n legal = record {
   named = literal_name (codes "element") refl;
-  attributed = All-cons IsPlainAttribute (codes "name", ident) ((codes "ns", tei_namespace) ∷ []) (name_attribute ident n)
-      (All-cons IsPlainAttribute (codes "ns", tei_namespace) [] (literal_attribute (codes "ns") tei_namespace refl (λ e. cc) (ascii_legal tei_namespace refl)) (All-nil IsPlainAttribute));
+  attributed = All-cons IsPlainAttribute (codes "name", ident) ((codes "ns", ns) ∷ []) (name_attribute ident n)
+      (All-cons IsPlainAttribute (codes "ns", ns) [] (literal_attribute (codes "ns") ns refl (λ e. cc) legal) (All-nil IsPlainAttribute));
   once = none_twice (codes "name" ∷ codes "ns" ∷ []) (((λ e. cc), tt), (tt, tt));
 }
 
@@ -85,7 +84,7 @@ choice_plain (word ∷ other ∷ words) n = (bare_tag (codes "choice") refl, ref
 define_plain : (e : Key × Component) → IsElementEntry e → IsPlain (component_define e)
 define_plain (key, component.Element part) n = (
   one_tag (codes "define") (codes "name", define_name key.ident) refl (name_attribute (define_name key.ident) (define_ncname key.ident n.ident)),
-  ((element_tag key.ident n.ident, (content_plain part.content, tt)), tt),
+  ((element_tag key.ident part.ns n.ident n.part, (content_plain part.content, tt)), tt),
 )
 
 defines_plain : (es : List (Key × Component)) → All IsElementEntry es → ArePlain (all_of (map component_define es))

@@ -12,7 +12,6 @@ use Rattle.compile_core.specs.Compiled.{content_pattern, definition_of, grammar_
 use Rattle.compile_core.specs.Grammar.{define_markup, element_markup, grammar_markup, grammar_text, named, pattern_markup, plain}
 use Rattle.compile_core.specs.Schema.{choice_of, component_define, content_markup, define_name, reference_to, schema_text}
 use Rattle.compile_core.proofs.Printing.{choice_is, not_allowed_is, ref_is}
-use Rattle.odd_decls.specs.Odd.{tei_namespace}
 
 content_is : (k : Content) → pattern_markup (content_pattern k) ≡ content_markup k
 content_is content.Empty = search (rules, E.the_lemmas)
@@ -30,7 +29,7 @@ start_is (w ∷ v ∷ ws) = choice_is (map reference (w ∷ v ∷ ws)) ∙ ap (�
 defines_are : (parts : List (Key × Component)) → map define_markup (map definition_of parts) ≡ map component_define parts
 defines_are [] = refl
 defines_are ((key, component.Element part) ∷ rest) =
-    λ i. named (codes "define") (define_name key.ident) (element_markup key.ident tei_namespace (content_is part.content i) ∷ []) ∷ defines_are rest i
+    λ i. named (codes "define") (define_name key.ident) (element_markup key.ident part.ns (content_is part.content i) ∷ []) ∷ defines_are rest i
 
 pub text_is : (library : Library) (start : List (List ℕ)) → grammar_text (grammar_of library start) ≡ schema_text library start
 text_is library start = λ i. file_printed (grammar_markup (start_is start i) (defines_are library.parts i))

@@ -3,14 +3,16 @@ use Rattle.std.specs.Prelude.{◌≡◌, ℕ, zero, suc, false, List, [], Some}
 use Rattle.std.specs.List.{list_any}
 use Rattle.std.specs.FinMap.{find}
 use Rattle.odd_base.specs.Key.{key_cmp}
+use Rattle.odd_base.specs.declared.name.Name.{Name}
 use Rattle.odd_reader.specs.declared.tree.Attr.{Attr}
 use Rattle.odd_reader.specs.declared.tree.Tree.{Tree, out-Tree}
 use Rattle.odd_reader.specs.declared.tree.Node.{Node}
 use Rattle.odd_decls.specs.declared.content.Content.{Content}
 use Rattle.odd_decls.specs.declared.content.Content.TheVariants as content
 use Rattle.odd_decls.specs.declared.library.Component.TheVariants as component
+use Rattle.odd_decls.specs.declared.library.ElementPart.{ElementPart}
 use Rattle.odd_decls.specs.declared.library.Library.{Library}
-use Rattle.odd_decls.specs.Odd.{StandsIn, element_key, tei}
+use Rattle.odd_decls.specs.Odd.{StandsIn, element_key}
 use Rattle.compile_core.specs.Children.{Marking, depth, is_element, IsSignificant}
 
 -- The content admits the significant children: `empty` no child, `textNode` any number of texts.
@@ -22,15 +24,19 @@ pub data IsAdmitted (counts : Marking) : Content → List Node → Type 0 where
 abbrev pub AreOffered : Library → List ℕ → List Attr → Type 0
 AreOffered library ident attrs = attrs ≡ []
 
+-- an element's name in documents: its ident in its namespace
+abbrev pub name_in_documents : List ℕ → ElementPart → Name
+name_in_documents ident part = record { ns = part.ns; local = ident }
+
 -- An element is valid for the held element of the ident, where each of its children is valid for those that it counts for.
 pub record IsValidBy (counts : Marking) (library : Library) (t : Tree) (ident : List ℕ) : Type 0 where
-  pub content : Content
-  pub held : find key_cmp (element_key ident) library.parts ≡ Some (component.Element (record { content = content }))
-  pub named : (out-Tree t).name ≡ tei ident
+  pub part : ElementPart
+  pub held : find key_cmp (element_key ident) library.parts ≡ Some (component.Element part)
+  pub named : (out-Tree t).name ≡ name_in_documents ident part
   pub attributed : AreOffered library ident (out-Tree t).attrs
   pub children : List Node
   pub significant : IsSignificant (out-Tree t).children children
-  pub admitted : IsAdmitted counts content children
+  pub admitted : IsAdmitted counts part.content children
 
 -- by recursion on the depth
 abbrev pub IsValidWithin : ℕ → Library → Marking

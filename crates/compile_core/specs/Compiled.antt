@@ -1,11 +1,11 @@
 -- The grammar of a library and a list of start words.
 use Rattle.std.specs.Prelude.{ℕ, List, [], ◌∷◌, map}
 use Rattle.odd_base.specs.declared.key.Key.{Key}
-use Rattle.odd_decls.specs.Odd.{tei}
 use Rattle.odd_decls.specs.declared.content.Content.{Content}
 use Rattle.odd_decls.specs.declared.content.Content.TheVariants as content
 use Rattle.odd_decls.specs.declared.library.Component.{Component}
 use Rattle.odd_decls.specs.declared.library.Component.TheVariants as component
+use Rattle.odd_decls.specs.declared.library.ElementPart.{ElementPart}
 use Rattle.odd_decls.specs.declared.library.Library.{Library}
 use Rattle.compile_core.specs.Schema.{define_name}
 use Rattle.compile_core.specs.declared.grammar.AttrPart.TheVariants as attributes
@@ -33,11 +33,12 @@ abbrev pub start_pattern : List (List ℕ) → Expr
 start_pattern start = choice_pattern (map reference start)
 
 -- no attribute is offered so far
-abbrev pub element_definition : List ℕ → Content → Define
-element_definition ident content = record { name = define_name ident; body = body.Element (class.One (tei ident)) (attributes.Listed []) (content_pattern content) }
+abbrev pub element_definition : List ℕ → ElementPart → Define
+element_definition ident part =
+    record { name = define_name ident; body = body.Element (class.One (record { ns = part.ns; local = ident })) (attributes.Listed []) (content_pattern part.content) }
 
 abbrev pub definition_of : Key × Component → Define
-definition_of (key, component.Element part) = element_definition key.ident part.content
+definition_of (key, component.Element part) = element_definition key.ident part
 
 abbrev pub grammar_of : Library → List (List ℕ) → Grammar
 grammar_of library start = record { start = start_pattern start; defines = map definition_of library.parts }

@@ -8,14 +8,14 @@ use Rattle.odd_base.specs.declared.key.Key.{Key}
 use Rattle.odd_base.specs.declared.key.Kind.TheVariants as kind
 use Rattle.odd_base.specs.declared.offence.Offence.{Offence}
 use Rattle.odd_base.specs.declared.offence.Who.TheVariants as who
-use Rattle.odd_reader.specs.Characters.{IsNCName}
+use Rattle.odd_reader.specs.Characters.{IsLegal, IsNCName}
 use Rattle.odd_reader.specs.Markup.{Markup, file_printed}
 use Rattle.odd_decls.specs.declared.content.Content.{Content}
 use Rattle.odd_decls.specs.declared.content.Content.TheVariants as content
 use Rattle.odd_decls.specs.declared.library.Component.{Component}
 use Rattle.odd_decls.specs.declared.library.Component.TheVariants as component
 use Rattle.odd_decls.specs.declared.library.Library.{Library}
-use Rattle.odd_decls.specs.Odd.{StandsIn, element_key, tei_namespace}
+use Rattle.odd_decls.specs.Odd.{StandsIn, element_key}
 use Rattle.std.specs.declared.cmp.Ordering.TheVariants.{Less}
 use Rattle.compile_core.specs.Grammar.{plain, named, element_markup, grammar_markup}
 
@@ -36,13 +36,13 @@ abbrev pub content_markup : Content → Markup
 content_markup content.Empty = plain (codes "empty") []
 content_markup content.Text = plain (codes "text") []
 
--- the define of an element
-abbrev pub element_define : List ℕ → Content → Markup
-element_define ident content = named (codes "define") (define_name ident) (element_markup ident tei_namespace (content_markup content) ∷ [])
+-- the define of an element: its ident, its namespace in documents and its content
+abbrev pub element_define : List ℕ → List ℕ → Content → Markup
+element_define ident ns content = named (codes "define") (define_name ident) (element_markup ident ns (content_markup content) ∷ [])
 
 -- the define of a component
 abbrev pub component_define : Key × Component → Markup
-component_define (key, component.Element part) = element_define key.ident part.content
+component_define (key, component.Element part) = element_define key.ident part.ns part.content
 
 abbrev pub schema_text : Library → List (List ℕ) → List ℕ
 schema_text library start = file_printed (grammar_markup (choice_of (map reference_to start)) (map component_define library.parts))
@@ -79,7 +79,11 @@ pub record IsStartOffence (library : Library) (start : List (List ℕ)) (offence
   pub who : offence.who ≡ who.Start word
   pub is_least : IsLeastMissing library start word
 
+-- a component whose texts are of XML's characters
+abbrev pub IsFormedPart : Component → Type 0
+IsFormedPart (component.Element part) = IsLegal part.ns
+
 -- A library as files give it: a finite map from keys to components, which are elements so far, and whose idents are names.
 pub record IsFormed (library : Library) : Type 0 where
   pub rising : IsTrue (is_sorted key_cmp library.parts)
-  pub formed : (key : Key) (part : Component) → find key_cmp key library.parts ≡ Some part → (key.kind ≡ kind.Element) × IsNCName key.ident
+  pub formed : (key : Key) (part : Component) → find key_cmp key library.parts ≡ Some part → (key.kind ≡ kind.Element) × IsNCName key.ident × IsFormedPart part

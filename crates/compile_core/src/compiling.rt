@@ -4,14 +4,14 @@ ghost use Rattle.odd_reader.specs.declared.tree.Tree.{Tree as ATree};
 ghost use Rattle.odd_base.specs.declared.offence.Offence.{Offence as AnOffence};
 ghost use Rattle.compile_core.specs.Acceptance.{Accepts};
 ghost use Rattle.compile_core.specs.Admission.{Admits};
-ghost use Rattle.compile_core.specs.Compiled.{content_pattern as the_content_pattern, definition_of, element_definition, reference, start_pattern as the_start_pattern};
+ghost use Rattle.compile_core.specs.Compiled.{content_pattern as the_content_pattern, definition_of, element_definition, grammar_of, reference, start_pattern as the_start_pattern};
 ghost use Rattle.compile_core.specs.Denoting.{DenotesOnly};
 ghost use Rattle.compile_core.specs.Grammar.{grammar_text};
 ghost use Rattle.compile_core.specs.Schema.{HoldsStart, IsFormed, IsLeast, IsStartOffence, define_name, lesser_of, schema_text};
 
 use crate::grammar::{AttrPart, Body, Define, Defines, Expr, Exprs, Grammar, NameClass, Rules};
 use odd_base::{Key, Kind, Name, NoMemory, Offence, Text, TryCopy, Who, Words};
-use odd_decls::{Component, Content, Library, TEI};
+use odd_decls::{Component, Content, ElementPart, Library};
 use std::alloc::Global;
 
 /// Why a library has no schema.
@@ -42,6 +42,7 @@ const START_RULE: u8 = 20;
 /// Offence comes where a start word is no held element, and only there. It names the least of these words in the order
 /// of bytes, and its file is 0. NoMemory is answered for want of memory.
 pub fn compile(alloc: Global, library: &Library, start: &Words) -> Result<Grammar, CompileRefusal>
+    ensures grammar { IfOk result (λ grammar. grammar ≡ grammar_of library.now start.now) }
     ensures ok { IfOk result (λ grammar. grammar_text grammar ≡ schema_text library.now start.now) }
     ensures denotes { IfOk result (λ grammar. IsFormed library.now → DenotesOnly (schema_text library.now start.now) grammar) }
     ensures accepts { IfOk result (λ grammar. IsFormed library.now → (t : ATree) → Accepts grammar t ↔ Admits library.now start.now t) }
@@ -130,20 +131,20 @@ fn element_defines(alloc: Global, library: &Library) -> Result<Defines, NoMemory
     let mut defines = Defines::new(alloc);
     for entry in library.parts.entries() {
         let Component::Element(part) = &entry.1;
-        defines.push(element_define(alloc, &entry.0.ident, part.content)?)?;
+        defines.push(element_define(alloc, &entry.0.ident, part)?)?;
     }
     Ok(defines)
 }
 
-fn element_define(alloc: Global, ident: &Text, content: Content) -> Result<Define, NoMemory>
-    ensures { IfOk result (λ define. define ≡ element_definition ident.now content) }
+fn element_define(alloc: Global, ident: &Text, part: &ElementPart) -> Result<Define, NoMemory>
+    ensures { IfOk result (λ define. define ≡ element_definition ident.now part.now) }
 {
     let name = define_name(alloc, ident)?;
-    let ns = Text::from_str(alloc, TEI)?;
+    let ns = part.ns.copy(alloc)?;
     let local = ident.copy(alloc)?;
     let names = NameClass::One(Name { ns, local });
     let attrs = AttrPart::Listed(Rules::new(alloc));
-    let content = content_pattern(content);
+    let content = content_pattern(part.content);
     Ok(Define {
         name,
         body: Body::Element {

@@ -1,7 +1,7 @@
 -- Small checks of what the definitions of this crate say: where they hold, and where they do not.
-use Rattle.std.proofs.Common.{◌≡◌, ◌≤◌, ℕ, false, List, [], ◌∷◌, ◌++◌, length, None, refl, sym, ap, subst, ◌∙◌, arith, slice_get}
+use Rattle.std.proofs.Common.{◌≡◌, ◌≤◌, ℕ, false, List, [], ◌∷◌, length, Some, None, inr, refl, sym, ap, subst, ◌∙◌, arith, slice_get}
 use Rattle.std.specs.Fmt.{digits}
-use Rattle.std.specs.Prelude.{◌≢◌, codes, IsTrue, IsSome}
+use Rattle.std.specs.Prelude.{◌≢◌, All, codes}
 use Rattle.std.specs.FinMap as map
 use Rattle.std.proofs.lemmas.Cmp.{nat_list_cmp_total}
 use Rattle.std.proofs.lemmas.List.Elements.{All-nil, All-cons}
@@ -11,30 +11,36 @@ use Rattle.odd_base.specs.Key.{key_cmp}
 use Rattle.odd_base.specs.Shelf.{FileMap, Held}
 use Rattle.odd_base.specs.declared.key.Key.{Key}
 use Rattle.odd_base.specs.declared.key.Kind.TheVariants as kind
+use Rattle.odd_base.specs.declared.offence.Offence.{Offence}
 use Rattle.odd_base.specs.declared.offence.Who.TheVariants as who
 use Rattle.std.proofs.Math.Utf8.{encode}
 use Rattle.odd_base.specs.declared.name.Name.{Name}
-use Rattle.odd_reader.specs.Characters.{IsNCName, is_char, is_name_char, is_name_start}
-use Rattle.odd_reader.proofs.Ascii.{is_ascii_name, ascii_name, ascii_ncname}
-use Rattle.odd_decls.proofs.Elements.{element_shown}
+use Rattle.odd_reader.specs.Characters.{is_char, is_name_char, is_name_start}
 use Rattle.odd_reader.specs.Spelled.{GivesTree}
-use Rattle.odd_reader.specs.declared.tree.Tree.{Tree, roll-Tree, out-Tree}
+use Rattle.odd_reader.specs.declared.tree.Tree.{Tree, roll-Tree}
 use Rattle.odd_reader.specs.declared.tree.Node.{Element}
 use Rattle.odd_reader.specs.Reading.{nothing_read}
 use Rattle.odd_reader.proofs.Faults.{ended_place}
 use Rattle.odd_reader.proofs.ReadTo.{nothing_read_to}
 use Rattle.odd_reader.proofs.ReadTrees.{literal_gives}
-use Rattle.odd_decls.specs.Odd.{Declares, HoldsItems, StandsIn, absent, attribute_value, element_key, elements_of, tei_namespace}
+use Rattle.odd_decls.specs.Declares.{AreReadAs, Declares, IsReadAs}
+use Rattle.odd_decls.specs.Odd.{StandsIn, element_key, tei_namespace}
+use Rattle.odd_decls.specs.Offences.{HasOffence, IsNotBefore, IsRefusal, IsSpecOf, ItemFault, ItemOffends, Offends, StandsTwice}
+use Rattle.odd_decls.specs.Search.{Finds, children_of, through}
+use Rattle.odd_decls.specs.Search as search
 use Rattle.odd_decls.specs.declared.content.Content.TheVariants as content
 use Rattle.odd_decls.specs.declared.library.Component.TheVariants as component
 use Rattle.odd_decls.specs.declared.library.Library.{Library}
 use Rattle.odd_decls.specs.declared.odd.Entry.TheVariants as entry
 use Rattle.odd_decls.specs.declared.odd.OddDoc.{OddDoc}
+use Rattle.odd_decls.specs.declared.spec.Spec.{Spec}
+use Rattle.odd_decls.proofs.Examples.{AllWithin, IsBare, IsNamedSchema, IsPlain, IsSound, a_alone, bare_is_sound, elements_are, few, is_name, items_alone, leaf_within, no_offence, not_pending, one_item, one_within, one_word, other_breaks_three}
 use Rattle.std.specs.declared.cmp.Ordering.TheVariants.{Less}
 use Rattle.compile_core.specs.Schema.{IsLeastMissing}
 use Rattle.odd_cli.specs.Note.{code_of, note_text}
 use Rattle.odd_cli.specs.Words.{Compiles, WordsMean, compile}
-use Rattle.odd_cli.specs.Reply.{Reply, Reads, Gives, not_xml, start_missing, no_job, no_file, too_long, refused, done}
+use Rattle.odd_cli.specs.declared.status.Status.{Status}
+use Rattle.odd_cli.specs.Reply.{Reply, Reads, Gives, not_xml, offends, start_missing, no_job, no_file, too_long, refused, done}
 use Rattle.odd_cli.specs.declared.words.Command.TheVariants as command
 use Rattle.odd_cli.specs.declared.words.Job.{Job}
 use Rattle.odd_cli.specs.declared.status.LimitKind.TheVariants as limit
@@ -235,53 +241,53 @@ one_element_read = literal_gives one_element _ root_tree refl refl (record { bet
 abbrev a_key : Key
 a_key = element_key (codes "a")
 
+abbrev element_spec : Spec
+element_spec = record { key = a_key; «module» = []; ns = Some tei_namespace; content = None }
+
 abbrev one_doc : OddDoc
-one_doc = record { ident = codes "s"; start = codes "a" ∷ []; entries = entry.Spec 68 (record { key = a_key; content = None }) ∷ [] }
+one_doc = record { ident = codes "s"; start = codes "a" ∷ []; entries = entry.Spec 68 element_spec ∷ [] }
 
 abbrev one_library : Library
-one_library = record { ident = codes "s"; start = codes "a" ∷ []; parts = (a_key, component.Element (record { content = content.Empty })) ∷ [] }
+one_library = record { ident = codes "s"; start = codes "a" ∷ []; parts = (a_key, component.Element (record { «module» = []; ns = tei_namespace; content = content.Empty })) ∷ [] }
 
--- a name of ASCII
-name : (word : List ℕ) → IsTrue (is_ascii_name word) → IsNCName word
-name word h = (word, ascii_name word h, ascii_ncname word h)
+one_child : children_of root_tree ≡ element_tree ∷ []
+one_child = elements_are (element_tree ∷ [])
 
-abbrev IsGiven : Tree → List ℕ → Type 0
-IsGiven t local = IsSome (attribute_value (out-Tree t).attrs local)
+-- it has no form that is not read yet, and no offence
+one_schema : Finds root_tree (root_tree ∷ [])
+one_schema = through [] refl (search.element [] [] (through [] refl search.nothing refl) search.nothing refl) refl
 
-one_child : elements_of (out-Tree root_tree).children ≡ element_tree ∷ []
-one_child = ap (λ es. es ++ []) (element_shown (Element element_tree) element_tree refl)
+one_element_plain : AllWithin IsPlain root_tree
+one_element_plain =
+    one_within IsPlain root_tree element_tree one_child (record { no_form = refl; no_content = refl; no_mode = λ is. refl })
+    (leaf_within IsPlain element_tree refl (record { no_form = refl; no_content = refl; no_mode = λ is. refl }))
 
-once : {A : Type 0} (x : A) (before between after : List A) (item : A) → x ∷ [] ≢ before ++ item ∷ (between ++ item ∷ after)
-once x [] [] after item e = cc
-once x [] (b ∷ bs) after item e = cc
-once x (b ∷ []) between after item e = cc
-once x (b ∷ (c ∷ cs)) between after item e = cc
+root_named : IsNamedSchema (codes "s") (codes "a") root_tree
+root_named = record { ident = refl; name = is_name (codes "s") refl; asked = refl; names = a_alone }
+
+element_bare : IsBare (codes "a") element_tree
+element_bare = record { is_spec = refl; ident = refl; name = is_name (codes "a") refl; no_module = refl; no_prefix = refl; no_source = refl; no_child = refl }
+
+one_element_sound : (place rule : ℕ) → HasOffence root_tree place rule → ⊥
+one_element_sound =
+    no_offence (codes "s") (codes "a") root_tree root_tree one_schema root_named
+    (subst (All IsSound) (sym one_child) (All-cons IsSound element_tree [] (bare_is_sound (codes "a") element_tree element_bare) (All-nil IsSound)))
+    (λ ident. subst (λ ts. StandsTwice (IsSpecOf ident) ts → ⊥) (sym one_child) (few (IsSpecOf ident) (element_tree ∷ []) (omega arith)))
+
+element_read : IsReadAs root_tree element_tree 68 element_spec
+element_read = record { ident = codes "a"; is_spec = (refl, refl, is_name (codes "a") refl); key = refl; modul = refl; ns = refl; content = refl; placed = refl }
 
 one_element_declares : Declares root_tree one_doc
 one_element_declares = record {
-  start = codes "a";
-  root = record {
-    named = refl;
-    attributed = (refl, All-cons (IsGiven root_tree) (codes "ident") (codes "start" ∷ []) refl (All-cons (IsGiven root_tree) (codes "start") [] refl (All-nil (IsGiven root_tree))));
+  all_read = not_pending root_tree root_tree [] one_schema one_element_plain;
+  unoffended = one_element_sound;
+  schema = root_tree;
+  found = one_schema;
+  is_doc = record {
     ident = refl;
-    ident_is_ncname = name (codes "s") refl;
-    start_is = refl;
-    start_is_ncname = name (codes "a") refl;
+    start = one_word (codes "a");
+    entries = subst (λ ts. AreReadAs root_tree ts one_doc.entries) (sym one_child) (AreReadAs.spec refl element_read AreReadAs.nothing);
   };
-  start_words = refl;
-  holds = subst (λ ts. HoldsItems ts one_doc.entries) (sym one_child) (record {
-    items = (
-      record {
-        head = record { named = refl; attributed = (refl, All-cons (IsGiven element_tree) (codes "ident") [] refl (All-nil (IsGiven element_tree))); ident = refl; is_ncname = name (codes "a") refl };
-        kind = refl;
-        content = absent;
-        placed = refl;
-      },
-      tt,
-    );
-    few = omega arith;
-    once = once a_key;
-  });
 }
 
 one_element_gives : Gives one_element one_library
@@ -329,9 +335,13 @@ empty_doc = record { ident = codes "s"; start = codes "a" ∷ []; entries = [] }
 abbrev empty_library : Library
 empty_library = record { ident = codes "s"; start = codes "a" ∷ []; parts = [] }
 
-none_once : {A : Type 0} (before between after : List A) (item : A) → [] ≢ before ++ item ∷ (between ++ item ∷ after)
-none_once [] between after item e = cc
-none_once (b ∷ bs) between after item e = cc
+empty_schema : Finds empty_tree (empty_tree ∷ [])
+empty_schema = through [] refl search.nothing refl
+
+no_element_sound : (place rule : ℕ) → HasOffence empty_tree place rule → ⊥
+no_element_sound =
+    no_offence (codes "s") (codes "a") empty_tree empty_tree empty_schema (record { ident = refl; name = is_name (codes "s") refl; asked = refl; names = a_alone })
+    (All-nil IsSound) (λ ident. few (IsSpecOf ident) [] (omega arith))
 
 no_element_gives : Gives no_element empty_library
 no_element_gives = record {
@@ -339,17 +349,11 @@ no_element_gives = record {
   given = no_element_read;
   doc = empty_doc;
   declared = record {
-    start = codes "a";
-    root = record {
-      named = refl;
-      attributed = (refl, All-cons (IsGiven empty_tree) (codes "ident") (codes "start" ∷ []) refl (All-cons (IsGiven empty_tree) (codes "start") [] refl (All-nil (IsGiven empty_tree))));
-      ident = refl;
-      ident_is_ncname = name (codes "s") refl;
-      start_is = refl;
-      start_is_ncname = name (codes "a") refl;
-    };
-    start_words = refl;
-    holds = record { items = tt; few = omega arith; once = none_once };
+    all_read = not_pending empty_tree empty_tree [] empty_schema (leaf_within IsPlain empty_tree refl (record { no_form = refl; no_content = refl; no_mode = λ is. refl }));
+    unoffended = no_element_sound;
+    schema = empty_tree;
+    found = empty_schema;
+    is_doc = record { ident = refl; start = one_word (codes "a"); entries = AreReadAs.nothing };
   };
   is_library = record { ident = refl; start = refl; rising = refl; holds = λ key. refl };
 }
@@ -364,3 +368,76 @@ a_is_least = record { among = ([], [], refl); missing = refl; least = least }
 
 refused_reply : Reply compile_f (holding no_element) [] (status.Refused (record { file = 1; who = who.Start (codes "a"); rule = 20 }))
 refused_reply = refused no_element (f_reads no_element (omega arith)) (start_missing (codes "a") empty_library no_element_gives a_is_least refl)
+
+-- With a `p` in place of its element it is refused at the place of the `p`.
+
+abbrev one_p : List ℕ
+one_p = codes "<schemaSpec xmlns=\"http://www.tei-c.org/ns/1.0\" ident=\"s\" start=\"a\"><p/></schemaSpec>"
+
+abbrev p_tree : Tree
+p_tree = roll-Tree (record { name = tei_name (codes "p"); attrs = []; binds = []; children = []; at = 68 })
+
+abbrev offending_tree : Tree
+offending_tree = roll-Tree (record {
+  name = tei_name (codes "schemaSpec");
+  attrs = record { name = plain_name (codes "ident"); value = codes "s" } ∷ record { name = plain_name (codes "start"); value = codes "a" } ∷ [];
+  binds = record { prefix = []; ns = codes "http://www.tei-c.org/ns/1.0" } ∷ [];
+  children = Element p_tree ∷ [];
+  at = 0;
+})
+
+one_p_read : GivesTree one_p offending_tree
+unfolding encode is_char is_name_char is_name_start
+one_p_read = literal_gives one_p _ offending_tree refl refl (record { between = refl; rooted = refl })
+
+p_child : children_of offending_tree ≡ p_tree ∷ []
+p_child = elements_are (p_tree ∷ [])
+
+offending_schema : Finds offending_tree (offending_tree ∷ [])
+offending_schema = through [] refl (search.element [] [] (through [] refl search.nothing refl) search.nothing refl) refl
+
+one_p_plain : AllWithin IsPlain offending_tree
+one_p_plain =
+    one_within IsPlain offending_tree p_tree p_child (record { no_form = refl; no_content = refl; no_mode = λ is. refl })
+    (leaf_within IsPlain p_tree refl (record { no_form = refl; no_content = refl; no_mode = λ is. refl }))
+
+-- the `p` may not stand there
+p_offends : HasOffence offending_tree 68 3
+p_offends = record {
+  schema = offending_tree;
+  others = [];
+  found = offending_schema;
+  offends = Offends.items (ItemOffends.alone p_tree ([], [], p_child) (ItemFault.unknown refl refl refl) refl);
+}
+
+-- the file has no other offence
+p_alone : (place rule : ℕ) → HasOffence offending_tree place rule → IsNotBefore 68 3 place rule
+p_alone place rule h =
+    let offends = items_alone (codes "s") (codes "a") offending_tree offending_tree offending_schema
+    (record { ident = refl; name = is_name (codes "s") refl; asked = refl; names = a_alone }) place rule h in
+    let fault = one_item p_tree place rule (subst (λ ts. ItemOffends ts place rule) p_child offends) in
+    let three : rule ≡ 3 = other_breaks_three p_tree rule refl refl fault.0 in
+    inr (sym fault.1, omega (arith, three))
+
+abbrev p_offence : Offence
+p_offence = record { file = 1; who = who.At 68; rule = 3 }
+
+p_refusal : IsRefusal offending_tree 1 p_offence
+p_refusal = record {
+  all_read = not_pending offending_tree offending_tree [] offending_schema one_p_plain;
+  in_file = refl;
+  place = 68;
+  placed = refl;
+  first = record { is_one = p_offends; first = p_alone };
+}
+
+offending_reply : Reply compile_f (holding one_p) [] (status.Refused p_offence)
+offending_reply = refused one_p (f_reads one_p (omega arith)) (offends offending_tree one_p_read p_refusal)
+
+-- and it has no other status
+offending_has_one : (text : List ℕ) (s : Status) → Reply compile_f (holding one_p) text s → s ≡ status.Refused p_offence
+offending_has_one text s h = one_status compile_f (holding one_p) text [] s (status.Refused p_offence) h offending_reply
+
+-- so no schema is its reply
+offending_is_not_done : (text : List ℕ) → Reply compile_f (holding one_p) text status.Done → ⊥
+offending_is_not_done text h = let same : status.Done ≡ status.Refused p_offence = offending_has_one text status.Done h in cc

@@ -1,4 +1,3 @@
-pub mod Answered
 pub mod Examples
 pub mod Formed
 pub mod Lists

@@ -9,23 +9,26 @@ use Rattle.std.specs.Ordering.{ordering_reverse}
 use Rattle.std.specs.declared.cmp.Ordering.TheVariants.{Less, Equal, Greater}
 use Rattle.odd_base.specs.Text.{text_cmp}
 use Rattle.odd_base.specs.Shelf.{FileMap, Held, NotHeld}
+use Rattle.odd_base.specs.declared.offence.Offence.{Offence}
 use Rattle.odd_reader.specs.declared.tree.Tree.{Tree}
 use Rattle.odd_reader.specs.Spelled.{GivesTree, IsNotXml}
 use Rattle.odd_reader.proofs.Faults.{gives_not_deep}
 use Rattle.odd_reader.proofs.Places.{one_depth, one_fault}
 use Rattle.odd_reader.proofs.Spelling.{one_tree}
-use Rattle.odd_decls.specs.Odd.{Declares}
+use Rattle.odd_decls.specs.Declares.{Declares}
 use Rattle.odd_decls.specs.Library.{IsLibraryOf}
-use Rattle.odd_decls.specs.declared.odd.OddDoc.{OddDoc}
 use Rattle.odd_decls.specs.declared.library.Library.{Library}
+use Rattle.odd_decls.specs.Offences.{IsRefusal}
+use Rattle.odd_decls.specs.Pending.{IsPending}
 use Rattle.odd_decls.proofs.OneLibrary.{one_doc, one_library}
+use Rattle.odd_decls.proofs.OneOffence.{one_offence}
 use Rattle.compile_core.specs.Schema.{schema_text, HoldsStart, IsLeastMissing}
 use Rattle.odd_cli.specs.declared.status.Status.{Status}
 use Rattle.odd_cli.specs.declared.status.Status.TheVariants as status
 use Rattle.odd_cli.specs.declared.status.LimitKind.TheVariants as limit
 use Rattle.odd_cli.specs.declared.words.Job.{Job}
 use Rattle.odd_cli.specs.Words.{WordsMean, Compiles, compile}
-use Rattle.odd_cli.specs.Reply.{file_bytes, start_offence, FileRefusal, not_xml, too_deep, not_yet, start_missing, Reply, Reads, Gives, no_job, no_file, too_long, refused, done}
+use Rattle.odd_cli.specs.Reply.{file_bytes, start_offence, FileRefusal, not_xml, too_deep, not_yet, offends, start_missing, Reply, Reads, Gives, no_job, no_file, too_long, refused, done}
 use Rattle.odd_cli.specs.Running.{IsReplied, IsSilent, IsReadPlace, IsComplete, IsSchemaOf, IsStartError, IsRefusalOf, Compiling, compiled_text}
 
 one_file : (words : List (List ℕ)) (f g : List ℕ) → Compiles words f → Compiles words g → f ≡ g
@@ -122,13 +125,28 @@ one_least library start v w p q =
 no_refusal_of_tree : (bytes : List ℕ) (t : Tree) (place : ℕ) → GivesTree bytes t → IsNotXml bytes place → ⊥
 no_refusal_of_tree bytes t place g n = n.fault.spells_none t g.spelled
 
-undeclared_but : (bytes : List ℕ) (t : Tree) (library : Library) → GivesTree bytes t → ((doc : OddDoc) → Declares t doc → ⊥) → Gives bytes library → ⊥
-undeclared_but bytes t library g none h = none h.doc (subst (λ x. Declares x h.doc) (one_tree bytes h.tree t h.given.spelled g.spelled) h.declared)
+-- two trees of one file are one
+one_given : (bytes : List ℕ) (t u : Tree) → GivesTree bytes t → GivesTree bytes u → t ≡ u
+one_given bytes t u g h = one_tree bytes t u g.spelled h.spelled
+
+-- a file with a form that is not read yet gives no library, and has no offence
+pending_gives_none : (bytes : List ℕ) (t : Tree) (library : Library) → GivesTree bytes t → IsPending t → Gives bytes library → ⊥
+pending_gives_none bytes t library g p h = h.declared.all_read (subst IsPending (one_given bytes t h.tree g h.given) p)
+
+pending_has_none : (bytes : List ℕ) (t u : Tree) (offence : Offence) → GivesTree bytes t → IsPending t → GivesTree bytes u → IsRefusal u 1 offence → ⊥
+pending_has_none bytes t u offence g p h r = r.all_read (subst IsPending (one_given bytes t u g h) p)
+
+-- a file with an offence gives no library
+offends_gives_none : (bytes : List ℕ) (t : Tree) (offence : Offence) (library : Library) → GivesTree bytes t → IsRefusal t 1 offence → Gives bytes library → ⊥
+offends_gives_none bytes t offence library g r h =
+    let moved : IsRefusal h.tree 1 offence = subst (λ x. IsRefusal x 1 offence) (one_given bytes t h.tree g h.given) r in
+    h.declared.unoffended moved.place offence.rule moved.first.is_one
 
 refusal_but : (bytes : List ℕ) (s : Status) (library : Library) → FileRefusal bytes s → Gives bytes library → HoldsStart library library.start → ⊥
 refusal_but bytes s library (not_xml place n) g h = no_refusal_of_tree bytes g.tree place g.given n
 refusal_but bytes s library (too_deep place d) g h = gives_not_deep bytes g.tree place g.given d
-refusal_but bytes s library (not_yet tree given none) g h = undeclared_but bytes tree library given none g
+refusal_but bytes s library (not_yet t given p) g h = pending_gives_none bytes t library given p g
+refusal_but bytes s library (offends {offence = o} t given r) g h = offends_gives_none bytes t o library given r g
 refusal_but bytes s library (start_missing word other k least e) g h =
     let moved = subst (λ x. IsLeastMissing x x.start word) (one_gift bytes other library k g) least in
     h word moved.among moved.missing
@@ -136,19 +154,29 @@ refusal_but bytes s library (start_missing word other k least e) g h =
 one_refusal : (bytes : List ℕ) (s r : Status) → FileRefusal bytes s → FileRefusal bytes r → s ≡ r
 one_refusal bytes s r (not_xml p n) (not_xml q m) = ap (λ x. status.NotXml 1 x) (one_fault bytes p q n.fault m.fault)
 one_refusal bytes s r (not_xml p n) (too_deep q d) = absurd (n.not_deep q d)
-one_refusal bytes s r (not_xml p n) (not_yet t g none) = absurd (no_refusal_of_tree bytes t p g n)
+one_refusal bytes s r (not_xml p n) (not_yet t g a) = absurd (no_refusal_of_tree bytes t p g n)
+one_refusal bytes s r (not_xml p n) (offends t g a) = absurd (no_refusal_of_tree bytes t p g n)
 one_refusal bytes s r (not_xml p n) (start_missing w l k x e) = absurd (no_refusal_of_tree bytes k.tree p k.given n)
 one_refusal bytes s r (too_deep p d) (not_xml q n) = absurd (n.not_deep p d)
 one_refusal bytes s r (too_deep p d) (too_deep q f) = ap (λ x. status.Limit (limit.Depth 1 x)) (one_depth bytes p q d f)
-one_refusal bytes s r (too_deep p d) (not_yet t g none) = absurd (gives_not_deep bytes t p g d)
+one_refusal bytes s r (too_deep p d) (not_yet t g a) = absurd (gives_not_deep bytes t p g d)
+one_refusal bytes s r (too_deep p d) (offends t g a) = absurd (gives_not_deep bytes t p g d)
 one_refusal bytes s r (too_deep p d) (start_missing w l k x e) = absurd (gives_not_deep bytes k.tree p k.given d)
-one_refusal bytes s r (not_yet t g none) (not_xml q n) = absurd (no_refusal_of_tree bytes t q g n)
-one_refusal bytes s r (not_yet t g none) (too_deep q d) = absurd (gives_not_deep bytes t q g d)
-one_refusal bytes s r (not_yet t g none) (not_yet u h other) = refl
-one_refusal bytes s r (not_yet t g none) (start_missing w l k x e) = absurd (undeclared_but bytes t l g none k)
+one_refusal bytes s r (not_yet t g a) (not_xml q n) = absurd (no_refusal_of_tree bytes t q g n)
+one_refusal bytes s r (not_yet t g a) (too_deep q d) = absurd (gives_not_deep bytes t q g d)
+one_refusal bytes s r (not_yet t g a) (not_yet u h b) = refl
+one_refusal bytes s r (not_yet t g a) (offends {offence = o} u h b) = absurd (pending_has_none bytes t u o g a h b)
+one_refusal bytes s r (not_yet t g a) (start_missing w l k x e) = absurd (pending_gives_none bytes t l g a k)
+one_refusal bytes s r (offends t g a) (not_xml q n) = absurd (no_refusal_of_tree bytes t q g n)
+one_refusal bytes s r (offends t g a) (too_deep q d) = absurd (gives_not_deep bytes t q g d)
+one_refusal bytes s r (offends {offence = o} t g a) (not_yet u h b) = absurd (pending_has_none bytes u t o h b g a)
+one_refusal bytes s r (offends {offence = o} t g a) (offends {offence = p} u h b) =
+    ap status.Refused (one_offence u 1 o p (subst (λ x. IsRefusal x 1 o) (one_given bytes t u g h) a) b)
+one_refusal bytes s r (offends {offence = o} t g a) (start_missing w l k x e) = absurd (offends_gives_none bytes t o l g a k)
 one_refusal bytes s r (start_missing v l g x d) (not_xml q n) = absurd (no_refusal_of_tree bytes g.tree q g.given n)
 one_refusal bytes s r (start_missing v l g x d) (too_deep q f) = absurd (gives_not_deep bytes g.tree q g.given f)
-one_refusal bytes s r (start_missing v l g x d) (not_yet t h none) = absurd (undeclared_but bytes t l h none g)
+one_refusal bytes s r (start_missing v l g x d) (not_yet t h a) = absurd (pending_gives_none bytes t l h a g)
+one_refusal bytes s r (start_missing v l g x d) (offends {offence = o} t h a) = absurd (offends_gives_none bytes t o l h a g)
 one_refusal bytes s r (start_missing v l g x d) (start_missing w m k y e) =
     let libraries : l ≡ m = one_gift bytes l m g k in
     let words_same : v ≡ w = one_least m m.start v w (subst (λ z. IsLeastMissing z z.start v) libraries x) y in

@@ -7,8 +7,10 @@ use Rattle.odd_reader.specs.declared.tree.Tree.{Tree}
 use Rattle.odd_reader.specs.Spelled.{DepthPlace, GivesTree, IsNotXml}
 use Rattle.odd_decls.specs.declared.odd.OddDoc.{OddDoc}
 use Rattle.odd_decls.specs.declared.library.Library.{Library}
-use Rattle.odd_decls.specs.Odd.{Declares}
+use Rattle.odd_decls.specs.Declares.{Declares}
 use Rattle.odd_decls.specs.Library.{IsLibraryOf}
+use Rattle.odd_decls.specs.Offences.{IsRefusal}
+use Rattle.odd_decls.specs.Pending.{IsPending}
 use Rattle.compile_core.specs.Schema.{schema_text, HoldsStart, IsLeastMissing}
 use Rattle.odd_cli.specs.declared.status.Status.{Status}
 use Rattle.odd_cli.specs.declared.status.Status.TheVariants as status
@@ -42,7 +44,8 @@ start_offence word = record { file = 1; who = who.Start word; rule = 20 }
 pub data FileRefusal (bytes : List ℕ) : Status → Type 0 where
   not_xml : (place : ℕ) → IsNotXml bytes place → FileRefusal bytes (status.NotXml 1 place)
   too_deep : (place : ℕ) → DepthPlace bytes place → FileRefusal bytes (status.Limit (limit.Depth 1 place))
-  not_yet : (tree : Tree) → GivesTree bytes tree → ((doc : OddDoc) → Declares tree doc → ⊥) → FileRefusal bytes (status.NotYet 1)
+  not_yet : (tree : Tree) → GivesTree bytes tree → IsPending tree → FileRefusal bytes (status.NotYet 1)
+  offends : {offence : Offence} (tree : Tree) → GivesTree bytes tree → IsRefusal tree 1 offence → FileRefusal bytes (status.Refused offence)
   start_missing : {offence : Offence} (word : List ℕ) (library : Library) → Gives bytes library → IsLeastMissing library library.start word → offence ≡ start_offence word
       → FileRefusal bytes (status.Refused offence)
 

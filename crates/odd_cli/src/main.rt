@@ -48,4 +48,8 @@ fn words_after_name(alloc: Global, args: env::Args) -> Result<Words, NoMemory> {
 }
 
 #[cfg(test)]
+mod odd_files;
+#[cfg(test)]
+mod odd_tests;
+#[cfg(test)]
 mod tests;

@@ -128,6 +128,7 @@ fn library_of_file(alloc: Global, bytes: &Bytes) -> Result<Library, Status>
     };
     let doc = match read_odd(alloc, &tree, 1, false) {
         Ok(doc) => doc,
+        Err(OddRefusal::Offence(offence)) => return Err(Status::Refused(offence)),
         Err(OddRefusal::NotYet) => return Err(Status::NotYet { file: 1 }),
         Err(OddRefusal::NoMemory) => return Err(Status::NoMemory),
     };

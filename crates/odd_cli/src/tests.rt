@@ -24,7 +24,7 @@ const SCHEMA: &str =
 
 // How a run is set up: its words, the file `f`, where there is one, and the calls that fail.
 #[derive(Clone, Copy)]
-struct Setting<'a> {
+pub struct Setting<'a> {
     words: &'a str,
     file: Option<&'a str>,
     shelf_fails: u64,
@@ -34,13 +34,13 @@ struct Setting<'a> {
 
 // What a run left: its status, and what is on the output and on the note.
 #[derive(Drop)]
-struct Outcome {
-    status: Status,
-    out: Text,
-    note: Text,
+pub struct Outcome {
+    pub status: Status,
+    pub out: Text,
+    pub note: Text,
 }
 
-fn compiling(file: &str) -> Setting<'_> {
+pub fn compiling(file: &str) -> Setting<'_> {
     Setting {
         words: "compile f",
         file: Some(file),
@@ -69,7 +69,7 @@ fn written(alloc: Global, sink: &MemSink) -> Result<Text, NoMemory> {
     }
 }
 
-fn run_with(alloc: Global, setting: &Setting) -> Result<Outcome, NoMemory> {
+pub fn run_with(alloc: Global, setting: &Setting) -> Result<Outcome, NoMemory> {
     let mut words = Words::new(alloc);
     for word in setting.words.split_whitespace() {
         words.push(Text::from_str(alloc, word)?)?;
@@ -136,13 +136,18 @@ fn a_file_has_its_answer(rt: HostRuntime) -> Result<(), Fail> {
         ),
         (
             "<elementSpec xmlns='' ident='a'/>",
-            10,
-            "odd: file 1: not yet\n",
+            2,
+            "odd: start a: rule 20\n",
         ),
         (
             "<elementSpec ident=\"a\"/><elementSpec ident=\"a\"/>",
-            10,
-            "odd: file 1: not yet\n",
+            2,
+            "odd: file 1: byte 92: rule 4\n",
+        ),
+        (
+            "<elementSpec ident=\"a\"><constraintSpec ident=\"c\" scheme=\"schematron\"/></elementSpec>",
+            2,
+            "odd: file 1: byte 68: rule 2\n",
         ),
         (
             "<elementSpec ident=\"a\" mode=\"add\"/>",
@@ -155,7 +160,26 @@ fn a_file_has_its_answer(rt: HostRuntime) -> Result<(), Fail> {
             "odd: file 1: byte 91: not XML\n",
         ),
         ("&nbsp;", 3, "odd: file 1: byte 68: not XML\n"),
-        ("<elementSpec ident=\"a b\"/>", 10, "odd: file 1: not yet\n"),
+        (
+            "<elementSpec ident=\"a b\"/>",
+            2,
+            "odd: file 1: byte 68: rule 1\n",
+        ),
+        (
+            "<x/><elementSpec ident=\"a b\"/>",
+            2,
+            "odd: file 1: byte 68: rule 3\n",
+        ),
+        (
+            "<elementSpec ident=\"a\"><content/><content/><x/></elementSpec>",
+            2,
+            "odd: file 1: byte 68: rule 3\n",
+        ),
+        (
+            "<elementSpec ident=\"a\"><exemplum><x/></exemplum><desc>t</desc><content>t<textNode/></content></elementSpec>",
+            0,
+            "",
+        ),
     ] {
         let file = format!(in rt.alloc();
             "<schemaSpec xmlns=\"http://www.tei-c.org/ns/1.0\" ident=\"s\" start=\"a\">{items}</schemaSpec>"
@@ -312,13 +336,24 @@ fn each_status_has_its_line(rt: HostRuntime) -> Result<(), Fail> {
     Ok(())
 }
 
+const TEI: &str = "http://www.tei-c.org/ns/1.0";
+
+// An element of TEI's namespace and of no module.
+fn element(alloc: Global, content: Content) -> Result<ElementPart, NoMemory> {
+    Ok(ElementPart {
+        module: Text::new(alloc),
+        ns: Text::from_str(alloc, TEI)?,
+        content,
+    })
+}
+
 // The empty library with the elements `a` and `b`.
 fn two_elements(alloc: Global) -> Result<Library, NoMemory> {
     let mut library = Library::empty(alloc)?;
     for (ident, content) in [("b", Content::Empty), ("a", Content::Text)] {
         let ident = Text::from_str(alloc, ident)?;
         let kind = Kind::Element;
-        let part = ElementPart { content };
+        let part = element(alloc, content)?;
         library
             .parts
             .put(Key { kind, ident }, Component::Element(part))?;
@@ -378,20 +413,25 @@ fn the_empty_library_has_a_start_word_alone(rt: HostRuntime) -> Result<(), Fail>
 #[test]
 fn components_and_specs_are_copied(rt: HostRuntime) -> Result<(), Fail> {
     let parts = two_elements(rt.alloc())?.parts.copy(rt.alloc())?;
-    let content = Content::Text;
     assert_eq!(rt; parts.len(), 2);
-    assert_eq!(rt;
-        parts.value(0),
-        Some(&Component::Element(ElementPart { content }))
-    );
+    let part = element(rt.alloc(), Content::Text)?;
+    assert_eq!(rt; parts.value(0), Some(&Component::Element(part)));
     let key = Key {
         kind: Kind::Element,
         ident: Text::from_str(rt.alloc(), "a")?,
     };
-    let content = Some(content);
-    let spec = Spec { key, content }.copy(rt.alloc())?;
+    let spec = Spec {
+        key,
+        module: Text::from_str(rt.alloc(), "m")?,
+        ns: Some(Text::from_str(rt.alloc(), "n")?),
+        content: Some(Content::Text),
+    };
+    let spec = spec.copy(rt.alloc())?;
     assert_eq!(rt; spec.key.ident.as_str(), "a");
+    assert_eq!(rt; spec.module.as_str(), "m");
+    assert!(rt; spec.ns.is_some_and(|ns| ns.as_str() == "n"));
     assert_eq!(rt; spec.content, Some(Content::Text));
+    assert_eq!(rt; Content::Text.copy(rt.alloc()), Ok(Content::Text));
     Ok(())
 }
 

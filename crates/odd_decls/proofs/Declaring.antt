@@ -1,20 +1,24 @@
-use Rattle.std.proofs.Common.{◌≡◌, ℕ, ◌+◌, ◌<◌, List, [], ◌∷◌, ◌++◌, length, take, get_or, Option, Some, None, refl, ap, ◌∙◌, sym}
-use Rattle.std.proofs.lemmas.List.{take_more}
+-- What entries declare at a key, with one entry more.
+use Rattle.std.proofs.Common.{◌≡◌, ℕ, ◌+◌, ◌<◌, List, [], ◌∷◌, ◌++◌, length, take, get_or, map, Option, Some, None, Bor, refl, ap, ◌∙◌, sym}
+use Rattle.std.proofs.lemmas.List.{get_or-map, length-map, take_more}
 use Rattle.odd_base.specs.declared.key.Key.{Key}
 use Rattle.odd_decls.specs.declared.library.Component.{Component}
 use Rattle.odd_decls.specs.declared.odd.Entry.{Entry}
 use Rattle.odd_decls.specs.Library.{declared_at, entry_at, last_of}
 
+-- the last of the last
 last_of_joined : (a b c : Option Component) → last_of (last_of a b) c ≡ last_of a (last_of b c)
 last_of_joined None b c = refl
 last_of_joined (Some x) b c = refl
 
+-- where nothing is declared earlier
+pub none_first : (x : Option Component) → x ≡ last_of x None
+none_first None = refl
+none_first (Some x) = refl
+
+-- entries, and then more
 appended : (es fs : List Entry) (key : Key) → declared_at (es ++ fs) key ≡ last_of (declared_at fs key) (declared_at es key)
 appended [] fs key = none_first (declared_at fs key)
-  where
-    none_first : (x : Option Component) → x ≡ last_of x None
-    none_first None = refl
-    none_first (Some x) = refl
 appended (e ∷ es) fs key = ap (λ x. last_of x (entry_at e key)) (appended es fs key) ∙ last_of_joined (declared_at fs key) (declared_at es key) (entry_at e key)
 
 -- one entry more
@@ -26,3 +30,9 @@ pub declared_up_to : (es : List Entry) (i : ℕ) (e : Entry) (key : Key) → i <
     → declared_at (take (i + 1) es) key ≡ last_of (entry_at e key) (declared_at (take i es) key)
 declared_up_to es i e key h is =
     ap (λ xs. declared_at xs key) (take_more es i e h) ∙ ap (λ x. declared_at (take i es ++ x ∷ []) key) (sym is) ∙ declared_more (take i es) e key
+
+-- the same of references to entries
+pub declared_over : (bs : List (Bor Entry)) (i : ℕ) (b : Bor Entry) (key : Key) → i < length bs → b ≡ get_or bs i b
+    → declared_at (take (i + 1) (map (λ d. d.now) bs)) key ≡ last_of (entry_at b.now key) (declared_at (take i (map (λ d. d.now) bs)) key)
+declared_over bs i b key h is =
+    declared_up_to (map (λ d. d.now) bs) i b.now key (rw (length-map bs (λ d. d.now)) h) (ap (λ d. d.now) is ∙ sym (get_or-map (λ d. d.now) bs i b b.now h))

@@ -3,12 +3,20 @@ use Rattle.std.proofs.Common.{◌≡◌, ◌↔◌, List, [], ◌∷◌, ◌++�
 use Rattle.odd_reader.specs.Tokens.{NoneTwice}
 use Rattle.odd_decls.specs.Odd.{StandsIn}
 
+-- nothing stands in an empty list
+pub nothing_stands : {A : Type 0} (x : A) → StandsIn [] x → ⊥
+nothing_stands {A} x s = empty s.0 s.2
+  where
+    empty : (a : List A) → [] ≡ a ++ x ∷ s.1 → ⊥
+    empty [] e = cc
+    empty (y ∷ a) e = cc
+
 -- where a place splits a list with one item more: at that item, or before it
-abbrev SplitsAt : {A : Type 0} → List A → A → List A → A → List A → Type 0
+abbrev pub SplitsAt : {A : Type 0} → List A → A → List A → A → List A → Type 0
 SplitsAt {A} xs k a x b = ((b ≡ []) × (xs ≡ a) × (k ≡ x)) ⊎ ((c : List A) × (b ≡ c ++ k ∷ []) × (xs ≡ a ++ x ∷ c))
 
 -- each place splits such a list so
-split_at : {A : Type 0} (xs : List A) (k : A) (a : List A) (x : A) (b : List A) → xs ++ k ∷ [] ≡ a ++ x ∷ b → SplitsAt xs k a x b
+pub split_at : {A : Type 0} (xs : List A) (k : A) (a : List A) (x : A) (b : List A) → xs ++ k ∷ [] ≡ a ++ x ∷ b → SplitsAt xs k a x b
 split_at [] k [] x b e = inl (cc, refl, cc)
 split_at [] k (y ∷ []) x b e = cc
 split_at [] k (y ∷ (z ∷ a)) x b e = cc

@@ -1,3 +1,9 @@
-pub mod Odd
-pub mod Reading
+pub mod Declares
+pub mod Faults
 pub mod Library
+pub mod Odd
+pub mod Offences
+pub mod Pending
+pub mod Reading
+pub mod Search
+pub mod Words

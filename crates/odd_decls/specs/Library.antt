@@ -4,6 +4,7 @@ use Rattle.std.specs.Ordering.{eq_by_cmp}
 use Rattle.std.specs.FinMap.{find, is_sorted}
 use Rattle.odd_base.specs.Key.{key_cmp}
 use Rattle.odd_base.specs.declared.key.Key.{Key}
+use Rattle.odd_decls.specs.Odd.{tei_namespace}
 use Rattle.odd_decls.specs.declared.content.Content.TheVariants as content
 use Rattle.odd_decls.specs.declared.library.Component.{Component}
 use Rattle.odd_decls.specs.declared.library.Component.TheVariants as component
@@ -13,9 +14,9 @@ use Rattle.odd_decls.specs.declared.odd.Entry.TheVariants as entry
 use Rattle.odd_decls.specs.declared.odd.OddDoc.{OddDoc}
 use Rattle.odd_decls.specs.declared.spec.Spec.{Spec}
 
--- a spec as a component: without a content the content is empty
+-- a spec as a component: without a namespace that is TEI's, and without a content the content is empty
 abbrev pub component_of : Spec → Component
-component_of spec = component.Element (record { content = unwrap_or spec.content content.Empty })
+component_of spec = component.Element (record { «module» = spec.«module»; ns = unwrap_or spec.ns tei_namespace; content = unwrap_or spec.content content.Empty })
 
 abbrev pub last_of : Option Component → Option Component → Option Component
 last_of (Some later) earlier = Some later

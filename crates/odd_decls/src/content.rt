@@ -1,3 +1,5 @@
+ghost use Rattle.std.specs.Prelude.{◌≡◌, Ok};
+
 use odd_base::{NoMemory, TryCopy};
 use std::alloc::Global;
 
@@ -11,7 +13,9 @@ pub enum Content {
 }
 
 impl TryCopy for Content {
-    fn copy(&self, _alloc: Global) -> Result<Content, NoMemory> {
+    fn copy(&self, _alloc: Global) -> Result<Content, NoMemory>
+        ensures { result ≡ Ok self.now }
+    {
         Ok(*self)
     }
 }

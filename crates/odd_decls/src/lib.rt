@@ -2,10 +2,14 @@
 #![tactic(auto)]
 
 pub mod content;
+mod forms;
 pub mod library;
 pub mod odd;
+mod pending;
 pub mod reading;
+mod searching;
 pub mod spec;
+mod words;
 
 pub use content::Content;
 pub use library::{Component, ElementPart, Library, Parts, library_of};

@@ -1,30 +1,49 @@
-ghost use Rattle.std.specs.Prelude.{◌≡◌, IfOk, OnOk, IsTrue};
+ghost use Rattle.std.specs.Prelude.{◌≡◌, map, IfOk, OnOk, IsTrue};
 ghost use Rattle.std.specs.Option.{option_copied};
 ghost use Rattle.std.specs.FinMap.{find, is_sorted};
 ghost use Rattle.odd_base.specs.Key.{key_cmp};
 ghost use Rattle.odd_base.specs.declared.key.Key.{Key as AKey};
 ghost use Rattle.odd_decls.specs.Library.{IsEmptyLibrary, IsLibraryOf, entry_at, last_of};
+ghost use Rattle.odd_decls.specs.Odd.{key_of as the_key_of};
+ghost use Rattle.odd_decls.specs.Reading.{DeclareTheSame};
 
+use crate::TEI;
 use crate::content::Content;
 use crate::odd::{Entry, OddDoc};
 use odd_base::{Key, Map, NoMemory, Text, TryCopy, Words};
 use std::alloc::Global;
 
-/// An element of a library.
-#[derive(Clone, Copy, Debug, PartialEq, Eq)]
+/// An element of a library: its module, which may be empty, its namespace in documents and its content.
+#[derive(Debug, Drop, PartialEq, Eq)]
 pub struct ElementPart {
+    pub module: Text,
+    pub ns: Text,
     pub content: Content,
 }
 
+impl TryCopy for ElementPart {
+    fn copy(&self, alloc: Global) -> Result<ElementPart, NoMemory> {
+        let module = self.module.copy(alloc)?;
+        let ns = self.ns.copy(alloc)?;
+        Ok(ElementPart {
+            module,
+            ns,
+            content: self.content,
+        })
+    }
+}
+
 /// A component of a library.
-#[derive(Clone, Copy, Debug, PartialEq, Eq)]
+#[derive(Debug, Drop, PartialEq, Eq)]
 pub enum Component {
     Element(ElementPart),
 }
 
 impl TryCopy for Component {
-    fn copy(&self, _alloc: Global) -> Result<Component, NoMemory> {
-        Ok(*self)
+    fn copy(&self, alloc: Global) -> Result<Component, NoMemory> {
+        match self {
+            Component::Element(part) => Ok(Component::Element(part.copy(alloc)?)),
+        }
     }
 }
 
@@ -68,7 +87,8 @@ pub fn library_of(alloc: Global, doc: &OddDoc) -> Result<Library, NoMemory>
     ensures { IfOk result (IsLibraryOf doc.now) }
 {
     let mut parts = Parts::new(alloc);
-    for entry in doc.entries.as_slice() {
+    let sorted = by_key(alloc, doc.entries.as_slice())?;
+    for entry in sorted.as_slice() {
         declare(alloc, &mut parts, entry)?;
     }
     let ident = doc.ident.copy(alloc)?;
@@ -80,6 +100,27 @@ pub fn library_of(alloc: Global, doc: &OddDoc) -> Result<Library, NoMemory>
     })
 }
 
+// The entries in the order of their keys, so that each is put at the end.
+fn by_key<'a>(alloc: Global, entries: &'a [Entry]) -> Result<Vec<&'a Entry>, NoMemory>
+    ensures { IfOk result (λ sorted. DeclareTheSame entries.entry.now (map (λ e. e.now) sorted.items)) }
+{
+    let mut sorted = Vec::new(alloc);
+    for entry in entries {
+        sorted.push(entry)?;
+    }
+    sorted.sort_by(|one, other| key_of(one).cmp(key_of(other)))?;
+    Ok(sorted)
+}
+
+// The key of what an entry declares.
+fn key_of(entry: &Entry) -> &Key
+    ensures { result.now ≡ the_key_of entry.now }
+{
+    match entry {
+        Entry::Spec { at: _, spec } => &spec.key,
+    }
+}
+
 // Puts what an entry declares.
 fn declare(alloc: Global, parts: &mut Parts, entry: &Entry) -> Result<(), NoMemory>
     ensures rising { OnOk result (IsTrue (is_sorted key_cmp parts.new)) }
@@ -88,8 +129,20 @@ fn declare(alloc: Global, parts: &mut Parts, entry: &Entry) -> Result<(), NoMemo
     match entry {
         Entry::Spec { at: _, spec } => {
             let key = spec.key.copy(alloc)?;
+            let module = spec.module.copy(alloc)?;
+            let ns = match &spec.ns {
+                Some(ns) => ns.copy(alloc)?,
+                None => Text::from_str(alloc, TEI)?,
+            };
             let content = spec.content.unwrap_or(Content::Empty);
-            parts.put(key, Component::Element(ElementPart { content }))
+            parts.put(
+                key,
+                Component::Element(ElementPart {
+                    module,
+                    ns,
+                    content,
+                }),
+            )
         }
     }
 }

@@ -1,23 +1,34 @@
-ghost use Rattle.std.specs.Prelude.{◌≡◌, ◌↔◌, ℕ, ◌≤◌, List, [], IsTrue, IfOk, IfErr, OnOk, MatchOption, Option, length, codes};
-ghost use Rattle.std.specs.Option.{option_copied, option_to_list};
-ghost use Rattle.odd_reader.specs.declared.tree.Tree.{out-Tree};
-ghost use Rattle.odd_decls.specs.Odd.{Declares, Gives, GivesContent, HoldsItems, IsHead, IsItem, IsPlain, IsRoot, attribute_value, elements_of, is_named as a_named, tei};
-ghost use Rattle.odd_decls.specs.Reading.{IsAdded, IsDeclared, ident_of};
-ghost use Rattle.odd_decls.specs.declared.content.Content.{Content as AContent};
-ghost use Rattle.odd_decls.specs.declared.odd.Entry.{Entry as AnEntry};
-ghost use Rattle.odd_decls.specs.declared.odd.OddDoc.{OddDoc as ADoc};
+ghost use Rattle.std.specs.Prelude.{◌≡◌, ℕ, List, [], ◌∷◌, ◌++◌, map, Err, Some, IfOk, OnOk, codes};
+ghost use Rattle.std.specs.Option.{option_copied};
+ghost use Rattle.odd_base.specs.declared.offence.Offence.{Offence as AnOffence};
+ghost use Rattle.odd_reader.specs.Formed.{IsFormed};
+ghost use Rattle.odd_reader.specs.declared.tree.Tree.{Tree as ATree};
+ghost use Rattle.odd_decls.specs.Declares.{AreReadAs, AreSorted, Declares, IsDocOf, content_given, namespace_given, parts_give, start_of};
+ghost use Rattle.odd_decls.specs.Faults.{BreaksAfter, HoldsIdents, IsEarlier, StandsAgain};
+ghost use Rattle.odd_decls.specs.Odd.{StandsIn};
+ghost use Rattle.odd_decls.specs.Offences.{IsOffenceOf, IsRefusal, IsSpecOf, ItemFault, ItemOffends, Offends};
+ghost use Rattle.odd_decls.specs.Pending.{IsPending};
+ghost use Rattle.odd_decls.specs.Reading.{IsEntryOf, IsFirstIn, IsIdentOf, IsLeast, PlacesRise, Rises};
+ghost use Rattle.odd_decls.specs.Search.{children_of};
 
 use crate::TEI;
 use crate::content::Content;
+use crate::forms::{TWICE, item_fault, schema_fault};
 use crate::odd::{Entries, Entry, OddDoc};
+use crate::pending::is_pending;
+use crate::searching::{attribute, find_schemas, is_one_of};
 use crate::spec::Spec;
-use odd_base::{Key, Kind, Map, NoMemory, Text, TryCopy, Words};
-use odd_reader::{Attr, Attrs, Node, Tree, is_ncname};
+use crate::words::words_of;
+use odd_base::{Key, Kind, NoMemory, Offence, Text, TryCopy, Who, Words};
+use odd_reader::{Node, Tree, is_ncname};
 use std::alloc::Global;
+use std::collections::BTreeSet;
 
 /// Why a file declares nothing.
-#[derive(Clone, Copy, Debug, PartialEq, Eq)]
+#[derive(Debug, Drop, PartialEq, Eq)]
 pub enum OddRefusal {
+    /// The first offence of form.
+    Offence(Offence),
     /// The file has a form that is not read yet.
     NotYet,
     NoMemory,
@@ -33,26 +44,145 @@ impl From<NoMemory> for OddRefusal {
     }
 }
 
-// How many elements a file may declare for now.
-const ELEMENTS: usize = 10_000;
-
-// The idents that were declared so far, each with the byte of its declaration.
-type Declared = Map<Text, u64>;
-
 /// What the tree of an ODD file declares. `file` is its number, counted from 1. With `aside` constraints are
-/// taken out; there are none yet.
-pub fn read_odd(alloc: Global, tree: &Tree, _file: u32, _aside: bool) -> Result<OddDoc, OddRefusal>
+/// taken out; that comes later.
+///
+/// NotYet comes where the file has a form that is not read yet (docs/odd-files.md), and before any offence. Offence
+/// comes at the first offence of form, by place and then by rule.
+pub fn read_odd(alloc: Global, tree: &Tree, file: u32, _aside: bool) -> Result<OddDoc, OddRefusal>
     ensures ok { IfOk result (Declares tree.now) }
-    ensures not_yet { result ≡ Err OddRefusal.NotYet → (doc : ADoc) → Declares tree.now doc → ⊥ }
+    ensures offends { (offence : AnOffence) → result ≡ Err (OddRefusal.Offence offence) → IsOffenceOf tree.now file offence }
+    ensures offence { (offence : AnOffence) (first end : ℕ) → IsFormed first end tree.now → result ≡ Err (OddRefusal.Offence offence) → IsRefusal tree.now file offence }
+    ensures not_yet { result ≡ Err OddRefusal.NotYet → IsPending tree.now }
 {
-    let Some((ident, start)) = root_words(tree) else {
+    if is_pending(tree, false) {
+        return Err(OddRefusal::NotYet);
+    }
+    let mut schemas = Vec::new(alloc);
+    find_schemas(tree, &mut schemas)?;
+    let [schema, others @ ..] = schemas.as_slice() else {
         return Err(OddRefusal::NotYet);
     };
-    let ident = ident.copy(alloc)?;
-    let start_word = start.copy(alloc)?;
-    let mut start = Words::new(alloc);
-    start.push(start_word)?;
-    let entries = read_items(alloc, tree)?;
+    let start = start_words(alloc, schema)?;
+    if let Some(fault) = first_fault(alloc, schema, others, start.as_slice())? {
+        return Err(OddRefusal::Offence(Offence {
+            file,
+            who: Who::At(fault.at),
+            rule: fault.rule,
+        }));
+    }
+    Ok(declared(alloc, schema, start)?)
+}
+
+// A rule that is broken at a byte.
+#[derive(Clone, Copy, Debug, PartialEq, Eq, PartialOrd, Ord)]
+struct Fault {
+    at: u64,
+    rule: u8,
+}
+
+// The words of `start`, as they are written; `TEI` where it is absent.
+fn start_words(alloc: Global, schema: &Tree) -> Result<Words, NoMemory>
+    ensures { IfOk result (λ words. words ≡ start_of schema.now) }
+{
+    match attribute(&schema.attrs, "start") {
+        Some(value) => words_of(alloc, value.as_str()),
+        None => words_of(alloc, "TEI"),
+    }
+}
+
+// The first fault of a `schemaSpec` and its items, and of those `schemaSpec` that come after it.
+fn first_fault(
+    alloc: Global,
+    schema: &Tree,
+    others: &[&Tree],
+    start: &[Text],
+) -> Result<Option<Fault>, NoMemory>
+    requires { start.now ≡ start_of schema.now }
+    ensures { IfOk result (IsFirstIn (Offends schema.now (map (λ t. t.now) others.now)) (PlacesRise schema.now (map (λ t. t.now) others.now))) }
+{
+    if let Some(rule) = schema_fault(schema, start) {
+        return Ok(Some(Fault {
+            at: schema.at,
+            rule,
+        }));
+    }
+    let first = first_item_fault(alloc, schema)?;
+    Ok(match (first, next_schema(others)) {
+        (Some(one), Some(other)) => Some(earlier(one, other)),
+        (Some(one), None) => Some(one),
+        (None, other) => other,
+    })
+}
+
+// The earlier of two faults, by place and then by rule.
+fn earlier(one: Fault, other: Fault) -> Fault
+    ensures { IsEarlier one other result }
+{
+    one.min(other)
+}
+
+// The first of those `schemaSpec` that come after one, of which there may be none.
+fn next_schema(others: &[&Tree]) -> Option<Fault>
+    ensures { IsFirstIn (StandsAgain (map (λ t. t.now) others.now)) (Rises 0 (map (λ t. t.now) others.now)) result }
+{
+    let other = others.first()?;
+    Some(Fault {
+        at: other.at,
+        rule: TWICE,
+    })
+}
+
+// The first item that breaks a rule, or has the ident of an earlier one.
+fn first_item_fault(alloc: Global, schema: &Tree) -> Result<Option<Fault>, NoMemory>
+    ensures { IfOk result (IsFirstIn (ItemOffends (children_of schema.now)) (Rises 0 (children_of schema.now))) }
+{
+    let mut idents = BTreeSet::new(alloc);
+    for node in schema.children.as_slice() {
+        if let Node::Element(item) = node {
+            if let Some(rule) = broken_rule(&mut idents, item)? {
+                return Ok(Some(Fault { at: item.at, rule }));
+            }
+        }
+    }
+    Ok(None)
+}
+
+// The least rule that an item breaks after those of these idents, to which its own is added.
+fn broken_rule<'a>(idents: &mut BTreeSet<&'a Text>, item: &'a Tree) -> Result<Option<u8>, NoMemory>
+    ensures least { IfOk result (λ rule. (items : List ATree) → HoldsIdents items idents.old → IsLeast (BreaksAfter items item.now) rule) }
+    ensures idents { OnOk result ((items : List ATree) → HoldsIdents items idents.old → HoldsIdents (items ++ item.now ∷ []) idents.new) }
+{
+    let again = match spec_ident(item) {
+        Some(ident) => !idents.insert(ident)?,
+        None => false,
+    };
+    Ok(item_fault(item).or(again.then_some(TWICE)))
+}
+
+// The ident of an `elementSpec`, where it is an NCName.
+fn spec_ident(item: &Tree) -> Option<&Text>
+    ensures { IsIdentOf item.now (option_copied result) }
+{
+    if !is_one_of(item, &["elementSpec"]) {
+        return None;
+    }
+    let ident = attribute(&item.attrs, "ident")?;
+    if is_ncname(ident) { Some(ident) } else { None }
+}
+
+// What a `schemaSpec` without a fault declares. `start` are its start words, as they are written.
+fn declared(alloc: Global, schema: &Tree, start: Words) -> Result<OddDoc, NoMemory>
+    requires start { start ≡ start_of schema.now }
+    requires sound { (place rule : ℕ) → Offends schema.now [] place rule → ⊥ }
+    ensures { IfOk result (IsDocOf schema.now) }
+{
+    let ident = match attribute(&schema.attrs, "ident") {
+        Some(ident) => ident.copy(alloc)?,
+        None => Text::new(alloc),
+    };
+    let start = sorted(alloc, start)?;
+    let entries = entries(alloc, schema)?;
     Ok(OddDoc {
         ident,
         start,
@@ -60,166 +190,93 @@ pub fn read_odd(alloc: Global, tree: &Tree, _file: u32, _aside: bool) -> Result<
     })
 }
 
-// Whether an element of TEI's namespace has this local name.
-fn is_tei(tree: &Tree, local: &str) -> bool
-    ensures { IsTrue result ↔ ((out-Tree tree.now).name ≡ tei local.now) }
-{
-    tree.name.ns.as_str() == TEI && tree.name.local.as_str() == local
-}
-
-// Whether an attribute has this local name, and no namespace.
-fn is_named(attr: &Attr, local: &str) -> bool
-    ensures { result ≡ a_named attr.now local.now }
-{
-    attr.name.ns.as_str().is_empty() && attr.name.local.as_str() == local
-}
-
-// The value of the first attribute of this local name that has no namespace.
-fn attribute<'a>(attrs: &'a Attrs, local: &str) -> Option<&'a Text>
-    ensures { option_copied result ≡ attribute_value attrs.now local.now }
-{
-    for attr in attrs.as_slice() {
-        if is_named(attr, local) {
-            return Some(&attr.value);
-        }
-    }
-    None
-}
-
-// The ident and the start word, where the root is a `schemaSpec` with these two attributes and no other.
-fn root_words(tree: &Tree) -> Option<(&Text, &Text)>
-    ensures { MatchOption result ((ident : List ℕ) (start : List ℕ) → IsRoot tree.now ident start → ⊥) (λ words. IsRoot tree.now words.0.now words.1.now) }
-{
-    if !is_tei(tree, "schemaSpec") || tree.attrs.len() != 2 {
-        return None;
-    }
-    let ident = attribute(&tree.attrs, "ident")?;
-    let start = attribute(&tree.attrs, "start")?;
-    if is_ncname(ident) && is_ncname(start) {
-        Some((ident, start))
-    } else {
-        None
-    }
-}
-
-// The entries that the elements of a `schemaSpec` declare.
-fn read_items(alloc: Global, tree: &Tree) -> Result<Entries, OddRefusal>
-    ensures ok { IfOk result (HoldsItems (elements_of (out-Tree tree.now).children)) }
-    ensures not_yet { result ≡ Err OddRefusal.NotYet → (entries : List AnEntry) → HoldsItems (elements_of (out-Tree tree.now).children) entries → ⊥ }
+// The entries that the items of a `schemaSpec` without a fault declare, in their order.
+fn entries(alloc: Global, schema: &Tree) -> Result<Entries, NoMemory>
+    requires { (item : ATree) → StandsIn (children_of schema.now) item → (rule : ℕ) → ItemFault item rule → ⊥ }
+    ensures { IfOk result (AreReadAs schema.now (children_of schema.now)) }
 {
     let mut entries = Entries::new(alloc);
-    let mut declared = Declared::new(alloc);
-    for node in tree.children.as_slice() {
-        match node {
-            Node::Text(_) => {}
-            Node::Element(item) => {
-                if entries.len() >= ELEMENTS {
-                    return Err(OddRefusal::NotYet);
-                }
-                let entry = read_element(alloc, item, &mut declared)?;
-                entries.push(entry)?;
+    for node in schema.children.as_slice() {
+        if let Node::Element(item) = node {
+            if let Some(ident) = spec_ident(item) {
+                entries.push(entry(alloc, schema, item, ident)?)?;
             }
         }
     }
     Ok(entries)
 }
 
-// The entry of an `elementSpec` whose ident is new, and is declared with it.
-fn read_element(alloc: Global, item: &Tree, declared: &mut Declared) -> Result<Entry, OddRefusal>
-    ensures ok { IfOk result (λ entry. IsItem item.now entry × IsAdded (ident_of entry) declared.old declared.new) }
-    ensures not_yet { result ≡ Err OddRefusal.NotYet → (entry : AnEntry) → IsItem item.now entry → IsDeclared declared.old (ident_of entry) }
+// The words in the order of their bytes, each once.
+fn sorted(alloc: Global, words: Words) -> Result<Words, NoMemory>
+    ensures { IfOk result (AreSorted words) }
 {
-    let Some(ident) = only_ident(item) else {
-        return Err(OddRefusal::NotYet);
+    let mut items = words.into_items();
+    items.sort_unstable();
+    items.dedup();
+    let mut sorted = Words::new(alloc);
+    for word in items {
+        sorted.push(word)?;
+    }
+    Ok(sorted)
+}
+
+// The entry that an `elementSpec` of this ident declares.
+fn entry(alloc: Global, schema: &Tree, item: &Tree, ident: &Text) -> Result<Entry, NoMemory>
+    requires { IsSpecOf ident.now item.now }
+    ensures { IfOk result (IsEntryOf schema.now item.now) }
+{
+    let module = match attribute(&item.attrs, "module") {
+        Some(module) => module.copy(alloc)?,
+        None => Text::new(alloc),
     };
-    declare(alloc, ident, item.at, declared)?;
-    let content = read_content_child(item)?;
     let ident = ident.copy(alloc)?;
-    let key = Key {
-        kind: Kind::Element,
-        ident,
-    };
+    let ns = namespace(alloc, schema, item)?;
     Ok(Entry::Spec {
         at: item.at,
-        spec: Spec { key, content },
+        spec: Spec {
+            key: Key {
+                kind: Kind::Element,
+                ident,
+            },
+            module,
+            ns: Some(ns),
+            content: content(item),
+        },
     })
 }
 
-// Declares an ident that was not declared before, at the byte.
-fn declare(alloc: Global, ident: &Text, at: u64, declared: &mut Declared) -> Result<(), OddRefusal>
-    ensures ok { OnOk result (IsAdded ident.now declared.old declared.new) }
-    ensures not_yet { result ≡ Err OddRefusal.NotYet → IsDeclared declared.old ident.now }
+// The namespace of an element in documents: its own, else that of its `schemaSpec`, else TEI's.
+fn namespace(alloc: Global, schema: &Tree, item: &Tree) -> Result<Text, NoMemory>
+    ensures { IfOk result (λ ns. ns ≡ namespace_given schema.now item.now) }
 {
-    if declared.find(ident).is_some() {
-        return Err(OddRefusal::NotYet);
+    match attribute(&item.attrs, "ns").or(attribute(&schema.attrs, "ns")) {
+        Some(ns) => ns.copy(alloc),
+        None => Text::from_str(alloc, TEI),
     }
-    let ident = ident.copy(alloc)?;
-    declared.put(ident, at)?;
-    Ok(())
 }
 
-// The ident of an `elementSpec` that has no other attribute.
-fn only_ident(item: &Tree) -> Option<&Text>
-    ensures { MatchOption result ((ident : List ℕ) → IsHead item.now ident → ⊥) (λ ident. IsHead item.now ident.now) }
+// The content of an `elementSpec`, where it has one.
+fn content(item: &Tree) -> Option<Content>
+    ensures { result ≡ content_given (children_of item.now) }
 {
-    if !is_tei(item, "elementSpec") || item.attrs.len() != 1 {
-        return None;
-    }
-    let ident = attribute(&item.attrs, "ident")?;
-    if is_ncname(ident) { Some(ident) } else { None }
-}
-
-// The element among the children, where there is at most one.
-fn only_element(tree: &Tree) -> Result<Option<&Tree>, OddRefusal>
-    ensures ok { IfOk result (λ only. elements_of (out-Tree tree.now).children ≡ option_to_list (option_copied only)) }
-    ensures err { IfErr result (λ _. 2 ≤ length (elements_of (out-Tree tree.now).children)) }
-{
-    let mut only = None;
-    for node in tree.children.as_slice() {
+    for node in item.children.as_slice() {
         match node {
-            Node::Text(_) => {}
-            Node::Element(child) => {
-                if only.is_some() {
-                    return Err(OddRefusal::NotYet);
-                }
-                only = Some(child);
-            }
+            Node::Element(child) if is_one_of(child, &["content"]) => return Some(part(child)),
+            _ => {}
         }
     }
-    Ok(only)
+    None
 }
 
-// The content that the `content` child gives, where there is one.
-fn read_content_child(item: &Tree) -> Result<Option<Content>, OddRefusal>
-    ensures ok { IfOk result (λ content. GivesContent (elements_of (out-Tree item.now).children) content) }
-    ensures err { IfErr result (λ _. (content : Option AContent) → GivesContent (elements_of (out-Tree item.now).children) content → ⊥) }
+// What the parts of a `content` give.
+fn part(content: &Tree) -> Content
+    ensures { result ≡ parts_give (children_of content.now) }
 {
-    match only_element(item)? {
-        None => Ok(None),
-        Some(child) if is_tei(child, "content") && child.attrs.is_empty() => {
-            Ok(Some(read_part(child)?))
+    for node in content.children.as_slice() {
+        match node {
+            Node::Element(child) if is_one_of(child, &["textNode"]) => return Content::Text,
+            _ => {}
         }
-        Some(_) => Err(OddRefusal::NotYet),
     }
-}
-
-// The content that the elements in a `content` give.
-fn read_part(content: &Tree) -> Result<Content, OddRefusal>
-    ensures ok { IfOk result (λ given. Gives (elements_of (out-Tree content.now).children) given) }
-    ensures err { IfErr result (λ _. (given : AContent) → Gives (elements_of (out-Tree content.now).children) given → ⊥) }
-{
-    match only_element(content)? {
-        None => Ok(Content::Empty),
-        Some(part) if !is_plain(part) => Err(OddRefusal::NotYet),
-        Some(part) if is_tei(part, "empty") => Ok(Content::Empty),
-        Some(part) if is_tei(part, "textNode") => Ok(Content::Text),
-        Some(_) => Err(OddRefusal::NotYet),
-    }
-}
-
-// Whether an element has no attribute and holds no element.
-fn is_plain(tree: &Tree) -> bool
-    ensures { IsTrue result ↔ IsPlain tree.now }
-{
-    tree.attrs.is_empty() && matches!(only_element(tree), Ok(None))
+    Content::Empty
 }

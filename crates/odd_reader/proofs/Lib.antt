@@ -1,3 +1,4 @@
+pub mod Answered
 pub mod Ascii
 pub mod AttributesLexed
 pub mod Beyond
@@ -10,6 +11,7 @@ pub mod Characters
 pub mod DeepTags
 pub mod Depth
 pub mod Distinct
+pub mod Escaped
 pub mod Escapes
 pub mod Examples
 pub mod Faults

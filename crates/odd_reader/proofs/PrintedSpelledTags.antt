@@ -29,7 +29,7 @@ pub record IsCharTag (name : List ℕ) (attributes : List Pair) : Type 0 where
 
 -- values
 
-value_is_written : (cs : List ℕ) → encode_utf8_all (value_written (map value_piece cs)) ≡ escaped_value (encode_utf8_all cs)
+pub value_is_written : (cs : List ℕ) → encode_utf8_all (value_written (map value_piece cs)) ≡ escaped_value (encode_utf8_all cs)
 value_is_written [] = refl
 value_is_written (c ∷ cs) =
     piece_written (map value_piece cs) c ∙ ap (λ z. escaped_value (encode c) ++ z) (value_is_written cs)

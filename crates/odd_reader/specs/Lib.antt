@@ -1,6 +1,7 @@
 pub mod Building
 pub mod Characters
 pub mod Declaring
+pub mod Escaping
 pub mod Fitting
 pub mod Formed
 pub mod Lexing

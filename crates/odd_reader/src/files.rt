@@ -1,6 +1,7 @@
-//! Files with the trees that they give, and files that give none with the places of their faults. Each is written from a
-//! sentence of XML 1.0 or of Namespaces in XML 1.0. A tree is written as its elements: an expanded name with its namespace in braces, `@` and the
-//! byte of the tag, the bindings, the attributes, and in parentheses the children, a text in apostrophes.
+//! Files with the trees that they give, files that give none with the places of their faults, and texts with what is
+//! written of each. Each is written from a sentence of XML 1.0 or of Namespaces in XML 1.0. A tree is written as its
+//! elements: an expanded name with its namespace in braces, `@` and the byte of the tag, the bindings, the attributes, and
+//! in parentheses the children, a text in apostrophes.
 
 /// Elements and tags.
 pub const ELEMENTS: [(&str, &str); 9] = [
@@ -351,4 +352,20 @@ pub const NO_UTF8: [(&[u8], u64); 21] = [
     (b"\xE9<a/>", 0),
     (b"<a/><!--\xE9-->", 4),
     (b"<a>\xC3\xA4\xE9</a>", 5),
+];
+
+/// Texts, with what is written of each as a text and as a value.
+pub const ESCAPED: [(&str, &str, &str); 12] = [
+    ("", "", ""),
+    ("t", "t", "t"),
+    ("&", "&amp;", "&amp;"),
+    ("<", "&lt;", "&lt;"),
+    (">", "&gt;", "&gt;"),
+    ("\r", "&#13;", "&#13;"),
+    ("\"", "\"", "&quot;"),
+    ("\t", "\t", "&#9;"),
+    ("\n", "\n", "&#10;"),
+    ("'ä€𝄞", "'ä€𝄞", "'ä€𝄞"),
+    ("1]]>2", "1]]&gt;2", "1]]&gt;2"),
+    (" &amp;\r\n", " &amp;amp;&#13;\n", " &amp;amp;&#13;&#10;"),
 ];

@@ -1,8 +1,9 @@
 //! Files and their trees, and what the tags look like with each character that is escaped.
 
+use crate::escaping::{escape_text, escape_value};
 use crate::files::{
-    CDATA, ELEMENTS, NAMES, NAMESPACES, NO_CHARACTERS, NO_DECLARATIONS, NO_DOCUMENTS, NO_NAMES,
-    NO_NAMESPACES, NO_TOKENS, NO_UTF8, OPENINGS, PASSED, TEXTS, VALUES,
+    CDATA, ELEMENTS, ESCAPED, NAMES, NAMESPACES, NO_CHARACTERS, NO_DECLARATIONS, NO_DOCUMENTS,
+    NO_NAMES, NO_NAMESPACES, NO_TOKENS, NO_UTF8, OPENINGS, PASSED, TEXTS, VALUES,
 };
 use crate::printing::{add_attribute, add_escaped_text};
 use crate::reader::{ReadRefusal, read_tree};
@@ -221,5 +222,33 @@ fn a_value_and_a_text_are_escaped(rt: HostRuntime) -> Result<(), Fail> {
     let mut text = Text::new(rt.alloc());
     add_escaped_text(&mut text, "a&b<c>d\"e\tf\ng\rh'ä€𝄞")?;
     assert_eq!(rt; text.as_str(), "a&amp;b&lt;c&gt;d\"e\tf\ng&#13;h'ä€𝄞");
+    Ok(())
+}
+
+#[test]
+fn an_escaped_text_is_read_back_between_tags(rt: HostRuntime) -> Result<(), Fail> {
+    for (text, as_text, _) in &ESCAPED {
+        let written = escape_text(rt.alloc(), &Text::from_str(rt.alloc(), text)?)?;
+        assert_eq!(rt; written.as_str(), *as_text, "{text}");
+        let file = format!(in rt.alloc(); "<a>{}</a>", written.as_str())?;
+        let tree = if text.is_empty() {
+            format!(in rt.alloc(); "a@0")?
+        } else {
+            format!(in rt.alloc(); "a@0('{text}')")?
+        };
+        have_trees(&rt, rt.alloc(), &[(file.as_str(), tree.as_str())])?;
+    }
+    Ok(())
+}
+
+#[test]
+fn an_escaped_value_is_read_back_in_quotes(rt: HostRuntime) -> Result<(), Fail> {
+    for (value, _, as_value) in &ESCAPED {
+        let written = escape_value(rt.alloc(), &Text::from_str(rt.alloc(), value)?)?;
+        assert_eq!(rt; written.as_str(), *as_value, "{value}");
+        let file = format!(in rt.alloc(); "<a b=\"{}\"/>", written.as_str())?;
+        let tree = format!(in rt.alloc(); "a@0 b='{value}'")?;
+        have_trees(&rt, rt.alloc(), &[(file.as_str(), tree.as_str())])?;
+    }
     Ok(())
 }

@@ -14,6 +14,9 @@ use Rattle.compile_core.proofs.compiling.compile.Goals as goal
 compiled : (c : goal.In_ok-defines) → record { start = c.in_ok-start.start; defines = c.in_ok-defines.defines } ≡ grammar_of c.args.library.now c.args.start.now
 compiled c = λ i. record { start = c.in_ok-start.ensures i; defines = c.in_ok-defines.ensures i }
 
+pub returns-clause-grammar : goal.returns-clause-grammar
+returns-clause-grammar c = compiled c
+
 pub returns-clause-ok : goal.returns-clause-ok
 returns-clause-ok c = ap grammar_text (compiled c) ∙ text_is c.args.library.now c.args.start.now
 

@@ -1,4 +1,4 @@
-use Rattle.std.proofs.Common.{◌≡◌, take}
+use Rattle.std.proofs.Common.{◌≡◌, map, take}
 use Rattle.std.specs.Prelude.{IsTrue}
 use Rattle.std.specs.FinMap.{find, is_sorted}
 use Rattle.odd_base.specs.Key.{key_cmp}
@@ -9,5 +9,5 @@ use Rattle.odd_decls.proofs.library.library_of.Given as goal
 abbrev pub invariant-loop-entry : goal.invariant-loop-entry
 invariant-loop-entry l = record {
   rising : IsTrue (is_sorted key_cmp l.parts);
-  holds : (key : Key) → find key_cmp key l.parts ≡ declared_at (take l.entry-index l.doc.entries) key;
+  holds : (key : Key) → find key_cmp key l.parts ≡ declared_at (take l.entry-index (map (λ e. e.now) l.entry-items)) key;
 }

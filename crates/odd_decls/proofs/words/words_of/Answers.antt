@@ -1,0 +1,12 @@
+use Rattle.std.proofs.Common.{◌++◌, sym, ap, ◌∙◌}
+use Rattle.odd_decls.proofs.Spaced.{at_other}
+use Rattle.odd_decls.specs.Words.{words_after}
+use Rattle.odd_decls.proofs.words.words_of.Goals as goal
+
+pub loop-c-preserved : goal.loop-c-preserved
+loop-c-preserved c =
+    let words = c.loop-c.words in
+    let rest = c.next.new.self.rest.now in
+    ap (λ w. words ++ words_after w rest) c.in_ok-push.ensures.ok
+    ∙ ap (λ x. words ++ x) (sym (at_other c.loop-c.word rest c.in-Some.c (sym c.is_space.ensures ∙ c.if-is_space.false)))
+    ∙ ap (λ bytes. words ++ words_after c.loop-c.word bytes) (sym c.in-Some.ensures.steps.0) ∙ c.loop-c.invariant

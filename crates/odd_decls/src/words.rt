@@ -1,0 +1,41 @@
+ghost use Rattle.std.specs.Prelude.{◌≡◌, [], ◌∷◌, ◌++◌, ◌==◌, ◌||◌, if◌then◌else◌, IfOk, OnOk};
+ghost use Rattle.odd_reader.specs.Characters.{is_space as the_is_space};
+ghost use Rattle.odd_decls.specs.Words.{ended, words_of as the_words_of};
+
+use odd_base::{NoMemory, Text, Words};
+use std::alloc::Global;
+
+/// The words of an attribute's value: what stands between white space (XML 1.0, section 2.3).
+pub fn words_of(alloc: Global, value: &str) -> Result<Words, NoMemory>
+    ensures { IfOk result (λ words. words ≡ the_words_of value.now) }
+{
+    let mut words = Words::new(alloc);
+    let mut word = Text::new(alloc);
+    for c in value.chars() {
+        if is_space(c) {
+            end_word(&mut words, word)?;
+            word = Text::new(alloc);
+        } else {
+            word.push(c)?;
+        }
+    }
+    end_word(&mut words, word)?;
+    Ok(words)
+}
+
+// Whether a character is white space.
+fn is_space(c: char) -> bool
+    ensures { result ≡ the_is_space c }
+{
+    matches!(c, ' ' | '\t' | '\r' | '\n')
+}
+
+// Puts a word that ends, where one has begun.
+fn end_word(words: &mut Words, word: Text) -> Result<(), NoMemory>
+    ensures { OnOk result (words.new ≡ words.old ++ ended word []) }
+{
+    if word.as_str().is_empty() {
+        return Ok(());
+    }
+    words.push(word)
+}
