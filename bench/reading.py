@@ -3,11 +3,12 @@
 
     bench/reading.py PROGRAM [FOLDER]
 
-writes two files into FOLDER (a new one under /tmp where none is given): an ODD file of 15 MB with 20,000 elementSpec
-among comments, prose, references and CDATA sections, and a file whose root has 200,000 attributes. Then it runs
-`PROGRAM compile FILE` and `xmllint --noout FILE` in turn, seven times each, and prints the least time in seconds and
-the greatest memory in MB. The program reads the whole file and then answers with code 10, since it does not take such
-declarations yet. The second file goes to PROGRAM alone: xmllint compares its attributes in pairs, for many minutes.
+writes three files into FOLDER (a new one under /tmp where none is given): an ODD file of 15 MB with 20,000 elementSpec
+among comments, prose, references and CDATA sections, one of 12 MB with 400,000 of them and nothing else, their idents
+falling, and a file whose root has 200,000 attributes. Then it runs `PROGRAM compile FILE` and `xmllint --noout FILE` in
+turn, seven times each, and prints the least time in seconds and the greatest memory in MB. The program compiles the first
+two, and answers the third with code 10. The last two go to PROGRAM alone: xmllint compares the attributes of the third in
+pairs, for many minutes.
 """
 import os
 import sys
@@ -15,6 +16,7 @@ import tempfile
 import time
 
 SPECS = 20_000
+FALLING = 400_000
 ATTRIBUTES = 200_000
 RUNS = 7
 WORDS = "the name of a person, place or thing as it stands in the source".split()
@@ -47,6 +49,11 @@ def odd_file():
     )
 
 
+def falling_file():
+    specs = "".join(f'<elementSpec ident="a{number:06}"/>\n' for number in reversed(range(FALLING)))
+    return f'<schemaSpec xmlns="http://www.tei-c.org/ns/1.0" ident="s" start="a000000">{specs}</schemaSpec>\n'
+
+
 def wide_file():
     attributes = "".join(f" a{number}='{number}'" for number in range(ATTRIBUTES))
     return f"<wide{attributes}/>\n"
@@ -71,10 +78,10 @@ def main():
     program = sys.argv[1]
     folder = sys.argv[2] if len(sys.argv) == 3 else tempfile.mkdtemp(prefix="odd-bench-")
     os.makedirs(folder, exist_ok=True)
-    for name, text, beside in (("large.odd", odd_file(), True), ("wide.xml", wide_file(), False)):
+    for name, make, beside in (("large.odd", odd_file, True), ("falling.odd", falling_file, False), ("wide.xml", wide_file, False)):
         path = os.path.join(folder, name)
         with open(path, "wb") as out:
-            out.write(text.encode("utf-8"))
+            out.write(make().encode("utf-8"))
         size = os.path.getsize(path)
         print(f"{path}: {size} bytes")
         readers = [[program, "compile", path]]

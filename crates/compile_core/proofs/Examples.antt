@@ -7,17 +7,14 @@ use Rattle.std.proofs.lemmas.Bool.{false≢true}
 use Rattle.std.proofs.lemmas.List.Elements.{All-nil, All-cons, All-head}
 use Rattle.std.proofs.lemmas.Option.{same_Some}
 use Rattle.odd_base.specs.Key.{key_cmp}
-use Rattle.odd_reader.proofs.Ascii.{is_ascii_name}
-use Rattle.odd_reader.specs.Characters.{IsNCName}
 use Rattle.odd_reader.specs.Markup.{Markup, printed}
-use Rattle.odd_reader.specs.Names.{is_same}
+use Rattle.odd_tokens.specs.Same.{is_same}
 use Rattle.odd_reader.specs.declared.tree.Attr.{Attr}
 use Rattle.odd_reader.specs.declared.tree.Node.{Node, Element, Text}
 use Rattle.odd_reader.specs.declared.tree.Node as N
 use Rattle.odd_reader.specs.declared.tree.Tree.{Tree, out-Tree, roll-Tree}
 use Rattle.odd_reader.specs.declared.tree.Tree as T
-use Rattle.odd_reader.proofs.Distinct.{none_twice}
-use Rattle.odd_reader.proofs.Ascii.{ascii_name, ascii_ncname}
+use Rattle.odd_tokens.proofs.Distinct.{none_twice}
 use Rattle.odd_decls.specs.declared.content.Content.{Content}
 use Rattle.odd_decls.specs.declared.content.Content.TheVariants as content
 use Rattle.odd_decls.specs.declared.library.Component.{Component}
@@ -26,6 +23,9 @@ use Rattle.odd_decls.specs.declared.library.ElementPart.{ElementPart}
 use Rattle.odd_decls.specs.declared.library.Library.{Library}
 use Rattle.odd_decls.specs.Odd.{StandsIn, element_key, elements_of, tei, tei_namespace}
 use Rattle.odd_decls.proofs.Elements.{element_shown}
+use Rattle.odd_decls.proofs.Examples.{attribute}
+use Rattle.odd_decls.proofs.Named.{is_name}
+use Rattle.odd_decls.proofs.Standing.{first_or_later, nothing_stands}
 use Rattle.compile_core.specs.Acceptance.{Accepts, AreMatched, HasRule, IsAcceptedWithin, IsMatched, IsThere}
 use Rattle.compile_core.specs.Acceptance as acceptance
 use Rattle.compile_core.specs.Admission.{Admits, IsAdmitted, IsValid, IsValidBy, IsValidWithin, name_in_documents}
@@ -43,7 +43,7 @@ use Rattle.compile_core.specs.declared.grammar.Expr.{Expr}
 use Rattle.compile_core.specs.declared.grammar.Expr.TheVariants as expr
 use Rattle.compile_core.specs.declared.grammar.Grammar.{Grammar}
 use Rattle.compile_core.specs.declared.grammar.NameClass.TheVariants as class
-use Rattle.compile_core.proofs.Standing.{none_stands, stands_in}
+use Rattle.compile_core.proofs.Shown.{element_passes}
 
 -- nodes and trees
 
@@ -52,9 +52,6 @@ words = Text (codes "some words")
 
 abbrev space : Node
 space = Text (codes " \n")
-
-abbrev attribute : List ℕ → List ℕ → Attr
-attribute local value = record { name = record { ns = []; local = local }; value = value }
 
 -- an element of TEI's
 abbrev element : List ℕ → List Attr → List Node → Tree
@@ -268,7 +265,7 @@ second_word : Admits (holding (codes "a") content.Text) (codes "b" ∷ codes "a"
 second_word = record { word = codes "a"; among = (codes "b" ∷ [], [], refl); valid = text_with_words }
 
 no_word : (library : Library) (t : Tree) → Admits library [] t → ⊥
-no_word library t a = none_stands a.word a.among
+no_word library t a = nothing_stands a.word a.among
 
 -- a library of an `a` in a namespace of its own and a `b` of TEI's
 abbrev of_two : Library
@@ -304,11 +301,11 @@ named_as_held part ident word t counts e held v =
 
 -- so the library admits two names alone
 name_of_two : (t : Tree) → depth t ≡ 1 → Admits of_two of_two.start t → ((out-Tree t).name ≡ record { ns = codes "urn:x"; local = codes "a" }) ⊎ ((out-Tree t).name ≡ tei (codes "b"))
-name_of_two t e a = elim (stands_in (codes "a") a.word (codes "b" ∷ []) a.among) [
+name_of_two t e a = elim (first_or_later (codes "a") a.word (codes "b" ∷ []) a.among) [
   | inl first ↦ inl (named_as_held (part_in (codes "urn:x") content.Empty) (codes "a") a.word t _ first refl (opened of_two t a.word 0 e a.valid))
-  | inr later ↦ elim (stands_in (codes "b") a.word [] later) [
+  | inr later ↦ elim (first_or_later (codes "b") a.word [] later) [
     | inl second ↦ inr (named_as_held (part_in tei_namespace content.Empty) (codes "b") a.word t _ second refl (opened of_two t a.word 0 e a.valid))
-    | inr last ↦ absurd (none_stands a.word last)
+    | inr last ↦ absurd (nothing_stands a.word last)
   ]
 ]
 
@@ -398,13 +395,13 @@ needed_there = record {
 }
 
 needed_lacking : AreMatched (rule true ∷ []) [] → ⊥
-needed_lacking m = let h = All-head (WhereNeeded []) (rule true) [] m.complete refl in none_stands h.0 h.1
+needed_lacking m = let h = All-head (WhereNeeded []) (rule true) [] m.complete refl in nothing_stands h.0 h.1
 
 unneeded_lacking : AreMatched (rule false ∷ []) []
 unneeded_lacking = record { ruled = All-nil _; complete = All-cons (WhereNeeded []) (rule false) [] (λ h. absurd (false≢true h)) (All-nil (WhereNeeded [])) }
 
 no_rule : AreMatched [] (an_attribute ∷ []) → ⊥
-no_rule m = let h = All-head (HasRule []) an_attribute [] m.ruled in none_stands h.0 h.1
+no_rule m = let h = All-head (HasRule []) an_attribute [] m.ruled in nothing_stands h.0 h.1
 
 -- the patterns of a start
 
@@ -431,9 +428,6 @@ define_without_namespace : printed (component_define (element_key (codes "a"), c
 define_without_namespace = refl
 
 -- schemas
-
-is_name : (name : List ℕ) → is_ascii_name name ≡ true → IsNCName name
-is_name name h = (name, ascii_name name h, ascii_ncname name h)
 
 -- an element of RELAX NG
 abbrev rng : List ℕ → List Attr → List Node → Tree
@@ -479,9 +473,6 @@ part_alone t h = rw (element_shown (Element t) t refl, h) refl
 
 two_parts : (t u : Tree) → of_relax_ng t ≡ true → of_relax_ng u ≡ true → filter of_relax_ng (elements_of (Element t ∷ Element u ∷ [])) ≡ t ∷ u ∷ []
 two_parts t u h k = rw (element_shown (Element t) t refl, element_shown (Element u) u refl, h, k) refl
-
-element_passes : (t : Tree) → (is_element (Element t) || is_blank (Element t)) ≡ true
-element_passes t = search (rules, N.the_lemmas)
 
 one_passes : (t : Tree) → list_all (λ n. is_element n || is_blank n) (Element t ∷ []) ≡ true
 one_passes t = rw (element_passes t) refl
@@ -545,9 +536,9 @@ linked = record { start = λ name r. only_e name (expr.Ref (codes "e")) refl r; 
     no_name name p e (inside f s r) = cc
 
     none : (name : List ℕ) (d : Define) → StandsIn the_grammar.defines d → RefersTo name (denoting.content_of d.body) → ⊥
-    none name d s r = elim (stands_in _ d [] s) [
+    none name d s r = elim (first_or_later _ d [] s) [
       | inl e ↦ no_name name (denoting.content_of d.body) (ap (λ (x : Define). denoting.content_of x.body) e) r
-      | inr later ↦ none_stands d later
+      | inr later ↦ nothing_stands d later
     ]
 
 schema_stands : StandsFor schema the_grammar
@@ -597,11 +588,11 @@ with_combine : (g : Grammar) → StandsFor (grammar_of (attribute (codes "combin
 with_combine g s = apart (All-head (IsAllowed (codes "ns" ∷ codes "datatypeLibrary" ∷ [])) (attribute (codes "combine") (codes "choice")) [] s.is_part.attributed refl)
   where
     apart : StandsIn (codes "ns" ∷ codes "datatypeLibrary" ∷ []) (codes "combine") → ⊥
-    apart t = elim (stands_in (codes "ns") (codes "combine") _ t) [
+    apart t = elim (first_or_later (codes "ns") (codes "combine") _ t) [
       | inl e ↦ cc
-      | inr later ↦ elim (stands_in (codes "datatypeLibrary") (codes "combine") [] later) [
+      | inr later ↦ elim (first_or_later (codes "datatypeLibrary") (codes "combine") [] later) [
         | inl e ↦ cc
-        | inr last ↦ none_stands (codes "combine") last
+        | inr last ↦ nothing_stands (codes "combine") last
       ]
     ]
 

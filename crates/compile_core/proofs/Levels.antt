@@ -7,13 +7,14 @@ use Rattle.odd_reader.specs.declared.tree.Tree as T
 use Rattle.odd_decls.specs.Odd.{StandsIn}
 use Rattle.odd_decls.specs.declared.content.Content.{Content}
 use Rattle.odd_decls.specs.declared.library.Library.{Library}
+use Rattle.odd_decls.proofs.Standing.{first_or_later, nothing_stands, stands_first, stands_later}
 use Rattle.compile_core.specs.Acceptance.{IsAcceptedWithin, IsMatched, empty, text, reference, choice}
 use Rattle.compile_core.specs.Admission.{IsAdmitted, IsValid, IsValidWithin}
 use Rattle.compile_core.specs.Admission as admission
 use Rattle.compile_core.specs.Children.{IsSignificant, Marking, beside_elements, blank, depth, node_depth, tree_depth, whole}
 use Rattle.compile_core.specs.declared.grammar.Expr.{Expr}
 use Rattle.compile_core.specs.declared.grammar.Grammar.{Grammar}
-use Rattle.compile_core.proofs.Standing.{map_stands, none_stands, stands_first, stands_in, stands_later}
+use Rattle.compile_core.proofs.Standing.{map_stands}
 
 -- the greatest of some numbers is none less
 from_start : (start : ℕ) (ns : List ℕ) → start ≤ fold max start ns
@@ -21,8 +22,8 @@ from_start start [] = omega arith
 from_start start (n ∷ ns) = let h : max start n ≤ fold max (max start n) ns = from_start (max start n) ns in omega arith
 
 greatest : (start n : ℕ) (ns : List ℕ) → StandsIn ns n → n ≤ fold max start ns
-greatest start n [] s = absurd (none_stands n s)
-greatest start n (m ∷ ns) s = elim (stands_in m n ns s) [
+greatest start n [] s = absurd (nothing_stands n s)
+greatest start n (m ∷ ns) s = elim (first_or_later m n ns s) [
   | inl e ↦ let h : max start m ≤ fold max (max start m) ns = from_start (max start m) ns in omega arith
   | inr later ↦ greatest (max start m) n ns later
 ]
@@ -51,7 +52,7 @@ filter_stands test [] n s = s
 filter_stands test (x ∷ ns) n s = by (test x) (filter_stands test ns n) s
   where
     by : (b : Bool) → (StandsIn (filter test ns) n → StandsIn ns n) → StandsIn (cond b (x ∷ filter test ns) (filter test ns)) n → StandsIn (x ∷ ns) n
-    by true rest h = elim (stands_in x n (filter test ns) h) [
+    by true rest h = elim (first_or_later x n (filter test ns) h) [
       | inl e ↦ subst (StandsIn (x ∷ ns)) (sym e) (stands_first x ns)
       | inr later ↦ stands_later x n ns (rest later)
     ]
@@ -59,7 +60,7 @@ filter_stands test (x ∷ ns) n s = by (test x) (filter_stands test ns n) s
 
 kept_stands : (all kept : List Node) (n : Node) → IsSignificant all kept → StandsIn kept n → StandsIn all n
 kept_stands all kept n (beside_elements h) s = filter_stands _ all n s
-kept_stands all kept n (blank b) s = absurd (none_stands n s)
+kept_stands all kept n (blank b) s = absurd (nothing_stands n s)
 kept_stands all kept n (whole h) s = s
 
 -- what matches looks at the children alone

@@ -1,23 +1,14 @@
 -- The least of the words that are missing, one word after another.
-use Rattle.std.proofs.Common.{◌≡◌, ℕ, List, [], ◌∷◌, ◌++◌, true, false, Bor, Option, Some, None, cond, inl, inr, refl, sym, ap, subst, ◌∙◌}
+use Rattle.std.proofs.Common.{◌≡◌, ℕ, List, [], ◌∷◌, ◌++◌, true, false, Bor, Option, Some, None, cond, inl, inr, refl, sym, subst}
 use Rattle.std.specs.Option.{option_copied, is_some}
 use Rattle.std.proofs.lemmas.Cmp.{nat_list_cmp_total}
-use Rattle.std.specs.Cmp.{tied_itself}
-use Rattle.std.specs.Ordering.{ordering_reverse, is_gt}
-use Rattle.std.specs.declared.cmp.Ordering.{Ordering}
+use Rattle.std.specs.Ordering.{is_gt}
 use Rattle.std.specs.declared.cmp.Ordering.TheVariants.{Less, Equal, Greater}
 use Rattle.odd_base.specs.Text.{text_cmp}
 use Rattle.odd_decls.specs.declared.library.Library.{Library}
-use Rattle.odd_decls.proofs.Twice.{stands_push}
+use Rattle.odd_decls.proofs.SortedWords.{not_below, turned}
+use Rattle.odd_decls.proofs.Standing.{stands_push}
 use Rattle.compile_core.specs.Schema.{IsLeast, IsLeastMissing, IsMissing, lesser_of}
-
--- the other way round the order is reversed
-turned : (x y : List ℕ) (r : Ordering) → text_cmp y x ≡ r → text_cmp x y ≡ ordering_reverse r
-turned x y r e = nat_list_cmp_total.antisymm x y ∙ ap ordering_reverse e
-
--- no word is below itself
-pub not_below : (x : List ℕ) → text_cmp x x ≡ Less → ⊥
-not_below x e = let same : text_cmp x x ≡ Equal = tied_itself nat_list_cmp_total x in cc
 
 module _ (library : Library) (words : List (List ℕ)) (v : List ℕ) where
   -- a word that is held changes nothing

@@ -13,11 +13,11 @@ use Rattle.odd_base.specs.KeyOrder.{key_total, key_exact}
 use Rattle.odd_base.specs.Text.{text_cmp}
 use Rattle.odd_base.specs.declared.key.Key.{Key}
 use Rattle.odd_base.specs.declared.key.Kind.TheVariants as kind
-use Rattle.odd_reader.specs.Characters.{IsNCName, is_name_start, is_name_char, is_ncname}
-use Rattle.odd_reader.specs.Tokens.{NoneTwice}
-use Rattle.odd_reader.proofs.Ascii.{ascii_codes}
-use Rattle.odd_reader.proofs.Distinct.{Distinct, Lacks, none_twice}
-use Rattle.odd_reader.proofs.NamesLexed.{ncname_chars}
+use Rattle.odd_tokens.specs.Characters.{IsNCName, is_name_start, is_name_char, is_ncname}
+use Rattle.odd_tokens.specs.Tokens.{NoneTwice}
+use Rattle.odd_tokens.proofs.Ascii.{ascii_codes}
+use Rattle.odd_tokens.proofs.Distinct.{Distinct, Lacks, none_twice}
+use Rattle.odd_tokens.proofs.NamesLexed.{ncname_chars}
 use Rattle.odd_decls.specs.declared.library.Component.{Component}
 use Rattle.odd_decls.specs.declared.library.Component.TheVariants as component
 use Rattle.odd_decls.specs.declared.library.Library.{Library}
@@ -26,7 +26,7 @@ use Rattle.compile_core.specs.declared.grammar.Define.{Define}
 use Rattle.compile_core.specs.Compiled.{definition_of}
 use Rattle.compile_core.specs.Denoting.{entry_of, names_of}
 use Rattle.compile_core.specs.Schema.{IsFormed, IsFormedPart, define_name}
-use Rattle.compile_core.proofs.Missing.{not_below}
+use Rattle.odd_decls.proofs.SortedWords.{not_below}
 use Rattle.compile_core.proofs.Standing.{each_stands, found, held_stands, is_less, map_stands}
 
 -- an ident makes a name

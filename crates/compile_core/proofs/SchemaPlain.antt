@@ -4,39 +4,37 @@ use Rattle.std.specs.Prelude.{All, IsTrue, codes}
 use Rattle.std.proofs.lemmas.Bool.{false≢true}
 use Rattle.std.proofs.lemmas.List.Elements.{All-nil, All-cons, All-head, All-tail}
 use Rattle.odd_base.specs.declared.key.Key.{Key}
-use Rattle.odd_reader.proofs.Ascii.{is_ascii_name}
-use Rattle.odd_reader.specs.Characters.{IsNCName, IsLegal}
+use Rattle.odd_tokens.proofs.Ascii.{is_ascii_name}
+use Rattle.odd_tokens.specs.Characters.{IsNCName, IsLegal}
 use Rattle.odd_reader.specs.Markup.{Pair}
-use Rattle.odd_reader.specs.Names.{is_same, xml_namespace, xmlns_namespace}
-use Rattle.odd_reader.proofs.Distinct.{none_twice}
-use Rattle.odd_reader.proofs.Ascii.{ascii_name, ascii_ncname}
-use Rattle.odd_reader.proofs.PrintedSpelledLegal.{ascii_legal, ncname_legal}
+use Rattle.odd_tokens.specs.Same.{is_same}
+use Rattle.odd_reader.specs.Names.{xml_namespace, xmlns_namespace}
+use Rattle.odd_tokens.proofs.Distinct.{none_twice}
+use Rattle.odd_tokens.proofs.Legal.{ascii_legal, ncname_legal}
 use Rattle.odd_reader.proofs.PrintedTrees.{ArePlain, IsNamespace, IsPlain, IsPlainAttribute, IsPlainTag}
 use Rattle.odd_decls.specs.declared.content.Content.{Content}
 use Rattle.odd_decls.specs.declared.content.Content.TheVariants as content
 use Rattle.odd_decls.specs.declared.library.Component.{Component}
 use Rattle.odd_decls.specs.declared.library.Component.TheVariants as component
 use Rattle.odd_decls.specs.declared.library.Library.{Library}
+use Rattle.odd_decls.proofs.Named.{is_name}
 use Rattle.compile_core.specs.Grammar.{all_of, relax_ng_namespace, datatype_library}
 use Rattle.compile_core.specs.Schema.{HoldsStart, IsFormed, choice_of, component_define, content_markup, define_name, reference_to}
 use Rattle.compile_core.proofs.SchemaLinked.{words_named}
 use Rattle.compile_core.proofs.SchemaNames.{IsElementEntry, define_ncname, entries_formed}
 use Rattle.compile_core.proofs.SchemaParts.{root_attributes, schema_parts}
 
-literal_name : (name : List ℕ) → IsTrue (is_ascii_name name) → IsNCName name
-literal_name name h = (name, ascii_name name h, ascii_ncname name h)
-
 literal_attribute : (name value : List ℕ) → IsTrue (is_ascii_name name) → name ≢ codes "xmlns" → IsLegal value → IsPlainAttribute (name, value)
-literal_attribute name value h apart legal = record { named = literal_name name h; apart = apart; legal = legal }
+literal_attribute name value h apart legal = record { named = is_name name h; apart = apart; legal = legal }
 
 -- the tags: with no attribute, with a name, with a name and a namespace, and that of the root
 
 bare_tag : (tag : List ℕ) → IsTrue (is_ascii_name tag) → IsPlainTag tag []
-bare_tag tag h = record { named = literal_name tag h; attributed = All-nil IsPlainAttribute; once = none_twice [] tt }
+bare_tag tag h = record { named = is_name tag h; attributed = All-nil IsPlainAttribute; once = none_twice [] tt }
 
 one_tag : (tag : List ℕ) (a : Pair) → IsTrue (is_ascii_name tag) → IsPlainAttribute a → IsPlainTag tag (a ∷ [])
 one_tag tag a h p = record {
-  named = literal_name tag h;
+  named = is_name tag h;
   attributed = All-cons IsPlainAttribute a [] p (All-nil IsPlainAttribute);
   once = none_twice (a.0 ∷ []) (tt, tt);
 }
@@ -46,7 +44,7 @@ name_attribute name n = literal_attribute (codes "name") name refl (λ e. cc) (n
 
 element_tag : (ident ns : List ℕ) → IsNCName ident → IsLegal ns → IsPlainTag (codes "element") ((codes "name", ident) ∷ (codes "ns", ns) ∷ [])
 element_tag ident ns n legal = record {
-  named = literal_name (codes "element") refl;
+  named = is_name (codes "element") refl;
   attributed = All-cons IsPlainAttribute (codes "name", ident) ((codes "ns", ns) ∷ []) (name_attribute ident n)
       (All-cons IsPlainAttribute (codes "ns", ns) [] (literal_attribute (codes "ns") ns refl (λ e. cc) legal) (All-nil IsPlainAttribute));
   once = none_twice (codes "name" ∷ codes "ns" ∷ []) (((λ e. cc), tt), (tt, tt));

@@ -5,7 +5,7 @@ use Rattle.std.specs.List.{list_all}
 use Rattle.std.proofs.lemmas.Bool.{and_from}
 use Rattle.std.proofs.lemmas.List.Elements.{All-map}
 use Rattle.odd_reader.specs.Markup.{Pair, Markup, element, line, none, more}
-use Rattle.odd_reader.specs.Names.{is_same}
+use Rattle.odd_tokens.specs.Same.{is_same}
 use Rattle.odd_reader.specs.declared.tree.Attr.{Attr}
 use Rattle.odd_reader.specs.declared.tree.Node.{Node, out-Node, Element}
 use Rattle.odd_reader.specs.declared.tree.Node as N
@@ -47,7 +47,7 @@ parts_more t later e =
 parts_break : (later : List Node) → parts_in (line_break ∷ later) ≡ parts_in later
 parts_break later = ap (λ ts. filter (λ u. is_same (out-Tree u).name.ns relax_ng_namespace) (ts ++ elements_of later)) (text_shown line_break (codes "\n") refl)
 
-element_passes : (t : Tree) → (is_element (Element t) || is_blank (Element t)) ≡ true
+pub element_passes : (t : Tree) → (is_element (Element t) || is_blank (Element t)) ≡ true
 element_passes t = search (rules, N.the_lemmas)
 
 break_passes : (is_element line_break || is_blank line_break) ≡ true

@@ -1,5 +1,5 @@
 -- What stands in a list that was made from another, and in the entries of a map.
-use Rattle.std.proofs.Common.{◌≡◌, List, [], ◌∷◌, ◌++◌, map, Some, cond, inl, inr, ◌⊎◌, refl, sym, ap, subst, ◌∙◌}
+use Rattle.std.proofs.Common.{◌≡◌, List, [], ◌∷◌, map, Some, cond, inl, inr, refl, sym, ap, subst, ◌∙◌}
 use Rattle.std.specs.Prelude.{All, IsTrue}
 use Rattle.std.proofs.lemmas.Bool.{and_parts}
 use Rattle.std.proofs.lemmas.List.Elements.{All-nil, All-cons}
@@ -10,44 +10,24 @@ use Rattle.std.specs.Ordering.{is_eq, is_lt, ordering_reverse}
 use Rattle.std.specs.declared.cmp.Ordering.{Ordering}
 use Rattle.std.specs.declared.cmp.Ordering.TheVariants.{Less, Equal, Greater}
 use Rattle.odd_decls.specs.Odd.{StandsIn}
+use Rattle.odd_decls.proofs.Standing.{first_or_later, nothing_stands, stands_first, stands_later}
 
 pub is_less : (o : Ordering) → IsTrue (is_lt o) → o ≡ Less
 is_less Less h = refl
 is_less Equal h = cc
 is_less Greater h = cc
 
-pub none_stands : {A : Type 0} (x : A) → StandsIn [] x → ⊥
-none_stands x s = nothing s.0 s.2
-  where
-    nothing : (before : List _) → [] ≡ before ++ x ∷ s.1 → ⊥
-    nothing [] e = cc
-    nothing (b ∷ bs) e = cc
-
-pub stands_first : {A : Type 0} (x : A) (xs : List A) → StandsIn (x ∷ xs) x
-stands_first x xs = ([], xs, refl)
-
-pub stands_later : {A : Type 0} (x y : A) (xs : List A) → StandsIn xs y → StandsIn (x ∷ xs) y
-stands_later x y xs s = (x ∷ s.0, s.1, ap (λ ys. x ∷ ys) s.2)
-
--- an item of a list is the first, or stands in the rest
-pub stands_in : {A : Type 0} (x y : A) (xs : List A) → StandsIn (x ∷ xs) y → (y ≡ x) ⊎ StandsIn xs y
-stands_in x y xs s = at s.0 s.2
-  where
-    at : (before : List _) → x ∷ xs ≡ before ++ y ∷ s.1 → (y ≡ x) ⊎ StandsIn xs y
-    at [] e = inl (cc)
-    at (b ∷ bs) e = inr (bs, s.1, cc)
-
 -- what stands in a list of images is the image of an item
 pub stands_map : {A B : Type 0} (f : A → B) (xs : List A) (y : B) → StandsIn (map f xs) y → (x : A) × StandsIn xs x × (y ≡ f x)
-stands_map f [] y s = absurd (none_stands y s)
-stands_map f (x ∷ xs) y s = elim (stands_in (f x) y (map f xs) s) [
+stands_map f [] y s = absurd (nothing_stands y s)
+stands_map f (x ∷ xs) y s = elim (first_or_later (f x) y (map f xs) s) [
   | inl e ↦ (x, stands_first x xs, e)
   | inr later ↦ let h = stands_map f xs y later in (h.0, stands_later x h.0 xs h.1, h.2)
 ]
 
 pub map_stands : {A B : Type 0} (f : A → B) (xs : List A) (x : A) → StandsIn xs x → StandsIn (map f xs) (f x)
-map_stands f [] x s = absurd (none_stands x s)
-map_stands f (w ∷ xs) x s = elim (stands_in w x xs s) [
+map_stands f [] x s = absurd (nothing_stands x s)
+map_stands f (w ∷ xs) x s = elim (first_or_later w x xs s) [
   | inl e ↦ rw e (stands_first (f w) (map f xs))
   | inr later ↦ stands_later (f w) (f x) (map f xs) (map_stands f xs x later)
 ]
@@ -55,20 +35,20 @@ map_stands f (w ∷ xs) x s = elim (stands_in w x xs s) [
 -- what holds of each item of a list
 pub each_stands : {A : Type 0} (P : A → Type 0) (xs : List A) → ((x : A) → StandsIn xs x → P x) → All P xs
 each_stands P [] h = All-nil P
-each_stands P (x ∷ xs) h = All-cons P x xs (h x ([], xs, refl)) (each_stands P xs (λ y s. h y (x ∷ s.0, s.1, ap (λ zs. x ∷ zs) s.2)))
+each_stands P (x ∷ xs) h = All-cons P x xs (h x (stands_first x xs)) (each_stands P xs (λ y s. h y (stands_later x y xs s)))
 
 module _ {K V : Type 0} (R : K → K → Ordering) (total : IsTotalOrder R) (exact : (x y : K) → R x y ≡ Equal → x ≡ y) where
   below : (x k : K) (v : V) (es : List (K × V)) → IsTrue (below_all R x es) → StandsIn es (k, v) → R x k ≡ Less
-  below x k v [] h s = absurd (none_stands (k, v) s)
-  below x k v (e ∷ es) h s = elim (stands_in e (k, v) es s) [
+  below x k v [] h s = absurd (nothing_stands (k, v) s)
+  below x k v (e ∷ es) h s = elim (first_or_later e (k, v) es s) [
     | inl same ↦ ap (λ (p : K × V). R x p.0) same ∙ is_less _ (and_parts _ _ h).0
     | inr later ↦ below x k v es (and_parts _ _ h).1 later
   ]
 
   -- an entry is found at its key
   pub found : (k : K) (v : V) (es : List (K × V)) → IsTrue (is_sorted R es) → StandsIn es (k, v) → find R k es ≡ Some v
-  found k v [] h s = absurd (none_stands (k, v) s)
-  found k v (e ∷ es) h s = elim (stands_in e (k, v) es s) [
+  found k v [] h s = absurd (nothing_stands (k, v) s)
+  found k v (e ∷ es) h s = elim (first_or_later e (k, v) es s) [
     | inl same ↦ rw (ap (λ (p : K × V). R k p.0) (sym same) ∙ tied_itself total k) (ap (λ (p : K × V). Some p.1) (sym same))
     | inr later ↦ rw (total.antisymm k e.0 ∙ ap ordering_reverse (below e.0 k v es (and_parts _ _ h).0 later)) (found k v es (and_parts _ _ h).1 later)
   ]

@@ -4,6 +4,7 @@ use Rattle.odd_reader.specs.declared.tree.Tree.{Tree}
 use Rattle.odd_reader.specs.declared.tree.Node.{Node, Element}
 use Rattle.odd_decls.specs.Odd.{StandsIn}
 use Rattle.odd_decls.proofs.Elements.{element_shown}
+use Rattle.odd_decls.proofs.Standing.{first_or_later, nothing_stands, stands_first}
 use Rattle.compile_core.specs.Acceptance.{IsMatched, empty, text, reference, choice}
 use Rattle.compile_core.specs.Children.{Marking}
 use Rattle.compile_core.specs.Compiled.{start_pattern}
@@ -12,7 +13,7 @@ use Rattle.compile_core.specs.Schema.{define_name}
 use Rattle.compile_core.specs.declared.grammar.Expr.{Expr}
 use Rattle.compile_core.specs.declared.grammar.Expr.TheVariants as expr
 use Rattle.compile_core.proofs.Choices.{same_parts}
-use Rattle.compile_core.proofs.Standing.{map_stands, none_stands, stands_first, stands_in, stands_map}
+use Rattle.compile_core.proofs.Standing.{map_stands, stands_map}
 
 same_element : (t u : Tree) → Element t ∷ [] ≡ Element u ∷ [] → t ≡ u
 same_element t u e =
@@ -51,10 +52,10 @@ module _ (counts : Marking) where
       (s.0, s.1, reference_matched h.0 (define_name s.0) t s.2 h.2)
 
   starts_matched : (start : List (List ℕ)) (t : Tree) → Starts start t → IsMatched counts (start_pattern start) (Element t ∷ [])
-  starts_matched [] t s = absurd (none_stands s.0 s.1)
-  starts_matched (w ∷ []) t s = elim (stands_in w s.0 [] s.1) [
+  starts_matched [] t s = absurd (nothing_stands s.0 s.1)
+  starts_matched (w ∷ []) t s = elim (first_or_later w s.0 [] s.1) [
     | inl e ↦ reference refl (subst (λ x. counts t (define_name x)) e s.2)
-    | inr later ↦ absurd (none_stands s.0 later)
+    | inr later ↦ absurd (nothing_stands s.0 later)
   ]
   starts_matched (w ∷ v ∷ ws) t s = choice refl (map_stands Compiled.reference (w ∷ v ∷ ws) s.0 s.1) (reference refl s.2)
 

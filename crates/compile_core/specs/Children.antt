@@ -1,7 +1,7 @@
 -- What both a library and a grammar ask of a tree: how deep it is, and which of an element's children count.
 use Rattle.std.specs.Prelude.{◌≡◌, ℕ, suc, max, Bool, true, false, not, List, [], ◌∷◌, filter, IsTrue}
 use Rattle.std.specs.List.{fold, list_any}
-use Rattle.odd_reader.specs.Characters.{is_white}
+use Rattle.odd_tokens.specs.Characters.{is_white}
 use Rattle.odd_reader.specs.declared.tree.Tree.{Tree, Tree-F, fold-Tree}
 use Rattle.odd_reader.specs.declared.tree.Node.{Node, Node-F, out-Node}
 use Rattle.odd_reader.specs.declared.tree.Node.TheOpen.{Element, Text}

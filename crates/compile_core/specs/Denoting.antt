@@ -4,10 +4,10 @@ use Rattle.std.specs.List.{list_all}
 use Rattle.std.specs.FinMap.{find, is_sorted}
 use Rattle.odd_base.specs.Text.{text_cmp}
 use Rattle.odd_base.specs.declared.name.Name.{Name}
-use Rattle.odd_reader.specs.Characters.{IsNCName}
-use Rattle.odd_reader.specs.Names.{is_same}
+use Rattle.odd_tokens.specs.Characters.{IsNCName}
+use Rattle.odd_tokens.specs.Same.{is_same}
 use Rattle.odd_reader.specs.Spelled.{Spells}
-use Rattle.odd_reader.specs.Tokens.{NoneTwice}
+use Rattle.odd_tokens.specs.Tokens.{NoneTwice}
 use Rattle.odd_reader.specs.declared.tree.Tree.{Tree, out-Tree}
 use Rattle.odd_decls.specs.Odd.{StandsIn, attribute_value, elements_of}
 use Rattle.compile_core.specs.Children.{is_blank, is_element}

@@ -8,7 +8,7 @@ use Rattle.odd_base.specs.declared.key.Key.{Key}
 use Rattle.odd_base.specs.declared.key.Kind.TheVariants as kind
 use Rattle.odd_base.specs.declared.offence.Offence.{Offence}
 use Rattle.odd_base.specs.declared.offence.Who.TheVariants as who
-use Rattle.odd_reader.specs.Characters.{IsLegal, IsNCName}
+use Rattle.odd_tokens.specs.Characters.{IsLegal, IsNCName}
 use Rattle.odd_reader.specs.Markup.{Markup, file_printed}
 use Rattle.odd_decls.specs.declared.content.Content.{Content}
 use Rattle.odd_decls.specs.declared.content.Content.TheVariants as content

@@ -15,7 +15,7 @@ use Rattle.odd_base.specs.declared.offence.Offence.{Offence}
 use Rattle.odd_base.specs.declared.offence.Who.TheVariants as who
 use Rattle.std.proofs.Math.Utf8.{encode}
 use Rattle.odd_base.specs.declared.name.Name.{Name}
-use Rattle.odd_reader.specs.Characters.{is_char, is_name_char, is_name_start}
+use Rattle.odd_tokens.specs.Characters.{is_char, is_name_char, is_name_start}
 use Rattle.odd_reader.specs.Spelled.{GivesTree}
 use Rattle.odd_reader.specs.declared.tree.Tree.{Tree, roll-Tree}
 use Rattle.odd_reader.specs.declared.tree.Node.{Element}
@@ -34,7 +34,8 @@ use Rattle.odd_decls.specs.declared.library.Library.{Library}
 use Rattle.odd_decls.specs.declared.odd.Entry.TheVariants as entry
 use Rattle.odd_decls.specs.declared.odd.OddDoc.{OddDoc}
 use Rattle.odd_decls.specs.declared.spec.Spec.{Spec}
-use Rattle.odd_decls.proofs.Examples.{AllWithin, IsBare, IsNamedSchema, IsPlain, IsSound, a_alone, bare_is_sound, elements_are, few, is_name, items_alone, leaf_within, no_offence, not_pending, one_item, one_within, one_word, other_breaks_three}
+use Rattle.odd_decls.proofs.Examples.{AllWithin, IsBare, IsNamedSchema, IsPlain, IsSound, a_alone, bare_is_sound, elements_are, few, items_alone, leaf_within, no_offence, not_pending, one_item, one_within, one_word, other_breaks_three}
+use Rattle.odd_decls.proofs.Named.{is_name}
 use Rattle.std.specs.declared.cmp.Ordering.TheVariants.{Less}
 use Rattle.compile_core.specs.Schema.{IsLeastMissing}
 use Rattle.odd_cli.specs.Note.{code_of, note_text}

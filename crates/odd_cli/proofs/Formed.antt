@@ -9,12 +9,13 @@ use Rattle.odd_base.specs.Key.{key_cmp}
 use Rattle.odd_base.specs.KeyOrder.{key_exact}
 use Rattle.odd_base.specs.declared.key.Key.{Key}
 use Rattle.odd_base.specs.declared.key.Kind.TheVariants as kind
-use Rattle.odd_reader.proofs.PrintedSpelledLegal.{ascii_legal}
-use Rattle.odd_reader.specs.Characters.{IsLegal, IsNCName}
+use Rattle.odd_tokens.proofs.Legal.{ascii_legal}
+use Rattle.odd_tokens.specs.Characters.{IsLegal, IsNCName}
 use Rattle.odd_reader.specs.Formed.{IsFormed as IsFormedTree, IsFormedTag, element}
 use Rattle.odd_reader.specs.declared.tree.Attr.{Attr}
 use Rattle.odd_reader.specs.declared.tree.Tree.{Tree, out-Tree}
 use Rattle.odd_decls.proofs.FoundFormed.{children_formed, found_formed}
+use Rattle.odd_decls.proofs.Standing.{stands_first, stands_later}
 use Rattle.odd_decls.specs.Declares.{AreReadAs, Declares, IsReadAs, namespace_given, nothing, other, spec}
 use Rattle.odd_decls.specs.Library.{IsLibraryOf, component_of, declared_at, entry_at, last_of}
 use Rattle.odd_decls.specs.Odd.{StandsIn, attribute_value, is_named, tei_namespace}
@@ -67,10 +68,10 @@ read_formed schema item at s f g r = record {
 declared_formed : (schema : Tree) (items : List Tree) (es : List Entry) → IsFormedTag schema → ((t : Tree) → StandsIn items t → IsFormedTag t) → AreReadAs schema items es
     → (key : Key) (part : Component) → declared_at es key ≡ Some part → IsFormedAt key part
 declared_formed schema items es f g nothing key part e = cc
-declared_formed schema items es f g (other {item = t} {items = ts} h rest) key part e = declared_formed schema ts es f (λ u s. g u (t ∷ s.0, s.1, ap (λ xs. t ∷ xs) s.2)) rest key part e
+declared_formed schema items es f g (other {item = t} {items = ts} h rest) key part e = declared_formed schema ts es f (λ u s. g u (stands_later t u ts s)) rest key part e
 declared_formed schema items es f g (spec {item = t} {items = ts} {at = at} {spec = s} {entries = later} h r rest) key part e =
     elim (declared_at later key) as (λ o. declared_at later key ≡ o → last_of o (entry_at (entry.Spec at s) key) ≡ Some part → IsFormedAt key part) [
-      | Some found ↦ λ p q. subst (IsFormedAt key) (same_Some found part q) (declared_formed schema ts later f (λ u i. g u (t ∷ i.0, i.1, ap (λ xs. t ∷ xs) i.2)) rest key found p)
+      | Some found ↦ λ p q. subst (IsFormedAt key) (same_Some found part q) (declared_formed schema ts later f (λ u i. g u (stands_later t u ts i)) rest key found p)
       | None ↦ λ p q. here (key_cmp key s.key) refl q
     ] refl e
   where
@@ -78,7 +79,7 @@ declared_formed schema items es f g (spec {item = t} {items = ts} {at = at} {spe
     here Less p q = cc
     here Equal p q =
         let same : s.key ≡ key = sym (key_exact key s.key p) in
-        subst (λ k. IsFormedAt k part) same (subst (IsFormedAt s.key) (same_Some (component_of s) part q) (read_formed schema t at s f (g t ([], ts, refl)) r))
+        subst (λ k. IsFormedAt k part) same (subst (IsFormedAt s.key) (same_Some (component_of s) part q) (read_formed schema t at s f (g t (stands_first t ts)) r))
     here Greater p q = cc
 
 formed_tag : (first end : ℕ) (t : Tree) → IsFormedTree first end t → IsFormedTag t
@@ -91,7 +92,7 @@ pub library_formed : (first end : ℕ) (t : Tree) (doc : OddDoc) (library : Libr
 library_formed first end t doc library f d l = record {
   rising = l.rising;
   formed = λ key part e.
-      let w = found_formed t (d.schema ∷ []) first end f d.found d.schema ([], [], refl) in
+      let w = found_formed t (d.schema ∷ []) first end f d.found d.schema (stands_first d.schema []) in
       let at = declared_formed d.schema (children_of d.schema) doc.entries (formed_tag w.0 w.1 d.schema w.2) (formed_inside w.0 w.1 d.schema w.2) d.is_doc.entries key part (sym (l.holds key) ∙ e) in
       (at.kind, at.ident, at.part);
 }

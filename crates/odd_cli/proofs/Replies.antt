@@ -2,12 +2,7 @@
 use Rattle.std.proofs.Common.{◌≡◌, ◌≤◌, ◌<◌, ℕ, List, length, arith, [], ◌∷◌, Option, Some, None, Result, Ok, Err, refl, sym, ap, subst, ◌∙◌, slice_get, inl, inr}
 use Rattle.std.specs.Prelude.{codes, IfOk, IfErr, Bool, IsTrue}
 use Rattle.std.specs.FinMap as map
-use Rattle.std.specs.FinMap.{slice_cmp-IsAntisymmetric, nat_cmp-IsAntisymmetric}
-use Rattle.std.proofs.lemmas.Cmp.{nat_list_cmp_total}
 use Rattle.std.proofs.lemmas.Option.{same_Some}
-use Rattle.std.specs.Ordering.{ordering_reverse}
-use Rattle.std.specs.declared.cmp.Ordering.TheVariants.{Less, Equal, Greater}
-use Rattle.odd_base.specs.Text.{text_cmp}
 use Rattle.odd_base.specs.Shelf.{FileMap, Held, NotHeld}
 use Rattle.odd_base.specs.declared.offence.Offence.{Offence}
 use Rattle.odd_reader.specs.declared.tree.Tree.{Tree}
@@ -22,6 +17,7 @@ use Rattle.odd_decls.specs.Offences.{IsRefusal}
 use Rattle.odd_decls.specs.Pending.{IsPending}
 use Rattle.odd_decls.proofs.OneLibrary.{one_doc, one_library}
 use Rattle.odd_decls.proofs.OneOffence.{one_offence}
+use Rattle.odd_decls.proofs.SortedWords.{neither_below}
 use Rattle.compile_core.specs.Schema.{schema_text, HoldsStart, IsLeastMissing}
 use Rattle.odd_cli.specs.declared.status.Status.{Status}
 use Rattle.odd_cli.specs.declared.status.Status.TheVariants as status
@@ -114,11 +110,7 @@ too_long_but words files f b c p h l r =
 -- the least of some words is one word
 one_least : (library : Library) (start : List (List ℕ)) (v w : List ℕ) → IsLeastMissing library start v → IsLeastMissing library start w → v ≡ w
 one_least library start v w p q =
-    elim (text_cmp v w) as (λ r. text_cmp v w ≡ r → v ≡ w) [
-      | Less ↦ λ e. absurd (q.least v p.among p.missing e)
-      | Equal ↦ λ e. slice_cmp-IsAntisymmetric nat_cmp-IsAntisymmetric v w e
-      | Greater ↦ λ e. absurd (p.least w q.among q.missing (nat_list_cmp_total.antisymm w v ∙ ap ordering_reverse e))
-    ] refl
+    neither_below v w (q.least v p.among p.missing) (p.least w q.among q.missing)
 
 -- a file has one refusal, and none where it gives a library that holds its start words
 

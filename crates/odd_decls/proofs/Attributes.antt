@@ -1,12 +1,9 @@
 -- The value of an attribute, found along the list.
-use Rattle.std.proofs.Common.{◌≡◌, ℕ, ◌+◌, ◌<◌, ◌≤◌, true, false, if◌then◌else◌, List, ◌∷◌, length, drop, get_or, Some, None, sym, ap, ◌∙◌}
-use Rattle.std.proofs.lemmas.List.{drop_more, drop_all}
+use Rattle.std.proofs.Common.{◌≡◌, ℕ, ◌+◌, ◌<◌, ◌≤◌, true, false, if◌then◌else◌, List, length, drop, get_or, Some, None, ap, ◌∙◌}
+use Rattle.std.proofs.lemmas.List.{drop_all}
 use Rattle.odd_reader.specs.declared.tree.Attr.{Attr}
 use Rattle.odd_decls.specs.Odd.{attribute_value, is_named}
-
--- the list from a place on begins with what stands there
-pub begins : {X : Type 0} (xs : List X) (i : ℕ) (x : X) → i < length xs → x ≡ get_or xs i x → drop i xs ≡ x ∷ drop (i + 1) xs
-begins xs i x h is = drop_more xs i x h ∙ ap (λ y. y ∷ drop (i + 1) xs) (sym is)
+use Rattle.odd_decls.proofs.Standing.{begins}
 
 -- the first attribute of the name gives the value
 pub attribute_here : (attrs : List Attr) (i : ℕ) (a : Attr) (local : List ℕ) → i < length attrs → a ≡ get_or attrs i a → is_named a local ≡ true

@@ -1,10 +1,11 @@
 -- What entries declare at a key, with one entry more.
 use Rattle.std.proofs.Common.{◌≡◌, ℕ, ◌+◌, ◌<◌, List, [], ◌∷◌, ◌++◌, length, take, get_or, map, Option, Some, None, Bor, refl, ap, ◌∙◌, sym}
-use Rattle.std.proofs.lemmas.List.{get_or-map, length-map, take_more}
+use Rattle.std.proofs.lemmas.List.{get_or-map, length-map}
 use Rattle.odd_base.specs.declared.key.Key.{Key}
 use Rattle.odd_decls.specs.declared.library.Component.{Component}
 use Rattle.odd_decls.specs.declared.odd.Entry.{Entry}
 use Rattle.odd_decls.specs.Library.{declared_at, entry_at, last_of}
+use Rattle.odd_decls.proofs.Standing.{ends}
 
 -- the last of the last
 last_of_joined : (a b c : Option Component) → last_of (last_of a b) c ≡ last_of a (last_of b c)
@@ -29,7 +30,7 @@ declared_more es e key = appended es (e ∷ []) key
 pub declared_up_to : (es : List Entry) (i : ℕ) (e : Entry) (key : Key) → i < length es → e ≡ get_or es i e
     → declared_at (take (i + 1) es) key ≡ last_of (entry_at e key) (declared_at (take i es) key)
 declared_up_to es i e key h is =
-    ap (λ xs. declared_at xs key) (take_more es i e h) ∙ ap (λ x. declared_at (take i es ++ x ∷ []) key) (sym is) ∙ declared_more (take i es) e key
+    ap (λ xs. declared_at xs key) (ends es i e h is) ∙ declared_more (take i es) e key
 
 -- the same of references to entries
 pub declared_over : (bs : List (Bor Entry)) (i : ℕ) (b : Bor Entry) (key : Key) → i < length bs → b ≡ get_or bs i b

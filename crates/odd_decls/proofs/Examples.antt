@@ -11,9 +11,9 @@ use Rattle.std.proofs.lemmas.Str.{encodes_same}
 use Rattle.odd_base.specs.Text.{text_cmp}
 use Rattle.odd_base.specs.declared.key.Kind.TheVariants as kind
 use Rattle.odd_base.specs.declared.name.Name.{Name}
-use Rattle.odd_reader.proofs.Ascii.{ascii_codes, ascii_name, ascii_ncname, is_ascii_name}
-use Rattle.odd_reader.specs.Characters.{IsNCName, is_name_start, is_ncname}
-use Rattle.odd_reader.specs.Names.{is_same}
+use Rattle.odd_tokens.proofs.Ascii.{ascii_codes}
+use Rattle.odd_tokens.specs.Characters.{IsNCName, is_name_start, is_ncname}
+use Rattle.odd_tokens.specs.Same.{is_same}
 use Rattle.odd_reader.specs.declared.tree.Attr.{Attr}
 use Rattle.odd_reader.specs.declared.tree.Node.{Node, Element, Text}
 use Rattle.odd_reader.specs.declared.tree.Tree.{Tree, out-Tree, roll-Tree}
@@ -33,10 +33,10 @@ use Rattle.odd_decls.specs.declared.odd.Entry.TheVariants as entry
 use Rattle.odd_decls.specs.declared.odd.OddDoc.{OddDoc}
 use Rattle.odd_decls.specs.declared.spec.Spec.{Spec}
 use Rattle.odd_decls.proofs.Elements.{element_shown, text_shown}
-use Rattle.odd_decls.proofs.Named.{named_one, two_namespaces}
+use Rattle.odd_decls.proofs.Named.{is_name, named_one, two_namespaces}
 use Rattle.odd_decls.proofs.OneLibrary.{one_doc}
 use Rattle.odd_decls.proofs.Searched.{one_search}
-use Rattle.odd_decls.proofs.Sorting.{contained}
+use Rattle.odd_decls.proofs.Standing.{contained, nothing_stands}
 
 -- Trees, names and lists
 
@@ -60,18 +60,13 @@ element_in ns at local attrs children = roll-Tree (record { name = record { ns =
 abbrev pub element : ℕ → List ℕ → List Attr → List Tree → Tree
 element = element_in tei_namespace
 
--- a name of ASCII is an NCName
-pub is_name : (name : List ℕ) → is_ascii_name name ≡ true → IsNCName name
-is_name name h = (name, ascii_name name h, ascii_ncname name h)
-
--- another text of ASCII is none
+-- a text of ASCII that is no NCName
 pub no_name : (text : List ℕ) → list_all (λ c. nat_lt c 128) text ≡ true → is_ncname text ≡ false → IsNCName text → ⊥
 no_name text low not_one n = both_ways (is_ncname text) not_one (subst (λ cs. is_ncname cs ≡ true) (encodes_same n.0 text (n.1 ∙ sym (ascii_codes text low))) n.2)
 
--- nothing stands in an empty list
+-- nothing stands in a list that is empty
 none_stands : {A : Type 0} (x : A) (xs : List A) → xs ≡ [] → StandsIn xs x → ⊥
-none_stands x xs e ([], after, is) = cc
-none_stands x xs e (b ∷ before, after, is) = cc
+none_stands x xs e s = nothing_stands x (subst (λ ys. StandsIn ys x) e s)
 
 -- an item that is not such does not count among two that are
 pub twice_later : (Is : Tree → Type 0) (t : Tree) (ts : List Tree) → (Is t → ⊥) → StandsTwice Is (t ∷ ts) → StandsTwice Is ts
@@ -222,7 +217,7 @@ no_offence word start t schema found name sound once place rule h = none place r
 pub one_item : (item : Tree) (place rule : ℕ) → ItemOffends (item ∷ []) place rule → ItemFault item rule × (place ≡ (out-Tree item).at)
 one_item item place rule (ItemOffends.alone other ([], after, e) fault at) =
     let same : other ≡ item = cc in (subst (λ t. ItemFault t rule) same fault, at ∙ ap (λ t. (out-Tree t).at) same)
-one_item item place rule (ItemOffends.alone other (t ∷ before, after, e) fault at) = absurd (none_stands other [] refl (before, after, cc))
+one_item item place rule (ItemOffends.alone other (t ∷ before, after, e) fault at) = absurd (nothing_stands other (before, after, cc))
 one_item item place rule (ItemOffends.twice ident both at) = absurd (few (IsSpecOf ident) (item ∷ []) (omega arith) both)
 
 -- an item of another name, that is none of RELAX NG, breaks rule 3 or none
@@ -730,7 +725,7 @@ word_left_out h = not_there (h.each (codes "b") ([], codes "a" ∷ [], refl))
   where
     not_there : StandsIn (codes "a" ∷ []) (codes "b") → ⊥
     not_there ([], after, e) = other_text (codes "a") (codes "b") refl (ap (λ ws. get_or ws 0 []) e)
-    not_there (w ∷ before, after, e) = none_stands (codes "b") [] refl (before, after, cc)
+    not_there (w ∷ before, after, e) = nothing_stands (codes "b") (before, after, cc)
 
 -- Libraries
 

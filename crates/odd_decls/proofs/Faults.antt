@@ -3,17 +3,15 @@ use Rattle.std.proofs.Common.{◌≡◌, ℕ, Bool, true, false, [], ◌∷◌, 
 use Rattle.std.specs.Prelude.{◌↔◌, if◌then◌else◌, IsSome, IsTrue, codes}
 use Rattle.std.proofs.lemmas.Bool.{cases_Bool}
 use Rattle.odd_reader.specs.declared.tree.Tree.{Tree}
+use Rattle.odd_decls.specs.Declares.{is_spec}
 use Rattle.odd_decls.specs.Odd.{HasName, StandsIn}
 use Rattle.odd_decls.specs.Offences.{IsMalformed, IsReadIn, LacksName, MayNotStand, SpecFault, StandsTwice, given, is_named_child, is_part}
 use Rattle.odd_decls.specs.Reading.{ContentChildFault, IsLeast, SpecChildFault, StrayFault, lesser_rule}
 use Rattle.odd_decls.specs.Search.{children_of, is_one_of, is_passed_over, is_relax_ng, is_tei}
-use Rattle.odd_decls.proofs.ByName.{by_name, foreign_no_part, foreign_not_passed, relax_not_tei, tei_not_relax, two_names}
 use Rattle.odd_decls.proofs.Least.{Among, least_or, least_same, least_where}
+use Rattle.odd_decls.proofs.Named.{by_name, foreign_none, relax_not_tei, tei_not_relax, two_names}
 
--- the tests of an `elementSpec` and of a `content`
-abbrev is_spec : Tree → Bool
-is_spec = is_one_of (codes "elementSpec" ∷ [])
-
+-- the test of a `content`
 abbrev is_content : Tree → Bool
 is_content = is_one_of (codes "content" ∷ [])
 
@@ -39,7 +37,7 @@ named_in_part t child h = let n = part_neither t h in rw n.0 (rw n.1 refl)
 
 -- a child that may not stand below a `content` is a stray one
 stray_child : (t child : Tree) → MayNotStand t child → StrayFault child 3
-stray_child t child f = ⊎_elim (λ g. StrayFault.other (tei_not_relax child g.0) g.2) (λ g. StrayFault.other g.1 (foreign_not_passed child g.0)) f
+stray_child t child f = ⊎_elim (λ g. StrayFault.other (tei_not_relax child g.0) g.2) (λ g. StrayFault.other g.1 (foreign_none child _ g.0)) f
 
 -- and the other way round, where it is not named there
 child_stray : (t child : Tree) → is_spec t ≡ false → is_named_child t child ≡ false → is_relax_ng child ≡ false → is_passed_over child ≡ false → MayNotStand t child
@@ -101,7 +99,7 @@ spec_from_searched spec rule is f = ⊎_elim (λ g. ⊎_elim own twice g) (λ g.
 -- a RELAX NG child of what is read in an `elementSpec` is found
 relax_found : (spec t child : Tree) → IsReadIn spec t → StandsIn (children_of t) child → IsTrue (is_relax_ng child) → Among SpecChildFault (children_of spec) 2
 relax_found spec t child IsReadIn.itself s h = (child, s, SpecChildFault.relax_ng h)
-relax_found spec t child (IsReadIn.content c sc n) s h = (c, sc, SpecChildFault.content n (child, s, ContentChildFault.stray (foreign_no_part child (relax_not_tei child h)) (StrayFault.relax_ng h)))
+relax_found spec t child (IsReadIn.content c sc n) s h = (c, sc, SpecChildFault.content n (child, s, ContentChildFault.stray (foreign_none child _ (relax_not_tei child h)) (StrayFault.relax_ng h)))
 relax_found spec t child (IsReadIn.part c p sc n sp is) s h = (c, sc, SpecChildFault.content n (p, sp, ContentChildFault.part is (child, s, StrayFault.relax_ng h)))
 
 -- so is a child that may not stand there
@@ -111,7 +109,7 @@ child_found spec t child is IsReadIn.itself s f =
     ⊎_elim (λ g. (child, s, SpecChildFault.unknown g.0 (sym (named_in_spec spec child is) ∙ g.1) g.2))
     (λ g. let no : true ≡ false = sym (by_name (codes "elementSpec") (codes "elementSpec" ∷ []) spec is) ∙ g.2 in cc) f
 child_found spec t child is (IsReadIn.content c sc n) s f =
-    (c, sc, SpecChildFault.content n (child, s, ContentChildFault.stray (⊎_elim (λ g. sym (named_in_content c child n) ∙ g.1) (λ g. foreign_no_part child g.0) f) (stray_child c child f)))
+    (c, sc, SpecChildFault.content n (child, s, ContentChildFault.stray (⊎_elim (λ g. sym (named_in_content c child n) ∙ g.1) (λ g. foreign_none child _ g.0) f) (stray_child c child f)))
 child_found spec t child is (IsReadIn.part c p sc n sp part) s f = (c, sc, SpecChildFault.content n (p, sp, ContentChildFault.part part (child, s, stray_child p child f)))
 
 -- what is broken is found

@@ -1,18 +1,16 @@
 -- What is known of a fault where the tests before it have failed.
 use Rattle.std.proofs.Common.{◌≡◌, ℕ, zero, suc, ◌≤◌, ◌<◌, get_or, true, false, List, [], ◌∷◌, Option, Some, None, ◌⊎◌, inl, inr, ⊎_elim, refl, sym, subst, arith}
 use Rattle.std.specs.Prelude.{codes, unwrap_or}
-use Rattle.odd_reader.proofs.Ascii.{ascii_name, ascii_ncname}
 use Rattle.odd_reader.specs.declared.tree.Tree.{Tree}
-use Rattle.odd_reader.specs.Characters.{IsNCName}
+use Rattle.odd_tokens.specs.Characters.{IsNCName}
 use Rattle.odd_decls.specs.Declares.{start_of}
 use Rattle.odd_decls.specs.Odd.{HasName}
 use Rattle.odd_decls.specs.Offences.{AreNames, ItemFault, LacksName, SchemaFault, SpecFault, given, is_part}
 use Rattle.odd_decls.specs.Reading.{ContentChildFault, ContentFault, IsLeast, PartFault, SpecChildFault, StrayFault}
 use Rattle.odd_decls.specs.Search.{is_one_of, is_passed_over, is_relax_ng, is_tei}
 use Rattle.odd_decls.specs.Words.{words_of}
-use Rattle.odd_decls.proofs.ByName.{by_name, named_not_relax}
 use Rattle.odd_decls.proofs.Least.{least_same}
-use Rattle.odd_decls.proofs.Named.{named_one, one_named}
+use Rattle.odd_decls.proofs.Named.{by_name, is_name, named_not_relax, named_one, one_named}
 
 -- a stray child breaks no rule before the second
 pub stray_second : (child : Tree) (rule : ℕ) → StrayFault child rule → 2 ≤ rule
@@ -109,7 +107,7 @@ IsMisnamed schema = (AreNames (start_of schema) → ⊥) ⊎ LacksName schema (c
 
 -- the word that stands for an absent `start` is a name
 tei_name : IsNCName (codes "TEI")
-tei_name = (codes "TEI", ascii_name (codes "TEI") refl, ascii_ncname (codes "TEI") refl)
+tei_name = is_name (codes "TEI") refl
 
 -- so the words of an absent `start` are names
 tei_named : AreNames (words_of (codes "TEI"))

@@ -1,10 +1,11 @@
 -- What the search finds, with one child more.
 use Rattle.std.proofs.Common.{◌≡◌, ℕ, ◌+◌, ◌<◌, ◌≤◌, true, false, List, [], ◌∷◌, ◌++◌, length, take, get_or, codes, refl, sym, ap, subst, ◌∙◌, append_assoc}
-use Rattle.std.proofs.lemmas.List.{append-nil, take_all, take_more}
+use Rattle.std.proofs.lemmas.List.{append-nil, take_all}
 use Rattle.odd_reader.specs.declared.tree.Node.{Node, Element, Text}
 use Rattle.odd_reader.specs.declared.tree.Tree.{Tree, out-Tree}
 use Rattle.odd_decls.specs.Reading.{AddsFound}
 use Rattle.odd_decls.specs.Search.{Finds, FindsAmong, foreign, through, nothing, text, element, is_one_of, is_tei}
+use Rattle.odd_decls.proofs.Standing.{ends}
 
 -- one element more
 among_element : (ns : List Node) (t : Tree) (found last : List Tree) → FindsAmong ns found → Finds t last → FindsAmong (ns ++ Element t ∷ []) (found ++ last)
@@ -29,7 +30,7 @@ adds_none old = ([], nothing, sym (append-nil old))
 
 -- the children up to a place, with what stands there
 up_to : (ns : List Node) (i : ℕ) (n m : Node) → i < length ns → n ≡ get_or ns i n → n ≡ m → take (i + 1) ns ≡ take i ns ++ m ∷ []
-up_to ns i n m h at is = take_more ns i n h ∙ ap (λ x. take i ns ++ x ∷ []) (sym at ∙ is)
+up_to ns i n m h at is = ends ns i n h at ∙ ap (λ x. take i ns ++ x ∷ []) is
 
 -- what is found in an element is added
 pub adds_element : (ns : List Node) (i : ℕ) (n : Node) (t : Tree) (old new newer : List Tree) → i < length ns → n ≡ get_or ns i n → n ≡ Element t

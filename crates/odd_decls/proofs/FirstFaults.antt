@@ -1,5 +1,5 @@
 -- The first fault: among items read one after another, and of a `schemaSpec` with its items and those that come after it.
-use Rattle.std.proofs.Common.{◌≡◌, ◌≤◌, ◌<◌, ℕ, suc, List, [], ◌∷◌, ◌++◌, map, slice_get, Option, Some, None, Bor, ◌⊎◌, inl, inr, ⊎_elim, refl, sym, ap, subst, ◌∙◌, append_assoc, arith}
+use Rattle.std.proofs.Common.{◌≡◌, ◌≤◌, ◌<◌, ℕ, suc, List, [], ◌∷◌, ◌++◌, map, slice_get, Option, Some, None, Bor, ◌⊎◌, inl, inr, ⊎_elim, refl, sym, ap, subst, ◌∙◌, arith}
 use Rattle.std.proofs.Math.Nat.{eq-or-lt_of_le}
 use Rattle.std.proofs.lemmas.Option.{same_Some}
 use Rattle.odd_reader.specs.declared.tree.Tree.{Tree, out-Tree}
@@ -11,27 +11,10 @@ use Rattle.odd_decls.specs.Offences.{IsFirstOf, IsNotBefore, IsSpecOf, ItemFault
 use Rattle.odd_decls.specs.Offences as offences
 use Rattle.odd_decls.specs.Reading.{IsFirstFault, IsFirstIn, IsLeast, PlacesRise, Rises}
 use Rattle.odd_decls.specs.Search.{children_of}
-use Rattle.odd_decls.proofs.Twice.{nothing_stands}
-
--- where something stands in a list around a place: before it, there or after it
-data Stands {A : Type 0} (xs : List A) (k : A) (ys a : List A) (x : A) (b : List A) : Type 0 where
-  before : (c : List A) → xs ≡ a ++ x ∷ c → Stands xs k ys a x b
-  here : xs ≡ a → k ≡ x → Stands xs k ys a x b
-  after : (c : List A) → ys ≡ c ++ x ∷ b → Stands xs k ys a x b
-
--- each item stands so
-stands_around : {A : Type 0} (xs : List A) (k : A) (ys a : List A) (x : A) (b : List A) → xs ++ k ∷ ys ≡ a ++ x ∷ b → Stands xs k ys a x b
-stands_around [] k ys [] x b e = here refl cc
-stands_around [] k ys (y ∷ a) x b e = after a cc
-stands_around (z ∷ xs) k ys [] x b e = before xs cc
-stands_around (z ∷ xs) k ys (y ∷ a) x b e =
-    let head : z ≡ y = cc in
-    let tail : xs ++ k ∷ ys ≡ a ++ x ∷ b = cc in
-    elim (stands_around xs k ys a x b tail) [
-      | before c h ↦ before c (cc (h, head))
-      | here h i ↦ here (cc (h, head)) i
-      | after c h ↦ after c h
-    ]
+use Rattle.odd_decls.proofs.SeenTwice.{later_stands, twice_around, twice_with}
+use Rattle.odd_decls.proofs.SeenTwice as twice
+use Rattle.odd_decls.proofs.Standing.{nothing_stands, stands_around}
+use Rattle.odd_decls.proofs.Standing as standing
 
 -- an offence of items around a place: of those before it, of the item there or of one after it
 data OffendsAround (items : List Tree) (item : Tree) (later : List Tree) (place rule : ℕ) : Type 0 where
@@ -43,27 +26,15 @@ data OffendsAround (items : List Tree) (item : Tree) (later : List Tree) (place 
 offends_around : (items : List Tree) (item : Tree) (later : List Tree) (place rule : ℕ) → ItemOffends (items ++ item ∷ later) place rule → OffendsAround items item later place rule
 offends_around items item later place rule (offences.alone t s f p) =
     elim (stands_around items item later s.0 t s.1 s.2) [
-      | before c h ↦ before (offences.alone t (s.0, c, h) f p)
-      | here h i ↦ here (p ∙ ap (λ u. (out-Tree u).at) (sym i)) (breaks.alone (subst (λ u. ItemFault u rule) (sym i) f))
-      | after c h ↦ after t (c, s.1, h) p
+      | standing.before c h ↦ before (offences.alone t (s.0, c, h) f p)
+      | standing.here h i ↦ here (p ∙ ap (λ u. (out-Tree u).at) (sym i)) (breaks.alone (subst (λ u. ItemFault u rule) (sym i) f))
+      | standing.after c h ↦ after t (c, s.1, h) p
     ]
 offends_around items item later place rule (offences.twice word both p) =
-    let parts : items ++ item ∷ later ≡ (both.before ++ both.first ∷ both.between) ++ both.later ∷ both.after =
-    both.parts ∙ sym (append_assoc both.before (both.first ∷ both.between) (both.later ∷ both.after)) in
-    elim (stands_around items item later (both.before ++ both.first ∷ both.between) both.later both.after parts) [
-      | before c h ↦ before (offences.twice word (record {
-        before = both.before;
-        first = both.first;
-        between = both.between;
-        later = both.later;
-        after = c;
-        parts = h ∙ append_assoc both.before (both.first ∷ both.between) (both.later ∷ c);
-        first_is = both.first_is;
-        later_is = both.later_is;
-      }) p)
-      | here h i ↦ here (p ∙ ap (λ u. (out-Tree u).at) (sym i))
-          (breaks.twice word (subst (IsSpecOf word) (sym i) both.later_is) (both.first, (both.before, both.between, h), both.first_is))
-      | after c h ↦ after both.later (c, both.after, h) p
+    elim (twice_around (IsSpecOf word) items item later both) [
+      | twice.before w e ↦ before (offences.twice word w (p ∙ ap (λ u. (out-Tree u).at) (sym e)))
+      | twice.here e is s ↦ here (p ∙ ap (λ u. (out-Tree u).at) (sym e)) (breaks.twice word is s)
+      | twice.after s ↦ after both.later s p
     ]
 
 -- no item of these offends
@@ -73,7 +44,7 @@ NoneOffends items = (place rule : ℕ) → ItemOffends items place rule → ⊥
 -- no item offends at first
 pub none_offends : NoneOffends []
 none_offends place rule (offences.alone t s f p) = nothing_stands t s
-none_offends place rule (offences.twice word both p) = nothing_stands both.first (both.before, both.between ++ both.later ∷ both.after, both.parts)
+none_offends place rule (offences.twice word both p) = nothing_stands both.later (later_stands (IsSpecOf word) [] both)
 
 -- none with one item more that breaks nothing
 pub none_more : (items : List Tree) (item : Tree) → NoneOffends items → ((rule : ℕ) → BreaksAfter items item rule → ⊥) → NoneOffends (items ++ item ∷ [])
@@ -108,17 +79,7 @@ rises_after first (t ∷ ts) item later r = rises_after (suc (out-Tree t).at) ts
 -- what the item breaks is an offence of all items
 broken_offends : (items : List Tree) (item : Tree) (later : List Tree) (rule : ℕ) → BreaksAfter items item rule → ItemOffends (items ++ item ∷ later) (out-Tree item).at rule
 broken_offends items item later rule (breaks.alone f) = offences.alone item (items, later, refl) f refl
-broken_offends items item later rule (breaks.twice word s (first, (ahead, between, e), is)) =
-    offences.twice word (record {
-      before = ahead;
-      first = first;
-      between = between;
-      later = item;
-      after = later;
-      parts = ap (λ ts. ts ++ item ∷ later) e ∙ append_assoc ahead (first ∷ between) (item ∷ later);
-      first_is = is;
-      later_is = s;
-    }) refl
+broken_offends items item later rule (breaks.twice word s i) = offences.twice word (twice_with (IsSpecOf word) items later item i s) refl
 
 -- the first item that breaks a rule gives the first fault
 pub first_broken : (items : List Tree) (item : Tree) (later all : List Tree) (rule : ℕ) → all ≡ items ++ item ∷ later → NoneOffends items → IsLeast (BreaksAfter items item) (Some rule)
@@ -142,8 +103,7 @@ first_broken items item later all rule is none least =
 -- an offence of items is at the place of one of them
 offence_stands : (items : List Tree) (place rule : ℕ) → ItemOffends items place rule → (t : Tree) × StandsIn items t × (place ≡ (out-Tree t).at)
 offence_stands items place rule (offences.alone t s f p) = (t, s, p)
-offence_stands items place rule (offences.twice word both p) =
-    (both.later, (both.before ++ both.first ∷ both.between, both.after, both.parts ∙ sym (append_assoc both.before (both.first ∷ both.between) (both.later ∷ both.after))), p)
+offence_stands items place rule (offences.twice word both p) = (both.later, later_stands (IsSpecOf word) items both, p)
 
 -- where places rise after a `schemaSpec`, its own fault is before an offence at another place
 own_before : (at : ℕ) (ts : List Tree) (rule place others_rule : ℕ) → Rises (suc at) ts → ((t : Tree) × StandsIn ts t × (place ≡ (out-Tree t).at))

@@ -1,68 +1,95 @@
--- The elements of a formed tree are formed.
-use Rattle.std.proofs.Common.{◌≡◌, ℕ, List, [], ◌∷◌, ◌++◌, ◌⊎◌, inl, inr, ⊎_elim, true, false, refl, sym, ap, subst}
+-- The elements of a formed tree, and what the search finds in it, are formed, and lie one after another.
+use Rattle.std.proofs.Common.{◌≡◌, ℕ, suc, ◌≤◌, Bool, true, false, codes, List, [], ◌∷◌, ◌++◌, ⊎_elim, refl, sym, subst, arith}
 use Rattle.odd_reader.specs.Formed.{AreFormed, IsFormed}
 use Rattle.odd_reader.specs.Formed as formed
 use Rattle.odd_reader.specs.declared.tree.Node.{Node, Element, Text}
-use Rattle.odd_reader.specs.declared.tree.Tree.{Tree}
+use Rattle.odd_reader.specs.declared.tree.Tree.{Tree, out-Tree}
 use Rattle.odd_decls.specs.Odd.{StandsIn, elements_of}
-use Rattle.odd_decls.specs.Search.{Finds, FindsAmong, is_one_of, own, own_if}
+use Rattle.odd_decls.specs.Search.{Finds, FindsAmong, is_one_of}
 use Rattle.odd_decls.specs.Search as search
 use Rattle.odd_decls.proofs.Elements.{element_shown, text_shown}
-use Rattle.odd_decls.proofs.Searched.{no_element, same_element}
-use Rattle.std.specs.Prelude.{codes}
-use Rattle.odd_decls.proofs.Twice.{nothing_stands}
+use Rattle.odd_decls.proofs.Searched.{FoundWith, found_after, found_with, none_found}
+use Rattle.odd_decls.proofs.Standing.{first_or_later, nothing_stands}
 
 -- the element is formed, between some places
 abbrev pub IsFormedSomewhere : Tree → Type 0
 IsFormedSomewhere u = (a : ℕ) × (b : ℕ) × IsFormed a b u
 
--- what stands in two lists, one after the other, stands in one of them
-pub stands_append : {A : Type 0} (xs ys : List A) (x : A) → StandsIn (xs ++ ys) x → StandsIn xs x ⊎ StandsIn ys x
-stands_append [] ys x s = inr s
-stands_append (y ∷ xs) ys x ([], after, e) = let same : y ≡ x = cc in inl ([], xs, λ n. same n ∷ xs)
-stands_append (y ∷ xs) ys x (b ∷ before, after, e) =
-    let rest : xs ++ ys ≡ before ++ x ∷ after = cc in
-    ⊎_elim (λ s. inl (y ∷ s.0, s.1, ap (λ zs. y ∷ zs) s.2)) (λ s. inr s) (stands_append xs ys x (before, after, rest))
+-- between two places formed elements begin, each after the one before it
+abbrev pub LieIn : ℕ → ℕ → List Tree → Type 0
+LieIn first end [] = first ≤ end
+LieIn first end (t ∷ ts) = (first ≤ (out-Tree t).at) × IsFormedSomewhere t × LieIn (suc (out-Tree t).at) end ts
 
--- what stands in a list of one is that one
-only_one : {A : Type 0} (x y : A) → StandsIn (x ∷ []) y → x ≡ y
-only_one x y ([], after, e) = cc
-only_one x y (b ∷ [], after, e) = cc
-only_one x y (b ∷ (c ∷ before), after, e) = cc
+-- each of them is formed
+each_formed : (first end : ℕ) (ts : List Tree) → LieIn first end ts → (u : Tree) → StandsIn ts u → IsFormedSomewhere u
+each_formed first end [] h u s = absurd (nothing_stands u s)
+each_formed first end (t ∷ ts) h u s =
+    ⊎_elim (λ e. subst IsFormedSomewhere (sym e) h.1) (λ later. each_formed (suc (out-Tree t).at) end ts h.2 u later) (first_or_later t u ts s)
+
+-- they lie after an earlier place too
+lie_after : (first later end : ℕ) (ts : List Tree) → first ≤ later → LieIn later end ts → LieIn first end ts
+lie_after first later end [] h k = omega arith
+lie_after first later end (t ∷ ts) h k = (omega arith, k.1, k.2)
+
+-- elements that lie up to a place, and then those that lie after it
+lie_append : (first between end : ℕ) (ts us : List Tree) → LieIn first between ts → LieIn between end us → LieIn first end (ts ++ us)
+lie_append first between end [] us h k = lie_after first between end us h k
+lie_append first between end (t ∷ ts) us h k = (h.0, h.1, lie_append (suc (out-Tree t).at) between end ts us h.2 k)
+
+-- an element begins at its first place or after it
+element_begins : {first end : ℕ} {t : Tree} → IsFormed first end t → first ≤ (out-Tree t).at
+element_begins (formed.element h tag apart inside) = h
+
+-- where a place stands between two others, the first is not above the last
+room_from : {first at end : ℕ} → first ≤ at → suc at ≤ end → first ≤ end
+room_from h k = omega arith
+
+-- what is formed between two places has room there
+mutual
+  element_room : {first end : ℕ} {t : Tree} → IsFormed first end t → suc (out-Tree t).at ≤ end
+  element_room (formed.element h tag apart inside) = nodes_room inside
+
+  nodes_room : {first end : ℕ} {nodes : List Node} → AreFormed first end nodes → first ≤ end
+  nodes_room (formed.nothing h) = h
+  nodes_room (formed.text later) = nodes_room later
+  nodes_room (formed.child between one later) = let h = room_from (element_begins one) (element_room one) in let k = nodes_room later in omega (arith, h, k)
+
+-- the elements among formed nodes lie there
+pub nodes_lie : {first end : ℕ} {nodes : List Node} → AreFormed first end nodes → LieIn first end (elements_of nodes)
+nodes_lie (formed.nothing h) = h
+nodes_lie {first = first} {end = end} (formed.text {bytes = bytes} {nodes = nodes} later) =
+    subst (λ ts. LieIn first end (ts ++ elements_of nodes)) (sym (text_shown (Text bytes) bytes refl)) (nodes_lie later)
+nodes_lie {first = first} {end = end} (formed.child {t = t} {nodes = nodes} between one later) =
+    let rest = lie_after (suc (out-Tree t).at) between end (elements_of nodes) (element_room one) (nodes_lie later) in
+    subst (λ ts. LieIn first end (ts ++ elements_of nodes)) (sym (element_shown (Element t) t refl)) (element_begins one, (first, between, one), rest)
+
+-- an element lies with what is found in it: first itself, where it is a `schemaSpec`
+own_lie : (first end : ℕ) (t : Tree) (inner found : List Tree) → first ≤ (out-Tree t).at → IsFormedSomewhere t → LieIn (suc (out-Tree t).at) end inner
+    → found ≡ search.own t ++ inner → LieIn first end found
+own_lie first end t inner found h formed rest is = subst (LieIn first end) (sym is) (by_name (is_one_of (codes "schemaSpec" ∷ []) t))
+  where
+    by_name : (b : Bool) → LieIn first end (search.own_if t b ++ inner)
+    by_name true = (h, formed, rest)
+    by_name false = lie_after first (suc (out-Tree t).at) end inner (omega (arith, h)) rest
+
+-- what is found in a formed element lies there
+mutual
+  pub found_lie : {first end : ℕ} {t : Tree} {found : List Tree} → IsFormed first end t → Finds t found → LieIn first end found
+  found_lie (formed.element h tag apart inside) (search.foreign other) = room_from h (nodes_room inside)
+  found_lie {first = first} {end = end} {t = t} {found = found} (formed.element h tag apart inside) (search.through inner tei among is) =
+      own_lie first end t inner found h (first, end, formed.element h tag apart inside) (among_lie inside among) is
+
+  among_lie : {first end : ℕ} {nodes : List Node} {found : List Tree} → AreFormed first end nodes → FindsAmong nodes found → LieIn first end found
+  among_lie {first = first} {end = end} (formed.nothing h) among = subst (LieIn first end) (sym (none_found among)) h
+  among_lie (formed.text later) among = among_lie later (found_after among)
+  among_lie {first = first} {end = end} {found = found} (formed.child {t = t} {nodes = nodes} between one later) among =
+      let f : FoundWith t nodes found = found_with among in
+      subst (LieIn first end) (sym f.4) (lie_append first between end f.0 f.1 (found_lie one f.2) (among_lie later f.3))
 
 -- the elements among formed nodes are formed
 pub children_formed : (nodes : List Node) (first end : ℕ) → AreFormed first end nodes → (u : Tree) → StandsIn (elements_of nodes) u → IsFormedSomewhere u
-children_formed nodes first end (formed.nothing h) u s = absurd (nothing_stands u s)
-children_formed nodes first end (formed.text {bytes = bytes} {nodes = later} f) u s =
-    children_formed later first end f u (subst (λ ts. StandsIn (ts ++ elements_of later) u) (text_shown (Text bytes) bytes refl) s)
-children_formed nodes first end (formed.child {t = t} {nodes = later} between f fs) u s =
-    ⊎_elim (λ h. subst IsFormedSomewhere (only_one t u h) (first, between, f)) (λ h. children_formed later between end fs u h)
-    (stands_append (t ∷ []) (elements_of later) u (subst (λ ts. StandsIn (ts ++ elements_of later) u) (element_shown (Element t) t refl) s))
+children_formed nodes first end f = each_formed first end (elements_of nodes) (nodes_lie f)
 
--- what is found of the element itself is the element
-own_is : (t u : Tree) → StandsIn (own t) u → t ≡ u
-own_is t u s =
-    elim (is_one_of (codes "schemaSpec" ∷ []) t) as (λ b. is_one_of (codes "schemaSpec" ∷ []) t ≡ b → t ≡ u) [
-      | true ↦ λ h. only_one t u (subst (λ ts. StandsIn ts u) (ap (own_if t) h) s)
-      | false ↦ λ h. absurd (nothing_stands u (subst (λ ts. StandsIn ts u) (ap (own_if t) h) s))
-    ] refl
-
-mutual
-  -- what the search finds in a formed element is formed
-  pub found_formed : (t : Tree) (found : List Tree) (first end : ℕ) → IsFormed first end t → Finds t found → (u : Tree) → StandsIn found u → IsFormedSomewhere u
-  found_formed t found first end f (search.foreign h) u s = absurd (nothing_stands u s)
-  found_formed t found first end (formed.element p tag apart inside) (search.through inner h among e) u s =
-      ⊎_elim (λ k. subst IsFormedSomewhere (own_is t u k) (first, end, formed.element p tag apart inside)) (λ k. among_formed _ _ inner _ end refl inside among u k)
-      (stands_append (own t) inner u (subst (λ ts. StandsIn ts u) e s))
-
-  among_formed : (ns ms : List Node) (found : List Tree) (first end : ℕ) → ns ≡ ms → AreFormed first end ns → FindsAmong ms found → (u : Tree) → StandsIn found u → IsFormedSomewhere u
-  among_formed ns ms found first end e f search.nothing u s = absurd (nothing_stands u s)
-  among_formed ns ms found first end e (formed.nothing h) (search.text among) u s = cc
-  among_formed ns ms found first end e (formed.text f) (search.text among) u s = among_formed _ _ found first end (cc) f among u s
-  among_formed ns ms found first end e (formed.child {t = t} between f fs) (search.text {bytes = bytes} among) u s = absurd (no_element bytes t _ _ (sym e))
-  among_formed ns ms found first end e (formed.nothing h) (search.element a b g gs is) u s = cc
-  among_formed ns ms found first end e (formed.text {bytes = bytes} f) (search.element {t = t} a b g gs is) u s = absurd (no_element bytes t _ _ e)
-  among_formed ns ms found first end e (formed.child {t = t} between f fs) (search.element {t = v} a b g gs is) u s =
-      let same : t ≡ v = same_element t v _ _ e in
-      ⊎_elim (λ h. found_formed t a first between f (subst (λ x. Finds x a) (sym same) g) u h) (λ h. among_formed _ _ b between end (cc) fs gs u h)
-      (stands_append a b u (subst (λ ts. StandsIn ts u) is s))
+-- what the search finds in a formed element is formed
+pub found_formed : (t : Tree) (found : List Tree) (first end : ℕ) → IsFormed first end t → Finds t found → (u : Tree) → StandsIn found u → IsFormedSomewhere u
+found_formed t found first end f g = each_formed first end found (found_lie f g)

@@ -1,14 +1,14 @@
 -- Where a form that is not read yet stands: the element itself, or a child that holds one.
-use Rattle.std.proofs.Common.{◌≡◌, ◌≤◌, ℕ, ◌+◌, ◌<◌, Bool, true, ◌||◌, List, [], ◌∷◌, ◌++◌, ◌⊎◌, inl, inr, ⊎_elim, codes, length, take, drop, get_or, refl, sym, ap, subst, ◌∙◌}
+use Rattle.std.proofs.Common.{◌≡◌, ◌≤◌, ℕ, ◌+◌, ◌<◌, Bool, true, ◌||◌, List, [], ◌∷◌, ◌⊎◌, inl, inr, ⊎_elim, codes, length, take, get_or, refl, sym, subst}
 use Rattle.std.proofs.lemmas.Bool.{or_cases, or_left, or_right}
 use Rattle.odd_reader.specs.declared.tree.Node.{Node, out-Node, Element}
 use Rattle.odd_reader.specs.declared.tree.Tree.{Tree}
 use Rattle.odd_decls.specs.Odd.{StandsIn, elements_of, shown_elements}
 use Rattle.odd_decls.specs.Pending.{HoldsForm, IsForm, named, part, parts, mode, here, below}
 use Rattle.odd_decls.specs.Search.{itself, inside, children_of, is_one_of}
-use Rattle.odd_decls.proofs.Elements.{element_around, element_more, elements_seen, text_passed}
+use Rattle.odd_decls.proofs.Elements.{element_more, elements_seen, text_passed}
 use Rattle.odd_decls.proofs.Named.{named_one, one_named}
-use Rattle.odd_decls.proofs.Twice.{stands_push}
+use Rattle.odd_decls.proofs.Standing.{StandsOnce, nothing_stands, once_push}
 
 -- whether a `content` is around the children of an element
 abbrev pub around_children : Bool → Tree → Bool
@@ -16,7 +16,7 @@ around_children around t = around || is_one_of (codes "content" ∷ []) t
 
 -- a child of the element holds a form that is not read yet
 abbrev pub ChildHolds : Bool → Tree → Type 0
-ChildHolds around t = (child : Tree) × StandsIn (children_of t) child × HoldsForm (around_children around t) child
+ChildHolds around t = StandsOnce (HoldsForm (around_children around t)) (children_of t)
 
 -- an element that is itself such a form holds one
 pub own_form : (around : Bool) (t : Tree) → IsForm around t → HoldsForm around t
@@ -55,19 +55,14 @@ NoneHolds around ts = (child : Tree) → StandsIn ts child → HoldsForm around 
 
 -- where there are no elements, none does
 pub none_first : (around : Bool) → NoneHolds around []
-none_first around child s holds = empty s.0 s.2
-  where
-    empty : (before : List Tree) → [] ≡ before ++ child ∷ s.1 → ⊥
-    empty [] e = cc
-    empty (x ∷ xs) e = cc
+none_first around child s holds = nothing_stands child s
 
 -- nor does one element more
 pub none_more : (around : Bool) (ns : List Node) (i : ℕ) (n : Node) (t : Tree) → i < length ns → n ≡ get_or ns i n → n ≡ Element t → NoneHolds around (elements_of (take i ns))
     → (HoldsForm around t → ⊥) → NoneHolds around (elements_of (take (i + 1) ns))
 none_more around ns i n t h at is none not child s holds = ⊎_elim
-    (λ (earlier : StandsIn (elements_of (take i ns)) child). none child earlier holds)
-    (λ (e : t ≡ child). not (subst (HoldsForm around) (sym e) holds))
-    ((stands_push (elements_of (take i ns)) t child).0 (subst (λ ts. StandsIn ts child) (element_more ns i n t h at is) s))
+    (λ (earlier : StandsOnce (HoldsForm around) (elements_of (take i ns))). none earlier.0 earlier.1 earlier.2) not
+    ((once_push (HoldsForm around) (elements_of (take i ns)) t).0 (child, subst (λ ts. StandsIn ts child) (element_more ns i n t h at is) s, holds))
 
 -- and a text changes nothing
 pub none_text : (around : Bool) (ns : List Node) (i : ℕ) (n : Node) → i < length ns → n ≡ get_or ns i n → shown_elements (out-Node n) ≡ []
@@ -79,11 +74,6 @@ pub none_seen : (around other : Bool) (ns ms : List Node) (i : ℕ) → around �
 none_seen around other ns ms i is same h none =
     let seen : elements_of ms ≡ elements_of (take i ns) = elements_seen ns ms i (elements_of (take i ns)) same h refl in
     subst (λ b. NoneHolds b (elements_of ms)) is (subst (NoneHolds around) (sym seen) none)
-
--- a child that stands at a place is among the children
-pub child_stands : (ns ms : List Node) (i : ℕ) (n : Node) (t : Tree) → ns ≡ ms → i < length ns → n ≡ get_or ns i n → n ≡ Element t → StandsIn (elements_of ms) t
-child_stands ns ms i n t same h at is =
-    (elements_of (take i ns), elements_of (drop (i + 1) ns), ap elements_of (sym same) ∙ element_around ns i n t h at is)
 
 -- an element that is no such form, and of which no child holds one, holds none
 pub none_held : (around : Bool) (t : Tree) → (IsForm around t → ⊥) → NoneHolds (around_children around t) (children_of t) → HoldsForm around t → ⊥

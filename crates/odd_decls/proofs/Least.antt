@@ -3,10 +3,10 @@ use Rattle.std.proofs.Common.{◌≡◌, ℕ, ◌+◌, ◌<◌, min, Bool, true,
 use Rattle.std.proofs.lemmas.Bool.{cases_Bool, leb-false, leb-true}
 use Rattle.odd_reader.specs.declared.tree.Node.{Node, out-Node, Element}
 use Rattle.odd_reader.specs.declared.tree.Tree.{Tree}
-use Rattle.odd_decls.specs.Odd.{StandsIn, elements_of, shown_elements}
+use Rattle.odd_decls.specs.Odd.{elements_of, shown_elements}
 use Rattle.odd_decls.specs.Reading.{IsLeast, lesser_rule}
 use Rattle.odd_decls.proofs.Elements.{element_more, text_passed}
-use Rattle.odd_decls.proofs.Twice.{nothing_stands, stands_push}
+use Rattle.odd_decls.proofs.Standing.{StandsOnce, nothing_stands, once_push}
 
 -- faults that are the same have the same least rule
 pub least_same : (P Q : ℕ → Type 0) (o : Option ℕ) → ((rule : ℕ) → P rule → Q rule) → ((rule : ℕ) → Q rule → P rule) → IsLeast P o → IsLeast Q o
@@ -33,7 +33,7 @@ least_where P false rule into back = λ other f. let no : false ≡ true = back 
 
 -- a fault of one of the items
 abbrev pub Among : (Tree → ℕ → Type 0) → List Tree → ℕ → Type 0
-Among Fault items rule = (child : Tree) × StandsIn items child × Fault child rule
+Among Fault items rule = StandsOnce (λ child. Fault child rule) items
 
 -- where there is no item there is no fault of one
 pub least_none : (Fault : Tree → ℕ → Type 0) → IsLeast (Among Fault []) None
@@ -43,13 +43,9 @@ least_none Fault = λ rule f. nothing_stands f.0 f.1
 pub least_more : (Fault : Tree → ℕ → Type 0) (items : List Tree) (child : Tree) (a b : Option ℕ) → IsLeast (Among Fault items) a → IsLeast (Fault child) b
     → IsLeast (Among Fault (items ++ child ∷ [])) (lesser_rule a b)
 least_more Fault items child a b h k =
-    least_same (λ rule. Among Fault items rule ⊎ Fault child rule) (Among Fault (items ++ child ∷ [])) (lesser_rule a b) into back (least_or (Among Fault items) (Fault child) a b h k)
-  where
-    into : (rule : ℕ) → Among Fault items rule ⊎ Fault child rule → Among Fault (items ++ child ∷ []) rule
-    into rule f = ⊎_elim (λ g. (g.0, (stands_push items child g.0).1 (inl g.1), g.2)) (λ g. (child, (stands_push items child child).1 (inr refl), g)) f
-
-    back : (rule : ℕ) → Among Fault (items ++ child ∷ []) rule → Among Fault items rule ⊎ Fault child rule
-    back rule f = ⊎_elim (λ s. inl (f.0, s, f.2)) (λ e. inr (subst (λ t. Fault t rule) (sym e) f.2)) ((stands_push items child f.0).0 f.1)
+    least_same (λ rule. Among Fault items rule ⊎ Fault child rule) (Among Fault (items ++ child ∷ [])) (lesser_rule a b)
+    (λ rule f. (once_push (λ t. Fault t rule) items child).1 f) (λ rule f. (once_push (λ t. Fault t rule) items child).0 f)
+    (least_or (Among Fault items) (Fault child) a b h k)
 
 -- an element that a loop passes, with its faults
 pub least_element : (Fault : Tree → ℕ → Type 0) (ns : List Node) (i : ℕ) (n : Node) (t : Tree) (a b new : Option ℕ) → i < length ns → n ≡ get_or ns i n → n ≡ Element t

@@ -1,6 +1,4 @@
 pub mod Attributes
-pub mod ByName
-pub mod Counted
 pub mod Declaring
 pub mod Elements
 pub mod Examples
@@ -22,6 +20,5 @@ pub mod Rising
 pub mod Searched
 pub mod SeenTwice
 pub mod SortedWords
-pub mod Sorting
 pub mod Spaced
-pub mod Twice
+pub mod Standing

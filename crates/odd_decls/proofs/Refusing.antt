@@ -13,7 +13,7 @@ use Rattle.odd_decls.specs.Reading.{AddsFound, IsFirstFault, PlacesRise}
 use Rattle.odd_decls.specs.Search.{Finds}
 use Rattle.odd_decls.proofs.Rising.{places_rise}
 use Rattle.odd_decls.proofs.Searched.{one_search}
-use Rattle.odd_decls.proofs.Twice.{nothing_stands}
+use Rattle.odd_decls.proofs.Standing.{nothing_stands}
 
 -- a file that holds no such form, and in which the search finds a `schemaSpec`, is read whole
 pub all_read : (t schema : Tree) (others : List Tree) → (HoldsForm false t → ⊥) → Finds t (schema ∷ others) → IsPending t → ⊥

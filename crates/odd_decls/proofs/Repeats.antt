@@ -1,18 +1,17 @@
 -- The idents of the items so far, and what an item breaks that comes after them.
-use Rattle.std.proofs.Common.{◌≡◌, ◌↔◌, ◌≤◌, ℕ, Bool, true, false, not, cond, List, [], ◌∷◌, ◌++◌, Option, Some, None, ◌⊎◌, inl, inr, ⊎_elim, IsTrue, refl, sym, ap, subst, ◌∙◌, arith}
+use Rattle.std.proofs.Common.{◌≡◌, ◌↔◌, ◌≤◌, ℕ, Bool, true, false, not, cond, List, [], ◌∷◌, ◌++◌, Option, Some, None, inl, inr, ⊎_elim, IsTrue, refl, sym, ap, subst, ◌∙◌, arith}
+use Rattle.std.proofs.Math.Bool.{not-not}
 use Rattle.std.proofs.lemmas.Bool.{both_ways}
 use Rattle.std.proofs.lemmas.Cmp.{nat_list_cmp_total}
 use Rattle.std.proofs.lemmas.Option.{same_Some}
 use Rattle.std.specs.BTreeSet.{BTreeSet, contains_by}
 use Rattle.std.specs.Bool.{then_some}
 use Rattle.std.specs.Borrow.{Bor}
-use Rattle.std.specs.Cmp.{tied_itself}
+use Rattle.std.specs.Cmp.{Equal-is, tied_itself}
 use Rattle.std.specs.FinMap.{slice_cmp-IsAntisymmetric, nat_cmp-IsAntisymmetric}
 use Rattle.std.specs.List.{list_any}
 use Rattle.std.specs.Option.{option_or}
 use Rattle.std.specs.Ordering.{eq_by_cmp, is_eq}
-use Rattle.std.specs.declared.cmp.Ordering.{Ordering}
-use Rattle.std.specs.declared.cmp.Ordering.TheVariants.{Less, Equal, Greater}
 use Rattle.odd_base.specs.Text.{text_cmp}
 use Rattle.odd_reader.specs.declared.tree.Tree.{Tree}
 use Rattle.odd_decls.specs.Faults.{BreaksAfter, HoldsIdents, IsIdentIn}
@@ -20,17 +19,11 @@ use Rattle.odd_decls.specs.Faults as breaks
 use Rattle.odd_decls.specs.Offences.{IsSpecOf, ItemFault, SpecFault}
 use Rattle.odd_decls.specs.Offences as offences
 use Rattle.odd_decls.specs.Reading.{IsLeast}
-use Rattle.odd_decls.proofs.Twice.{nothing_stands, stands_push}
-
--- a comparison that says the same is `Equal`
-only_equal : (r : Ordering) → is_eq r ≡ true → r ≡ Equal
-only_equal Less h = cc
-only_equal Equal h = refl
-only_equal Greater h = cc
+use Rattle.odd_decls.proofs.Standing.{nothing_stands, once_push}
 
 -- texts that tie are one text
 same_text : (a b : List ℕ) → eq_by_cmp text_cmp a b ≡ true → a ≡ b
-same_text a b h = slice_cmp-IsAntisymmetric nat_cmp-IsAntisymmetric a b (only_equal (text_cmp a b) h)
+same_text a b h = slice_cmp-IsAntisymmetric nat_cmp-IsAntisymmetric a b ((Equal-is (text_cmp a b)).0 h)
 
 -- one text ties with itself
 text_itself : (a b : List ℕ) → a ≡ b → eq_by_cmp text_cmp a b ≡ true
@@ -39,19 +32,6 @@ text_itself a b e = ap is_eq (ap (text_cmp a) (sym e) ∙ tied_itself nat_list_c
 -- an element has one ident
 one_ident : (item : Tree) (word other : List ℕ) → IsSpecOf word item → IsSpecOf other item → word ≡ other
 one_ident item word other h k = same_Some _ _ (sym h.1 ∙ k.1)
-
--- the idents of the items with one item more
-ident_push : (items : List Tree) (item : Tree) (word : List ℕ) → IsIdentIn (items ++ item ∷ []) word ↔ (IsIdentIn items word ⊎ IsSpecOf word item)
-ident_push items item word = (there, ⊎_elim before last)
-  where
-    there : IsIdentIn (items ++ item ∷ []) word → IsIdentIn items word ⊎ IsSpecOf word item
-    there h = ⊎_elim (λ s. inl (h.0, s, h.2)) (λ e. inr (subst (IsSpecOf word) (sym e) h.2)) ((stands_push items item h.0).0 h.1)
-
-    before : IsIdentIn items word → IsIdentIn (items ++ item ∷ []) word
-    before h = (h.0, (stands_push items item h.0).1 (inl h.1), h.2)
-
-    last : IsSpecOf word item → IsIdentIn (items ++ item ∷ []) word
-    last h = (item, (stands_push items item item).1 (inr refl), h)
 
 -- whether the set holds the word
 abbrev holds : BTreeSet (Bor (List ℕ)) → List ℕ → Bool
@@ -65,7 +45,7 @@ no_idents idents empty word = (λ t. absurd (both_ways (holds idents word) (ap (
 pub idents_same : (items : List Tree) (item : Tree) (idents : BTreeSet (Bor (List ℕ))) → ((word : List ℕ) → IsSpecOf word item → ⊥) → HoldsIdents items idents
     → HoldsIdents (items ++ item ∷ []) idents
 idents_same items item idents none h word =
-    (λ e. (ident_push items item word).1 (inl ((h word).0 e)), λ i. (h word).1 (⊎_elim (λ k. k) (λ s. absurd (none word s)) ((ident_push items item word).0 i)))
+    (λ e. (once_push (IsSpecOf word) items item).1 (inl ((h word).0 e)), λ i. (h word).1 (⊎_elim (λ k. k) (λ s. absurd (none word s)) ((once_push (IsSpecOf word) items item).0 i)))
 
 -- an item's ident is added
 pub idents_added : (items : List Tree) (item : Tree) (old new : BTreeSet (Bor (List ℕ))) (key : List ℕ) → IsSpecOf key item
@@ -74,12 +54,12 @@ idents_added items item old new key is updates h word = by_key (eq_by_cmp text_c
   where
     by_key : (b : Bool) → eq_by_cmp text_cmp key word ≡ b → IsTrue (holds new word) ↔ IsIdentIn (items ++ item ∷ []) word
     by_key true e =
-        (λ t. (ident_push items item word).1 (inr (subst (λ w. IsSpecOf w item) (same_text key word e) is)), λ i. updates word ∙ ap (λ b. cond b true (holds old word)) e)
+        (λ t. (once_push (IsSpecOf word) items item).1 (inr (subst (λ w. IsSpecOf w item) (same_text key word e) is)), λ i. updates word ∙ ap (λ b. cond b true (holds old word)) e)
     by_key false e =
         let same : holds new word ≡ holds old word = updates word ∙ ap (λ b. cond b true (holds old word)) e in
         let other : IsSpecOf word item → ⊥ = λ s. both_ways (eq_by_cmp text_cmp key word) e (text_itself key word (one_ident item key word is s)) in (
-          λ t. (ident_push items item word).1 (inl ((h word).0 (sym same ∙ t))),
-          λ i. same ∙ (h word).1 (⊎_elim (λ k. k) (λ s. absurd (other s)) ((ident_push items item word).0 i)),
+          λ t. (once_push (IsSpecOf word) items item).1 (inl ((h word).0 (sym same ∙ t))),
+          λ i. same ∙ (h word).1 (⊎_elim (λ k. k) (λ s. absurd (other s)) ((once_push (IsSpecOf word) items item).0 i)),
         )
 
 -- it is told whether the item has the ident of an earlier one
@@ -87,16 +67,11 @@ abbrev pub IsTold : List Tree → Tree → Bool → Type 0
 IsTold items item again =
     (again ≡ true → (word : List ℕ) × IsSpecOf word item × IsIdentIn items word) × (again ≡ false → (word : List ℕ) → IsSpecOf word item → IsIdentIn items word → ⊥)
 
--- what is not so twice over is so
-not_twice : (b : Bool) → not (not b) ≡ b
-not_twice true = refl
-not_twice false = refl
-
 -- the set tells it
 pub told_by_set : (items : List Tree) (item : Tree) (idents : BTreeSet (Bor (List ℕ))) (key : List ℕ) (added again : Bool) → IsSpecOf key item → HoldsIdents items idents
     → added ≡ not (holds idents key) → again ≡ not added → IsTold items item again
 told_by_set items item idents key added again is h a b =
-    let held : again ≡ holds idents key = b ∙ ap not a ∙ not_twice (holds idents key) in (
+    let held : again ≡ holds idents key = b ∙ ap not a ∙ not-not (holds idents key) in (
       λ t. (key, is, (h key).0 (sym held ∙ t)),
       λ f word s i. both_ways again f (held ∙ (h key).1 (subst (IsIdentIn items) (one_ident item word key s is) i)),
     )

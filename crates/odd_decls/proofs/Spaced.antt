@@ -6,7 +6,7 @@ use Rattle.std.proofs.lemmas.Bool.Decides.{nat_tests}
 use Rattle.std.proofs.lemmas.List.{append-nil}
 use Rattle.std.proofs.lemmas.Str.{encode_ascii}
 use Rattle.std.specs.List.{list_all}
-use Rattle.odd_reader.specs.Characters.{is_space}
+use Rattle.odd_tokens.specs.Characters.{is_space}
 use Rattle.odd_decls.specs.Words.{ended, words_after}
 
 -- a byte that is no white space

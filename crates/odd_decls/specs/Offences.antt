@@ -3,7 +3,7 @@
 use Rattle.std.specs.Prelude.{◌≡◌, ◌≢◌, ◌⊎◌, ◌≤◌, ◌<◌, ℕ, Bool, true, false, List, [], ◌∷◌, ◌++◌, Option, Some, None, IsSome, All, codes, IsTrue}
 use Rattle.odd_base.specs.declared.offence.Offence.{Offence}
 use Rattle.odd_base.specs.declared.offence.Who.TheVariants as who
-use Rattle.odd_reader.specs.Characters.{IsNCName}
+use Rattle.odd_tokens.specs.Characters.{IsNCName}
 use Rattle.odd_reader.specs.declared.tree.Tree.{Tree, out-Tree}
 use Rattle.odd_decls.specs.Odd.{HasName, StandsIn, attribute_value}
 use Rattle.odd_decls.specs.Pending.{IsPending}

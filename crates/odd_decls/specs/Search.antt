@@ -3,7 +3,7 @@ use Rattle.std.specs.Prelude.{◌≡◌, ℕ, Bool, true, false, ◌&&◌, List,
 use Rattle.std.specs.List.{list_any}
 use Rattle.odd_reader.specs.declared.tree.Tree.{Tree, out-Tree}
 use Rattle.odd_reader.specs.declared.tree.Node.{Node, Element, Text}
-use Rattle.odd_reader.specs.Names.{is_same}
+use Rattle.odd_tokens.specs.Same.{is_same}
 use Rattle.odd_decls.specs.Odd.{StandsIn, elements_of, tei_namespace}
 
 -- the namespace of RELAX NG

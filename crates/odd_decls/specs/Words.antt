@@ -1,6 +1,6 @@
 -- The words of an attribute's value: what stands between white space.
 use Rattle.std.specs.Prelude.{ℕ, List, [], ◌∷◌, ◌++◌, if◌then◌else◌}
-use Rattle.odd_reader.specs.Characters.{is_space}
+use Rattle.odd_tokens.specs.Characters.{is_space}
 
 abbrev pub ended : List ℕ → List (List ℕ) → List (List ℕ)
 ended [] later = later

@@ -1,8 +1,8 @@
-ghost use Rattle.std.specs.Prelude.{◌≡◌, [], ◌∷◌, ◌++◌, ◌==◌, ◌||◌, if◌then◌else◌, IfOk, OnOk};
-ghost use Rattle.odd_reader.specs.Characters.{is_space as the_is_space};
+ghost use Rattle.std.specs.Prelude.{◌≡◌, [], ◌++◌, IfOk, OnOk};
 ghost use Rattle.odd_decls.specs.Words.{ended, words_of as the_words_of};
 
 use odd_base::{NoMemory, Text, Words};
+use odd_tokens::is_space;
 use std::alloc::Global;
 
 /// The words of an attribute's value: what stands between white space (XML 1.0, section 2.3).
@@ -21,13 +21,6 @@ pub fn words_of(alloc: Global, value: &str) -> Result<Words, NoMemory>
     }
     end_word(&mut words, word)?;
     Ok(words)
-}
-
-// Whether a character is white space.
-fn is_space(c: char) -> bool
-    ensures { result ≡ the_is_space c }
-{
-    matches!(c, ' ' | '\t' | '\r' | '\n')
 }
 
 // Puts a word that ends, where one has begun.

@@ -1,29 +1,29 @@
 -- Each file has an answer: its tree, a level too many, or its fault.
-use Rattle.std.proofs.Common.{◌≡◌, ◌≢◌, ◌⊎◌, inl, inr, ⊎_elim, ℕ, zero, suc, ◌+◌, ◌<◌, ◌≤◌, Bool, true, false, if◌then◌else◌, nat_le, List, [], ◌∷◌, ◌++◌, length, take, Option, Some, None, refl, sym, ap, ◌∙◌, subst, append_assoc, arith}
+use Rattle.std.proofs.Common.{◌≡◌, ◌≢◌, ◌⊎◌, inl, inr, ⊎_elim, ℕ, zero, suc, ◌+◌, ◌≤◌, Bool, true, false, if◌then◌else◌, nat_le, List, [], ◌∷◌, ◌++◌, length, take, Option, Some, None, refl, sym, ap, ◌∙◌, subst, append_assoc, arith}
 use Rattle.std.proofs.lemmas.Bool.{cases_Bool}
 use Rattle.std.proofs.lemmas.List.{take_all}
 use Rattle.std.proofs.lemmas.Str.{IsUtf8-nil, IsUtf8-from_is_utf8, is_utf8-from_IsUtf8}
 use Rattle.std.specs.Char.{IsScalar}
 use Rattle.std.specs.Prelude.{Result, Ok, Err, encode_utf8}
-use Rattle.std.specs.Str.{encode_utf8_all, is_utf8, IsUtf8, IsValidUpTo}
+use Rattle.std.specs.Str.{encode_utf8_all, is_utf8, IsUtf8}
 use Rattle.odd_reader.specs.declared.builder.Misfit.{Misfit}
 use Rattle.odd_reader.specs.declared.builder.Misfit.TheVariants as misfit
 use Rattle.odd_reader.specs.declared.builder.Open.{Open}
-use Rattle.odd_reader.specs.declared.lexer.State.{State}
-use Rattle.odd_reader.specs.declared.lexer.State.TheVariants as state
-use Rattle.odd_reader.specs.declared.token.Token.{Token}
-use Rattle.odd_reader.specs.declared.token.Token.TheVariants as token
-use Rattle.odd_reader.specs.declared.token.WrittenTag.{WrittenTag}
+use Rattle.odd_tokens.specs.declared.lexer.State.{State}
+use Rattle.odd_tokens.specs.declared.lexer.State.TheVariants as state
+use Rattle.odd_tokens.specs.declared.token.Token.{Token}
+use Rattle.odd_tokens.specs.declared.token.Token.TheVariants as token
+use Rattle.odd_tokens.specs.declared.token.WrittenTag.{WrittenTag}
 use Rattle.odd_reader.specs.declared.tree.Tree.{Tree}
-use Rattle.odd_reader.specs.Building.{Kept, Built, misplaced, build, is_brackets, is_root_closed, is_written_same, element_opened, ends_innermost, resolved, then_closed, then_other}
-use Rattle.odd_reader.specs.Characters.{is_space}
-use Rattle.odd_reader.specs.Lexing.{Lexed, Taken, next}
+use Rattle.odd_reader.specs.Building.{Kept, Built, misplaced, build, element_opened, ends_innermost, resolved, then_closed, then_other}
+use Rattle.odd_tokens.specs.Characters.{is_space}
+use Rattle.odd_tokens.specs.Lexing.{Lexed, Taken, next}
 use Rattle.odd_reader.specs.Reading.{Read, nothing_read, read_character, with_kept, with_lexed, with_token, place_of, IsFinished, IsLongestFront}
 use Rattle.odd_reader.specs.Spelled.{GivesTree, DepthPlace, IsNotXml, deepest}
 use Rattle.odd_reader.proofs.Faults.{misplaced_place, too_deep_place, not_utf8_place, ended_place}
 use Rattle.odd_reader.proofs.LongestFront.{whole_front, valid_front}
 use Rattle.odd_reader.proofs.ReadTo.{IsReadTo, nothing_read_to, read_to_next, ends_so}
-use Rattle.odd_reader.proofs.StandsOpening.{with_open, is_twice}
+use Rattle.odd_reader.proofs.StandsOpening.{with_open}
 
 -- the definitions never answer that there is no memory
 

@@ -5,8 +5,9 @@ use Rattle.std.specs.Prelude.{Result, Ok, Err, encode_utf8}
 use Rattle.std.specs.Str.{encode_utf8_all}
 use Rattle.odd_reader.specs.Fitting.{Fits}
 use Rattle.odd_reader.specs.Reading.{Read, nothing_read, read_from, then_read, place_of, IsFinished}
-use Rattle.odd_reader.specs.Spelled.{Opening, IsOpening, Begins, IsDocument, Spells, IsWholeOpening, NoneFits, DepthPlace, IsNotXml, opening_written}
-use Rattle.odd_reader.specs.Tokens.{Token, token_written, tokens_written, size_of}
+use Rattle.odd_tokens.specs.Openings.{Opening, IsOpening, opening_written}
+use Rattle.odd_reader.specs.Spelled.{Begins, IsDocument, Spells, IsWholeOpening, NoneFits, DepthPlace, IsNotXml}
+use Rattle.odd_tokens.specs.Tokens.{Token, token_written, tokens_written, size_of}
 use Rattle.odd_reader.specs.declared.builder.Misfit.{Misfit}
 use Rattle.odd_reader.specs.declared.builder.Misfit.TheVariants as misfit
 use Rattle.odd_reader.specs.declared.tree.Tree.{Tree}

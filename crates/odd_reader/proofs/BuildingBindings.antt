@@ -7,7 +7,8 @@ use Rattle.std.proofs.lemmas.Map.Text.{is_eq-slice_cmp}
 use Rattle.odd_base.specs.Text.{text_cmp}
 use Rattle.odd_base.specs.declared.name.Bind.{Bind}
 use Rattle.odd_reader.specs.Building.{around}
-use Rattle.odd_reader.specs.Names.{is_same, last_bound}
+use Rattle.odd_tokens.specs.Same.{is_same}
+use Rattle.odd_reader.specs.Names.{last_bound}
 use Rattle.odd_reader.specs.declared.builder.Open.{Open}
 
 -- a look-up at a text compares as two texts do

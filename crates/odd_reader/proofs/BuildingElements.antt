@@ -8,8 +8,8 @@ use Rattle.odd_reader.specs.Building.{Gives, around, attribute_named, attributes
 use Rattle.odd_reader.specs.declared.builder.Misfit.{Misfit}
 use Rattle.odd_reader.specs.declared.builder.Misfit.TheVariants as misfit
 use Rattle.odd_reader.specs.declared.builder.Open.{Open}
-use Rattle.odd_reader.specs.declared.token.WrittenAttr.{WrittenAttr}
-use Rattle.odd_reader.specs.declared.token.WrittenTag.{WrittenTag}
+use Rattle.odd_tokens.specs.declared.token.WrittenAttr.{WrittenAttr}
+use Rattle.odd_tokens.specs.declared.token.WrittenTag.{WrittenTag}
 use Rattle.odd_reader.specs.declared.tree.Attr.{Attr}
 
 abbrev joined : Option (List Attr) → Option (List Attr) → Option (List Attr)

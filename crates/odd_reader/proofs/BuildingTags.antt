@@ -4,7 +4,7 @@ use Rattle.std.specs.Prelude.{Some, None}
 use Rattle.std.proofs.lemmas.List.{append-nil, append_assoc}
 use Rattle.odd_base.specs.declared.name.Bind.{Bind}
 use Rattle.odd_reader.specs.Building.{bind_made, binds_made, plain_made, prefix_declared, unless_declared}
-use Rattle.odd_reader.specs.declared.token.WrittenAttr.{WrittenAttr}
+use Rattle.odd_tokens.specs.declared.token.WrittenAttr.{WrittenAttr}
 
 binds_append : (some more : List WrittenAttr) → binds_made (some ++ more) ≡ binds_made some ++ binds_made more
 binds_append [] more = refl

@@ -11,7 +11,7 @@ use Rattle.std.proofs.lemmas.List.Sorted.{IsPermutation-sym}
 use Rattle.std.proofs.lemmas.Map.Keys.{IsDistinct-IsPermutation, IsDistinct-cons, IsDistinct-from_sorted, IsDistinct-head, IsDistinct-tail, apart_from_distinct}
 use Rattle.std.proofs.lemmas.Bool.{or_parts}
 use Rattle.odd_reader.specs.Building.{some_twice}
-use Rattle.odd_reader.specs.Names.{is_same}
+use Rattle.odd_tokens.specs.Same.{is_same}
 
 none_passes : {A : Type 0} (test : A → Bool) (xs : List A) → AllByRecursion (λ x. test x ≡ false) xs → list_any test xs ≡ false
 none_passes test [] h = refl

@@ -3,15 +3,16 @@ use Rattle.std.proofs.Common.{◌≡◌, ⊎_elim, ℕ, ◌+◌, ◌<◌, ◌≤
 use Rattle.std.specs.Prelude.{Some, None, Result, Ok, Err, encode_utf8}
 use Rattle.odd_reader.specs.Building.{Kept, build}
 use Rattle.odd_reader.specs.Fitting.{IsBalanced, AreOpen, none, more, Fits, is_start_or_empty}
-use Rattle.odd_reader.specs.Lexing.{Lexed, Taken, next}
+use Rattle.odd_tokens.specs.Lexing.{Lexed, Taken, next}
 use Rattle.odd_reader.specs.Reading.{Read, read_character, with_kept, with_lexed}
-use Rattle.odd_reader.specs.Spelled.{NoneTooDeep, opening_written, deepest}
-use Rattle.odd_reader.specs.Tokens.{Tag, Token, start_tag, token_written, tokens_written, size_of}
+use Rattle.odd_tokens.specs.Openings.{opening_written}
+use Rattle.odd_reader.specs.Spelled.{NoneTooDeep, deepest}
+use Rattle.odd_tokens.specs.Tokens.{Tag, Token, start_tag, token_written, tokens_written, size_of}
 use Rattle.odd_reader.specs.declared.builder.Misfit.{Misfit}
 use Rattle.odd_reader.specs.declared.builder.Misfit.TheVariants as misfit
-use Rattle.odd_reader.specs.declared.token.Token.{Token as Made}
-use Rattle.odd_reader.proofs.InToken.{InToken, token_alone, token_ends}
-use Rattle.odd_reader.proofs.Lexes.{IsIdle, IsRead, IsDeclared}
+use Rattle.odd_tokens.specs.declared.token.Token.{Token as Made}
+use Rattle.odd_tokens.proofs.InToken.{InToken, token_alone, token_ends}
+use Rattle.odd_tokens.proofs.Lexes.{IsIdle, IsRead, IsDeclared}
 use Rattle.odd_reader.proofs.Standing.{IsStanding}
 use Rattle.odd_reader.proofs.Stands.{Stands, too_deep_fits}
 

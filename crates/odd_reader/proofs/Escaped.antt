@@ -8,16 +8,17 @@ use Rattle.std.specs.Str.{encode_utf8_all}
 use Rattle.odd_reader.specs.declared.tree.Attr.{Attr}
 use Rattle.odd_reader.specs.declared.tree.Node.{Node, Text}
 use Rattle.odd_reader.specs.declared.tree.Tree.{Tree, roll-Tree}
-use Rattle.odd_reader.specs.Characters.{is_char, IsLegal}
-use Rattle.odd_reader.specs.Tokens.{Tag, Token, start_tag, empty_tag, end_tag, IsTag, value_written, tokens_written}
+use Rattle.odd_tokens.specs.Characters.{is_char, IsLegal}
+use Rattle.odd_tokens.specs.Tokens.{Tag, Token, start_tag, empty_tag, end_tag, IsTag, value_written, tokens_written}
 use Rattle.odd_reader.specs.Names.{IsBinding, NamesFit}
 use Rattle.odd_reader.specs.Fitting.{is_tag, none, nothing}
 use Rattle.odd_reader.specs.Trees.{HasTag, IsElement, empty, full}
-use Rattle.odd_reader.specs.Spelled.{Opening, Spells}
+use Rattle.odd_tokens.specs.Openings.{Opening}
+use Rattle.odd_reader.specs.Spelled.{Spells}
 use Rattle.odd_reader.specs.Escaping.{IsTextOf, IsValueOf}
 use Rattle.odd_reader.specs.Markup.{Pair, escaped_text, escaped_value}
-use Rattle.odd_reader.proofs.Ascii.{ascii_codes, ascii_ncname}
-use Rattle.odd_reader.proofs.Distinct.{none_twice}
+use Rattle.odd_tokens.proofs.Ascii.{ascii_codes, ascii_ncname}
+use Rattle.odd_tokens.proofs.Distinct.{none_twice}
 use Rattle.odd_reader.proofs.Fits.{Outside, FitAfter, inside_after, tag_opened, start_fits, empty_fits, end_fits, fit_append, all_fit}
 use Rattle.odd_reader.proofs.PrintedSpelledCharacters.{value_piece, text_token}
 use Rattle.odd_reader.proofs.PrintedSpelledTags.{IsCharAttribute, printed_is_tag, value_is_read, value_is_written}

@@ -5,17 +5,18 @@ use Rattle.std.proofs.lemmas.Str.{encode_same, length-le-encodes}
 use Rattle.std.specs.Char.{IsScalar}
 use Rattle.std.specs.Prelude.{None, Ok, Err, encode_utf8}
 use Rattle.std.specs.Str.{encode_utf8_all}
-use Rattle.odd_reader.specs.Characters.{is_char}
-use Rattle.odd_reader.specs.Lexing.{Taken, next_in}
+use Rattle.odd_tokens.specs.Characters.{is_char}
+use Rattle.odd_tokens.specs.Lexing.{Taken, next_in}
 use Rattle.odd_reader.specs.declared.builder.Misfit.TheVariants as misfit
 use Rattle.odd_reader.specs.declared.tree.Tree.{Tree}
 use Rattle.odd_reader.specs.Reading.{Read, read_character, read_from, then_read, with_lexed, place_of, IsFinished}
-use Rattle.odd_reader.specs.Spelled.{GivesTree, DepthPlace, IsNotXml, opening_written}
-use Rattle.odd_reader.specs.Tokens.{token_written, size_of}
+use Rattle.odd_tokens.specs.Openings.{opening_written}
+use Rattle.odd_reader.specs.Spelled.{GivesTree, DepthPlace, IsNotXml}
+use Rattle.odd_tokens.specs.Tokens.{token_written, size_of}
 use Rattle.std.proofs.lemmas.List.{nil_from_length}
-use Rattle.odd_reader.proofs.OneMore.{encoded_more}
+use Rattle.odd_tokens.proofs.OneMore.{encoded_more}
 use Rattle.odd_reader.proofs.Beyond.{NoneRead, AllMisplaced, left_over, beginning, placed_so, opened_so, not_deep_so, fault_so}
-use Rattle.odd_reader.proofs.Characters.{char_scalar}
+use Rattle.odd_tokens.proofs.Characters.{char_scalar}
 use Rattle.odd_reader.proofs.DeepTags.{deep_token, not_too_many}
 use Rattle.odd_reader.proofs.Places.{fault_comes_later}
 use Rattle.odd_reader.proofs.ReadTo.{IsReadTo}

@@ -2,7 +2,7 @@
 use Rattle.std.proofs.Common.{◌≡◌, Bool, true, false, List, [], ◌∷◌, ◌++◌, sym, refl, ap, ◌∙◌, append_assoc, append-nil, subst}
 use Rattle.std.specs.List.{list_any}
 use Rattle.odd_base.specs.declared.name.Bind.{Bind}
-use Rattle.odd_reader.specs.Tokens.{Tag, Token, start_tag, empty_tag, end_tag, token_written, tokens_written, IsTag}
+use Rattle.odd_tokens.specs.Tokens.{Tag, Token, start_tag, empty_tag, end_tag, token_written, tokens_written, IsTag}
 use Rattle.odd_reader.specs.Names.{binds_of, NamesFit}
 use Rattle.odd_reader.specs.Fitting.{is_start_or_empty, IsBalanced, nothing, piece, element, AreOpen, none, more, open_binds, innermost, Fits, AllFit}
 

@@ -9,8 +9,9 @@ use Rattle.odd_reader.specs.Fitting as fitting
 use Rattle.odd_reader.specs.Formed.{IsFormed, AreFormed, AreApart, IsFormedTag}
 use Rattle.odd_reader.specs.Formed as formed
 use Rattle.odd_reader.specs.Names.{binds_of}
-use Rattle.odd_reader.specs.Spelled.{Spells, opening_written}
-use Rattle.odd_reader.specs.Tokens.{Tag, Token, start_tag, end_tag, tokens_written, size_of}
+use Rattle.odd_tokens.specs.Openings.{opening_written}
+use Rattle.odd_reader.specs.Spelled.{Spells}
+use Rattle.odd_tokens.specs.Tokens.{Tag, Token, start_tag, end_tag, tokens_written, size_of}
 use Rattle.odd_reader.specs.Trees.{HasTag, IsElement, IsContent, token_read}
 use Rattle.odd_reader.specs.Trees as trees
 use Rattle.odd_reader.proofs.Fits.{FitAfter, open_after, opened, binds_opened}

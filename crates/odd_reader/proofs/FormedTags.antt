@@ -8,12 +8,13 @@ use Rattle.odd_base.specs.declared.name.Bind.{Bind}
 use Rattle.odd_base.specs.declared.name.Name.{Name}
 use Rattle.odd_reader.specs.declared.tree.Attr.{Attr}
 use Rattle.odd_reader.specs.declared.tree.Tree.{Tree, out-Tree}
-use Rattle.odd_reader.specs.Characters.{IsNCName, IsLegal}
+use Rattle.odd_tokens.specs.Characters.{IsNCName, IsLegal}
 use Rattle.odd_reader.specs.Formed.{IsFormedTag}
-use Rattle.odd_reader.specs.Names.{declared_prefix, binds_of, plain_attributes, element_name, attribute_name, attribute_read, value_read, IsBinding, NamesFit}
-use Rattle.odd_reader.specs.Tokens.{QName, Attribute, Tag, IsQName, IsAttribute, IsTag, NoneTwice}
+use Rattle.odd_tokens.specs.Values.{value_read}
+use Rattle.odd_reader.specs.Names.{declared_prefix, binds_of, plain_attributes, element_name, attribute_name, attribute_read, IsBinding, NamesFit}
+use Rattle.odd_tokens.specs.Tokens.{QName, Attribute, Tag, IsQName, IsAttribute, IsTag, NoneTwice}
 use Rattle.odd_reader.specs.Trees.{HasTag}
-use Rattle.odd_reader.proofs.Distinct.{distinct, distinct_made, none_twice}
+use Rattle.odd_tokens.proofs.Distinct.{distinct, distinct_made, none_twice}
 use Rattle.odd_reader.proofs.FormedTexts.{value_legal}
 
 -- the name in a namespace

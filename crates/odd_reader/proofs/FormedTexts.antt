@@ -7,12 +7,13 @@ use Rattle.std.proofs.lemmas.List.Elements.{All-head, All-tail}
 use Rattle.std.proofs.lemmas.List.Folds.{list_all-append}
 use Rattle.std.proofs.lemmas.Str.{encodes-append, length-le-encodes}
 use Rattle.odd_reader.specs.declared.tree.Node.{Node, Text}
-use Rattle.odd_reader.specs.Characters.{is_char, is_space, IsLegal}
+use Rattle.odd_tokens.specs.Characters.{is_char, is_space, IsLegal}
 use Rattle.odd_reader.specs.Formed.{AreApart, AreFormed, text}
-use Rattle.odd_reader.specs.Names.{value_read}
-use Rattle.odd_reader.specs.Tokens.{Reference, lt, gt, amp, apos, quot, decimal, hexadecimal, Piece, itself, reference, IsPieceIn}
-use Rattle.odd_reader.specs.Tokens.{Token, character, referred, cdata, character_of, IsReference, IsToken}
-use Rattle.odd_reader.specs.Trees.{lines_read, token_read, with_text}
+use Rattle.odd_tokens.specs.Values.{value_read}
+use Rattle.odd_tokens.specs.Tokens.{Reference, lt, gt, amp, apos, quot, decimal, hexadecimal, Piece, itself, reference, IsPieceIn}
+use Rattle.odd_tokens.specs.Tokens.{Token, character, referred, cdata, character_of, IsReference, IsToken}
+use Rattle.odd_tokens.specs.Lines.{lines_read}
+use Rattle.odd_reader.specs.Trees.{token_read, with_text}
 
 abbrev AreLegal : List ℕ → Type 0
 AreLegal cs = list_all is_char cs ≡ true

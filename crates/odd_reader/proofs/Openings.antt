@@ -6,17 +6,17 @@ use Rattle.std.proofs.lemmas.List.Elements.{All-nil, All-cons}
 use Rattle.std.proofs.lemmas.List.Folds.{list_all-append}
 use Rattle.std.specs.Cmp.Lexicographic.{same_text}
 use Rattle.std.specs.List.{list_all}
-use Rattle.odd_reader.specs.Characters.{is_space, is_name_char, is_name_start, is_white}
+use Rattle.odd_tokens.specs.Characters.{is_space, is_name_char, is_name_start, is_white}
 use Rattle.odd_reader.specs.Fitting.{AreOpen, none, more, Fits, FitsIn, AllFit}
-use Rattle.odd_reader.specs.Names.{is_same}
-use Rattle.odd_reader.specs.Spelled.{Setting, setting_written, IsSetting, Declaration, declaration_written, IsDeclaration, Opening, opening_written, IsOpening}
-use Rattle.odd_reader.specs.Tokens.{Tag, Token, character, instruction, start_tag, IsToken, token_written, tokens_written}
-use Rattle.odd_reader.proofs.Ascii.{lowered}
-use Rattle.odd_reader.proofs.Fronts.{Stops, same_front, all_weaker}
-use Rattle.odd_reader.proofs.NamesLexed.{at_space, ncname_chars, space_ends}
-use Rattle.odd_reader.proofs.AttributesLexed.{at_quote}
-use Rattle.odd_reader.proofs.TextsLexed.{same_at}
-use Rattle.odd_reader.proofs.Lexing.{kind_of, kind-written, set_off_stops}
+use Rattle.odd_tokens.specs.Same.{is_same}
+use Rattle.odd_tokens.specs.Openings.{Setting, setting_written, IsSetting, Declaration, declaration_written, IsDeclaration, Opening, opening_written, IsOpening}
+use Rattle.odd_tokens.specs.Tokens.{Tag, Token, character, instruction, start_tag, IsToken, token_written, tokens_written}
+use Rattle.odd_tokens.proofs.Ascii.{lowered}
+use Rattle.odd_tokens.proofs.Fronts.{Stops, same_front, all_weaker}
+use Rattle.odd_tokens.proofs.NamesLexed.{at_space, ncname_chars, space_ends}
+use Rattle.odd_tokens.proofs.AttributesLexed.{at_quote}
+use Rattle.odd_tokens.proofs.TextsLexed.{same_at}
+use Rattle.odd_tokens.proofs.Lexing.{kind_of, kind-written, set_off_stops}
 
 -- tokens that fit are tokens
 tokens_each : (ts : List Token) → ((before after : List Token) (t : Token) → ts ≡ before ++ t ∷ after → IsToken t) → All IsToken ts

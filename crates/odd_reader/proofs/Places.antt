@@ -5,10 +5,11 @@ use Rattle.std.proofs.lemmas.List.{append_cancel_left}
 use Rattle.std.proofs.lemmas.List.Elements.{All-head, All-tail}
 use Rattle.std.proofs.lemmas.Str.{encode_same, encodes-append, length-le-encodes}
 use Rattle.std.specs.Str.{encode_utf8_all}
-use Rattle.odd_reader.specs.Tokens.{Token, IsToken, token_written, tokens_written, size_of}
+use Rattle.odd_tokens.specs.Tokens.{Token, IsToken, token_written, tokens_written, size_of}
 use Rattle.odd_reader.specs.Fitting.{is_start_or_empty, Fits, AllFit}
-use Rattle.odd_reader.specs.Spelled.{opening_written, Begins, IsWholeOpening, NoneFits, FaultPlace, DepthPlace, deepest}
-use Rattle.odd_reader.proofs.Lexing.{one_token, something_written}
+use Rattle.odd_tokens.specs.Openings.{opening_written}
+use Rattle.odd_reader.specs.Spelled.{Begins, IsWholeOpening, NoneFits, FaultPlace, DepthPlace, deepest}
+use Rattle.odd_tokens.proofs.Lexing.{one_token, something_written}
 use Rattle.odd_reader.proofs.Openings.{fitting_tokens}
 use Rattle.odd_reader.proofs.Sizes.{bytes_of}
 

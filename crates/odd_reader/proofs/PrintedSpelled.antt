@@ -4,13 +4,14 @@ use Rattle.std.specs.Prelude.{Some, None}
 use Rattle.std.proofs.lemmas.Str.{encodes-append}
 use Rattle.std.specs.Str.{encode_utf8_all}
 use Rattle.odd_reader.specs.declared.tree.Tree.{Tree}
-use Rattle.odd_reader.specs.Tokens.{Token, tokens_written, size_of}
+use Rattle.odd_tokens.specs.Tokens.{Token, tokens_written, size_of}
 use Rattle.odd_reader.specs.Fitting.{is_tag, AreOpen, none, nothing, piece}
-use Rattle.odd_reader.specs.Spelled.{Setting, IsDeclaration, Opening, opening_written, IsDocument, Spells}
+use Rattle.odd_tokens.specs.Openings.{Setting, IsDeclaration, Opening, opening_written}
+use Rattle.odd_reader.specs.Spelled.{IsDocument, Spells}
 use Rattle.odd_reader.specs.Markup.{Pair, Markups, element, printed, file_printed}
 use Rattle.odd_reader.proofs.Sizes.{bytes_of, bytes-append}
 use Rattle.odd_reader.proofs.SpacesFit.{outer_feed_fits}
-use Rattle.odd_reader.proofs.Ascii.{ascii_codes}
+use Rattle.odd_tokens.proofs.Ascii.{ascii_codes}
 use Rattle.odd_reader.proofs.Fits.{FitAfter, open_after, fit_append, all_fit}
 use Rattle.odd_reader.proofs.PrintedTrees.{IsPlainTag, ArePlain, IsNamespace, Shows}
 use Rattle.odd_reader.proofs.PrintedSpelledNames.{root_tag_spelled}

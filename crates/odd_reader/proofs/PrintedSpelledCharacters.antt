@@ -5,9 +5,9 @@ use Rattle.std.proofs.lemmas.Bool.{cases_lt}
 use Rattle.std.proofs.lemmas.Bool.Decides.{nat_tests, eqb_tells}
 use Rattle.std.proofs.lemmas.Str.{encode_ascii}
 use Rattle.std.specs.Str.{encode_utf8_all}
-use Rattle.odd_reader.specs.Characters.{is_char, is_space}
-use Rattle.odd_reader.specs.Tokens.{amp, lt, gt, quot, decimal, Piece, itself, reference, Token, character, referred, IsPieceIn, value_written, token_written}
-use Rattle.odd_reader.specs.Names.{value_read}
+use Rattle.odd_tokens.specs.Characters.{is_char, is_space}
+use Rattle.odd_tokens.specs.Tokens.{amp, lt, gt, quot, decimal, Piece, itself, reference, Token, character, referred, IsPieceIn, value_written, token_written}
+use Rattle.odd_tokens.specs.Values.{value_read}
 use Rattle.odd_reader.specs.Fitting.{is_tag, is_start_or_end}
 use Rattle.odd_reader.specs.Trees.{token_read}
 use Rattle.odd_reader.specs.Markup.{escaped_text, escaped_value}

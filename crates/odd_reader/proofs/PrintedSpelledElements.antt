@@ -5,14 +5,14 @@ use Rattle.std.specs.Str.{encode_utf8_all}
 use Rattle.odd_base.specs.declared.name.Bind.{Bind}
 use Rattle.odd_reader.specs.declared.tree.Tree.{Tree, roll-Tree, out-Tree}
 use Rattle.odd_reader.specs.declared.tree.Node.{Node}
-use Rattle.odd_reader.specs.Tokens.{Token, start_tag, empty_tag, end_tag, name_written, tag_written, token_written, tokens_written, size_of}
+use Rattle.odd_tokens.specs.Tokens.{Token, start_tag, empty_tag, end_tag, name_written, tag_written, token_written, tokens_written, size_of}
 use Rattle.odd_reader.specs.Names.{binds_of}
 use Rattle.odd_reader.specs.Fitting.{IsBalanced}
 use Rattle.odd_reader.specs.Fitting as Fitting
 use Rattle.odd_reader.specs.Trees.{HasTag, IsElement, IsContent, empty, full}
 use Rattle.odd_reader.specs.Markup.{Pair, escaped_text, attributes_printed}
-use Rattle.odd_reader.specs.Characters.{IsLegal}
-use Rattle.odd_reader.proofs.Ascii.{ascii_codes}
+use Rattle.odd_tokens.specs.Characters.{IsLegal}
+use Rattle.odd_tokens.proofs.Ascii.{ascii_codes}
 use Rattle.odd_reader.proofs.Fits.{Inside, around, Ready, FitAfter, inside_after, tag_opened, start_fits, empty_fits, end_fits, fit_append}
 use Rattle.odd_reader.proofs.PrintedTrees.{attr_of, HasHead, text_nodes}
 use Rattle.odd_reader.proofs.PrintedSpelledNames.{binds_to, TagSpelled}

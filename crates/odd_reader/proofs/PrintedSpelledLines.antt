@@ -3,14 +3,14 @@ use Rattle.std.proofs.Common.{◌≡◌, ℕ, ◌+◌, Bool, false, List, [], �
 use Rattle.std.proofs.lemmas.Str.{encodes-append}
 use Rattle.std.specs.Str.{encode_utf8_all}
 use Rattle.odd_reader.specs.declared.tree.Node.{Node, Element, Text}
-use Rattle.odd_reader.specs.Tokens.{Token, character, token_written, tokens_written, size_of}
+use Rattle.odd_tokens.specs.Tokens.{Token, character, token_written, tokens_written, size_of}
 use Rattle.odd_reader.specs.Fitting as Fitting
 use Rattle.odd_reader.specs.Trees.{with_text, child}
 use Rattle.odd_reader.specs.Trees as Trees
 use Rattle.odd_reader.specs.Markup.{Pair, Markup, element, line, Markups, none, more, escaped_text, attributes_printed, printed, all_printed}
 use Rattle.odd_reader.proofs.Sizes.{bytes_of, bytes-append}
 use Rattle.odd_reader.proofs.SpacesFit.{feed_fits}
-use Rattle.odd_reader.proofs.Ascii.{ascii_codes}
+use Rattle.odd_tokens.proofs.Ascii.{ascii_codes}
 use Rattle.odd_reader.proofs.Fits.{balanced_append, inside_after, fit_append}
 use Rattle.odd_reader.proofs.PrintedTrees.{IsPlain, ArePlain, line_break, text_nodes, Shows, AreLines}
 use Rattle.odd_reader.proofs.PrintedSpelledNames.{binds_to, TagSpelled, plain_tag_spelled}

@@ -5,11 +5,11 @@ use Rattle.std.specs.Cmp.Lexicographic.{other_text}
 use Rattle.std.proofs.lemmas.List.Elements.{All-nil, All-cons, All-head, All-tail}
 use Rattle.std.specs.Str.{encode_utf8_all}
 use Rattle.odd_base.specs.declared.name.Bind.{Bind}
-use Rattle.odd_reader.specs.Tokens.{Tag, IsTag, name_written, tag_written}
+use Rattle.odd_tokens.specs.Tokens.{Tag, IsTag, name_written, tag_written}
 use Rattle.odd_reader.specs.Names.{binds_of, plain_attributes, element_name, attribute_read, IsBinding, NamesFit}
 use Rattle.odd_reader.specs.Markup.{Pair, attributes_printed}
-use Rattle.odd_reader.proofs.Distinct.{Lacks, Distinct, distinct, none_twice, distinct_made}
-use Rattle.odd_reader.proofs.Ascii.{ascii_codes, ascii_ncname}
+use Rattle.odd_tokens.proofs.Distinct.{Lacks, Distinct, distinct, none_twice, distinct_made}
+use Rattle.odd_tokens.proofs.Ascii.{ascii_codes, ascii_ncname}
 use Rattle.odd_reader.proofs.Fits.{around}
 use Rattle.odd_reader.proofs.PrintedTrees.{IsPlainAttribute, IsPlainTag, IsNamespace, attr_of}
 use Rattle.odd_reader.proofs.PrintedSpelledCharacters.{value_piece}

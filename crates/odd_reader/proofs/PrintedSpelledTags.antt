@@ -7,11 +7,11 @@ use Rattle.std.proofs.lemmas.Str.{encodes-append}
 use Rattle.std.proofs.Math.Utf8.{encode}
 use Rattle.std.specs.List.{list_all}
 use Rattle.std.specs.Str.{encode_utf8_all}
-use Rattle.odd_reader.specs.Characters.{is_char, is_ncname}
-use Rattle.odd_reader.specs.Tokens.{IsPieceIn, IsAttribute, IsTag, NoneTwice, value_written, attributes_written, tag_written}
-use Rattle.odd_reader.specs.Names.{value_read}
+use Rattle.odd_tokens.specs.Characters.{is_char, is_ncname}
+use Rattle.odd_tokens.specs.Tokens.{IsPieceIn, IsAttribute, IsTag, NoneTwice, value_written, attributes_written, tag_written}
+use Rattle.odd_tokens.specs.Values.{value_read}
 use Rattle.odd_reader.specs.Markup.{Pair, escaped_value, escaped_value_char, attributes_printed}
-use Rattle.odd_reader.proofs.Ascii.{ascii_codes}
+use Rattle.odd_tokens.proofs.Ascii.{ascii_codes}
 use Rattle.odd_reader.proofs.PrintedSpelledCharacters.{value_piece, piece_written, piece_is_read, piece_is_piece}
 use Rattle.odd_reader.proofs.Unprefixed.{attribute_with, tag_with, joined, names_are}
 

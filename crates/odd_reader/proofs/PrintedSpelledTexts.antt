@@ -7,8 +7,8 @@ use Rattle.std.specs.List.{list_all}
 use Rattle.std.specs.Str.{encode_utf8_all}
 use Rattle.odd_base.specs.declared.name.Bind.{Bind}
 use Rattle.odd_reader.specs.declared.tree.Node.{Text}
-use Rattle.odd_reader.specs.Characters.{is_char}
-use Rattle.odd_reader.specs.Tokens.{Token, tokens_written}
+use Rattle.odd_tokens.specs.Characters.{is_char}
+use Rattle.odd_tokens.specs.Tokens.{Token, tokens_written}
 use Rattle.odd_reader.specs.Fitting.{IsBalanced, nothing, piece, Fits}
 use Rattle.odd_reader.specs.Trees.{with_text, IsContent}
 use Rattle.odd_reader.specs.Trees as Trees

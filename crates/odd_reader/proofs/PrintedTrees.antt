@@ -3,8 +3,8 @@ use Rattle.std.specs.Prelude.{◌≡◌, ◌≢◌, ℕ, List, [], ◌∷◌, ma
 use Rattle.odd_reader.specs.declared.tree.Attr.{Attr}
 use Rattle.odd_reader.specs.declared.tree.Tree.{Tree, out-Tree}
 use Rattle.odd_reader.specs.declared.tree.Node.{Node, Element, Text}
-use Rattle.odd_reader.specs.Characters.{IsNCName, IsLegal}
-use Rattle.odd_reader.specs.Tokens.{NoneTwice}
+use Rattle.odd_tokens.specs.Characters.{IsNCName, IsLegal}
+use Rattle.odd_tokens.specs.Tokens.{NoneTwice}
 use Rattle.odd_reader.specs.Names.{xml_namespace, xmlns_namespace}
 use Rattle.odd_reader.specs.Markup.{Pair, Markup, element, line, Markups, none, more}
 

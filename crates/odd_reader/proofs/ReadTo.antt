@@ -8,12 +8,12 @@ use Rattle.std.specs.Str.{encode_utf8_all, IsUtf8}
 use Rattle.std.proofs.lemmas.List.{nil_from_length}
 use Rattle.odd_reader.specs.declared.builder.Misfit.{Misfit}
 use Rattle.odd_reader.specs.declared.tree.Tree.{Tree}
-use Rattle.odd_reader.specs.Characters.{is_char}
-use Rattle.odd_reader.specs.Lexing.{Taken, next_in}
+use Rattle.odd_tokens.specs.Characters.{is_char}
+use Rattle.odd_tokens.specs.Lexing.{Taken, next_in}
 use Rattle.odd_reader.specs.Reading.{Read, nothing_read, read_character, read_from, then_read, IsFinished}
 use Rattle.odd_reader.specs.Spelled.{GivesTree}
-use Rattle.odd_reader.proofs.Characters.{char_scalar}
-use Rattle.odd_reader.proofs.OneMore.{encoded_more}
+use Rattle.odd_tokens.proofs.Characters.{char_scalar}
+use Rattle.odd_tokens.proofs.OneMore.{encoded_more}
 use Rattle.odd_reader.proofs.ReadTrees.{gives_read, read_gives}
 use Rattle.odd_reader.proofs.Taking.{read_append, then_nothing}
 use Rattle.odd_reader.proofs.Telling.{character_taken, read_then, one_ok}

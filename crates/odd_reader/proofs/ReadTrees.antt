@@ -7,11 +7,12 @@ use Rattle.std.specs.Str.{encode_utf8_all}
 use Rattle.odd_reader.specs.declared.builder.Misfit.{Misfit}
 use Rattle.odd_reader.specs.declared.tree.Tree.{Tree}
 use Rattle.odd_reader.specs.Reading.{Read, nothing_read, read_from, IsFinished}
-use Rattle.odd_reader.specs.Spelled.{Spells, GivesTree, opening_written}
-use Rattle.odd_reader.specs.Tokens.{tokens_written, size_of}
-use Rattle.odd_reader.proofs.Ascii.{ascii_codes}
+use Rattle.odd_tokens.specs.Openings.{opening_written}
+use Rattle.odd_reader.specs.Spelled.{Spells, GivesTree}
+use Rattle.odd_tokens.specs.Tokens.{tokens_written, size_of}
+use Rattle.odd_tokens.proofs.Ascii.{ascii_codes}
 use Rattle.odd_reader.proofs.Fits.{all_fit}
-use Rattle.odd_reader.proofs.InToken.{token_unfinished}
+use Rattle.odd_tokens.proofs.InToken.{token_unfinished}
 use Rattle.odd_reader.proofs.Spelling.{one_tree}
 use Rattle.odd_reader.proofs.Stands.{stands_closed, document_stands}
 use Rattle.odd_reader.proofs.Taking.{file_taken}

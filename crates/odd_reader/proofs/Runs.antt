@@ -3,8 +3,9 @@ use Rattle.std.proofs.Common.{◌≡◌, ◌≢◌, ℕ, true, List, [], ◌∷�
 use Rattle.std.specs.Prelude.{Result, Ok, Err}
 use Rattle.odd_reader.specs.Fitting.{AreOpen, AllFit, Fits, is_start_or_empty}
 use Rattle.odd_reader.specs.Reading.{Read, nothing_read, read_from, then_read}
-use Rattle.odd_reader.specs.Spelled.{Opening, IsOpening, NoneTooDeep, opening_written, deepest}
-use Rattle.odd_reader.specs.Tokens.{Tag, Token, token_written, tokens_written, size_of}
+use Rattle.odd_tokens.specs.Openings.{Opening, IsOpening, opening_written}
+use Rattle.odd_reader.specs.Spelled.{NoneTooDeep, deepest}
+use Rattle.odd_tokens.specs.Tokens.{Tag, Token, token_written, tokens_written, size_of}
 use Rattle.odd_reader.specs.declared.builder.Misfit.{Misfit}
 use Rattle.odd_reader.specs.declared.builder.Misfit.TheVariants as misfit
 use Rattle.odd_reader.proofs.Depth.{one_depth_open}

@@ -3,7 +3,7 @@ use Rattle.std.proofs.Common.{◌≡◌, ℕ, ◌+◌, List, [], ◌∷◌, ◌+
 use Rattle.std.proofs.lemmas.Str.{encodes-append}
 use Rattle.std.specs.Prelude.{encode_utf8}
 use Rattle.std.specs.Str.{encode_utf8_all}
-use Rattle.odd_reader.specs.Tokens.{Token, token_written, tokens_written, size_of}
+use Rattle.odd_tokens.specs.Tokens.{Token, token_written, tokens_written, size_of}
 use Rattle.odd_reader.proofs.Fits.{written-append}
 
 -- texts

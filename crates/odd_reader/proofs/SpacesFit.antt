@@ -1,8 +1,8 @@
 -- A line feed fits wherever a token may stand.
 use Rattle.std.proofs.Common.{List, [], ◌∷◌, refl}
 use Rattle.odd_base.specs.declared.name.Bind.{Bind}
-use Rattle.odd_reader.specs.Characters.{is_char}
-use Rattle.odd_reader.specs.Tokens.{Token, character, IsToken}
+use Rattle.odd_tokens.specs.Characters.{is_char}
+use Rattle.odd_tokens.specs.Tokens.{Token, character, IsToken}
 use Rattle.odd_reader.specs.Fitting.{AreOpen, Fits}
 use Rattle.odd_reader.proofs.Fits.{Inside}
 

@@ -2,9 +2,10 @@
 use Rattle.std.proofs.Common.{◌≡◌, ℕ, List, [], ◌++◌, sym, subst₂, ◌∙◌, append-nil}
 use Rattle.std.proofs.lemmas.Str.{encodes_same}
 use Rattle.odd_reader.specs.declared.tree.Tree.{Tree}
-use Rattle.odd_reader.specs.Spelled.{Begins, IsDocument, Spells, opening_written}
-use Rattle.odd_reader.specs.Tokens.{Token, tokens_written, size_of}
-use Rattle.odd_reader.proofs.Lexing.{same_tokens}
+use Rattle.odd_tokens.specs.Openings.{opening_written}
+use Rattle.odd_reader.specs.Spelled.{Begins, IsDocument, Spells}
+use Rattle.odd_tokens.specs.Tokens.{Token, tokens_written, size_of}
+use Rattle.odd_tokens.proofs.Lexing.{same_tokens}
 use Rattle.odd_reader.proofs.Openings.{fitting_tokens, one_opening}
 use Rattle.odd_reader.proofs.Readings.{one_document}
 

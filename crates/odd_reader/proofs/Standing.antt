@@ -3,15 +3,16 @@ use Rattle.std.proofs.Common.{◌≡◌, ◌⊎◌, ◌≤◌, ℕ, ◌+◌, Boo
 use Rattle.std.specs.Prelude.{Ok}
 use Rattle.odd_reader.specs.Building.{build}
 use Rattle.odd_reader.specs.Fitting.{Fits}
-use Rattle.odd_reader.specs.Making.{token_made}
+use Rattle.odd_tokens.specs.Making.{token_made}
 use Rattle.odd_reader.specs.Reading.{Read, nothing_read, read_from, then_read, place_of}
-use Rattle.odd_reader.specs.Spelled.{Opening, IsOpening, NoneTooDeep, opening_written}
-use Rattle.odd_reader.specs.Tokens.{Token, token_written, tokens_written, size_of}
+use Rattle.odd_tokens.specs.Openings.{Opening, IsOpening, opening_written}
+use Rattle.odd_reader.specs.Spelled.{NoneTooDeep}
+use Rattle.odd_tokens.specs.Tokens.{Token, token_written, tokens_written, size_of}
 use Rattle.odd_reader.proofs.Sizes.{size_of_append}
 use Rattle.odd_reader.proofs.Depth.{none_deep}
 use Rattle.odd_reader.proofs.Fits.{FitAfter, all_fit}
-use Rattle.odd_reader.proofs.InToken.{InToken}
-use Rattle.odd_reader.proofs.Lexes.{IsIdle}
+use Rattle.odd_tokens.proofs.InToken.{InToken}
+use Rattle.odd_tokens.proofs.Lexes.{IsIdle}
 use Rattle.odd_reader.proofs.Openings.{one_opening}
 use Rattle.odd_reader.proofs.Places.{some_length}
 use Rattle.odd_reader.proofs.Stands.{Stands}

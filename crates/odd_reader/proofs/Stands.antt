@@ -6,12 +6,12 @@ use Rattle.odd_reader.specs.declared.builder.Misfit.TheVariants as misfit
 use Rattle.odd_reader.specs.declared.builder.Open.{Open}
 use Rattle.odd_reader.specs.declared.tree.Tree.{Tree}
 use Rattle.odd_reader.specs.Building.{Kept, misplaced, begun, build, is_brackets, is_written_same, element_opened}
-use Rattle.odd_reader.specs.Characters.{is_space}
+use Rattle.odd_tokens.specs.Characters.{is_space}
 use Rattle.odd_reader.specs.Fitting.{is_start_or_empty, AreOpen, Fits}
-use Rattle.odd_reader.specs.Making.{name_made, tag_made, token_made}
+use Rattle.odd_tokens.specs.Making.{name_made, tag_made, token_made}
 use Rattle.odd_reader.specs.Spelled.{IsDocument, deepest}
-use Rattle.odd_reader.specs.Tokens.{Tag, Token, character, referred, cdata, comment, instruction, start_tag, empty_tag, end_tag, tokens_written, size_of}
-use Rattle.odd_reader.proofs.Lexes.{IsLexed}
+use Rattle.odd_tokens.specs.Tokens.{Tag, Token, character, referred, cdata, comment, instruction, start_tag, empty_tag, end_tag, tokens_written, size_of}
+use Rattle.odd_tokens.proofs.Lexes.{IsLexed}
 use Rattle.odd_reader.proofs.Sizes.{size}
 use Rattle.odd_reader.proofs.StandsFit.{some_element, fits_refused, other_refused, closed_refused}
 use Rattle.odd_reader.proofs.StandsLevels.{StandsIn, inside_open, inside_more}

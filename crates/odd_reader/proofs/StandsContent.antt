@@ -6,7 +6,7 @@ use Rattle.odd_base.specs.declared.name.Bind.{Bind}
 use Rattle.odd_reader.specs.declared.tree.Node.{Node, Element, Text}
 use Rattle.odd_reader.specs.declared.tree.Tree.{Tree}
 use Rattle.odd_reader.specs.Fitting.{is_tag, is_start_or_end, is_start_or_empty}
-use Rattle.odd_reader.specs.Tokens.{Token, character, token_written, size_of}
+use Rattle.odd_tokens.specs.Tokens.{Token, character, token_written, size_of}
 use Rattle.odd_reader.specs.Trees.{IsElement, IsContent, nothing, piece, child, token_read, with_text}
 use Rattle.odd_reader.proofs.PrintedTrees.{text_nodes}
 use Rattle.odd_reader.proofs.Readings.{element_begins}

@@ -6,14 +6,14 @@ use Rattle.std.proofs.lemmas.Bool.{false_from_ne_true, and_parts, and_from, or_p
 use Rattle.std.proofs.lemmas.List.Elements.{All-nil, All-cons, All-head, All-tail}
 use Rattle.std.proofs.lemmas.Str.{encodes_same}
 use Rattle.odd_base.specs.declared.name.Name.{Name}
-use Rattle.odd_reader.specs.declared.token.WrittenAttr.{WrittenAttr}
-use Rattle.odd_reader.specs.declared.token.WrittenName.{WrittenName}
+use Rattle.odd_tokens.specs.declared.token.WrittenAttr.{WrittenAttr}
+use Rattle.odd_tokens.specs.declared.token.WrittenName.{WrittenName}
 use Rattle.odd_reader.specs.Building.{some_twice, is_written_same, is_same_name}
-use Rattle.odd_reader.specs.Making.{name_made, attribute_made}
-use Rattle.odd_reader.specs.Names.{is_same}
-use Rattle.odd_reader.specs.Tokens.{QName, IsQName, Attribute, IsAttribute, NoneTwice, name_written}
-use Rattle.odd_reader.proofs.Distinct.{Lacks, Distinct, distinct, none_twice, distinct_made}
-use Rattle.odd_reader.proofs.NamesLexed.{one_name}
+use Rattle.odd_tokens.specs.Making.{name_made, attribute_made}
+use Rattle.odd_tokens.specs.Same.{is_same}
+use Rattle.odd_tokens.specs.Tokens.{QName, IsQName, Attribute, IsAttribute, NoneTwice, name_written}
+use Rattle.odd_tokens.proofs.Distinct.{Lacks, Distinct, distinct, none_twice, distinct_made}
+use Rattle.odd_tokens.proofs.NamesLexed.{one_name}
 use Rattle.odd_reader.proofs.StandsNames.{same_from}
 
 module _ {A : Type 0} (same : A → A → Bool) where

@@ -9,12 +9,12 @@ use Rattle.odd_reader.specs.declared.builder.Misfit.TheVariants as misfit
 use Rattle.odd_reader.specs.declared.builder.Open.{Open}
 use Rattle.odd_reader.specs.declared.tree.Tree.{Tree}
 use Rattle.odd_reader.specs.Building.{Kept, Built, misplaced, build, around, is_brackets, is_written_same, then_other}
-use Rattle.odd_reader.specs.Characters.{is_space}
+use Rattle.odd_tokens.specs.Characters.{is_space}
 use Rattle.odd_reader.specs.Fitting.{is_start_or_empty, Fits, FitsIn}
-use Rattle.odd_reader.specs.Making.{name_made, tag_made, token_made}
+use Rattle.odd_tokens.specs.Making.{name_made, tag_made, token_made}
 use Rattle.odd_reader.specs.Names.{NamesFit}
 use Rattle.odd_reader.specs.Spelled.{IsDocument, deepest}
-use Rattle.odd_reader.specs.Tokens.{QName, Tag, Token, character, referred, cdata, comment, instruction, start_tag, empty_tag, end_tag, IsTag}
+use Rattle.odd_tokens.specs.Tokens.{QName, Tag, Token, character, referred, cdata, comment, instruction, start_tag, empty_tag, end_tag, IsTag}
 use Rattle.odd_reader.proofs.Readings.{element_begins}
 use Rattle.odd_reader.proofs.StandsDistinct.{same_written, once_written}
 use Rattle.odd_reader.proofs.StandsLevels.{StandsIn, inside_open}

@@ -10,10 +10,10 @@ use Rattle.odd_reader.specs.declared.tree.Node.{Node, Element}
 use Rattle.odd_reader.specs.declared.tree.Tree.{Tree}
 use Rattle.odd_reader.specs.Building.{around, tree_of}
 use Rattle.odd_reader.specs.Fitting.{is_tag, is_start_or_end, is_start_or_empty, IsBalanced, AreOpen, none, open_binds, innermost}
-use Rattle.odd_reader.specs.Making.{name_made}
+use Rattle.odd_tokens.specs.Making.{name_made}
 use Rattle.odd_reader.specs.Names.{binds_of}
 use Rattle.odd_reader.specs.Spelled.{IsDocument}
-use Rattle.odd_reader.specs.Tokens.{QName, Tag, Token, start_tag, end_tag, token_written, size_of}
+use Rattle.odd_tokens.specs.Tokens.{QName, Tag, Token, start_tag, end_tag, token_written, size_of}
 use Rattle.odd_reader.specs.Trees as trees
 use Rattle.odd_reader.specs.Fitting as fitting
 use Rattle.odd_reader.specs.Trees.{IsElement, IsContent}

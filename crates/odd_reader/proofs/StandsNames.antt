@@ -11,12 +11,14 @@ use Rattle.std.proofs.lemmas.Str.{encodes_same}
 use Rattle.odd_base.specs.declared.name.Bind.{Bind}
 use Rattle.odd_base.specs.declared.name.Name.{Name}
 use Rattle.odd_reader.specs.declared.tree.Attr.{Attr}
-use Rattle.odd_reader.specs.declared.token.WrittenAttr.{WrittenAttr}
+use Rattle.odd_tokens.specs.declared.token.WrittenAttr.{WrittenAttr}
 use Rattle.odd_reader.specs.Building.{prefix_declared, binds_made, plain_made, may_bind, element_named, attribute_named, attributes_named}
-use Rattle.odd_reader.specs.Making.{name_made, attribute_made}
-use Rattle.odd_reader.specs.Names.{is_same, declared_prefix, binds_of, plain_attributes, element_name, attribute_name, attribute_read, value_read, IsBinding, xml_namespace, xmlns_namespace}
-use Rattle.odd_reader.specs.Tokens.{QName, Attribute}
-use Rattle.odd_reader.proofs.Ascii.{ascii_codes}
+use Rattle.odd_tokens.specs.Making.{name_made, attribute_made}
+use Rattle.odd_tokens.specs.Same.{is_same}
+use Rattle.odd_tokens.specs.Values.{value_read}
+use Rattle.odd_reader.specs.Names.{declared_prefix, binds_of, plain_attributes, element_name, attribute_name, attribute_read, IsBinding, xml_namespace, xmlns_namespace}
+use Rattle.odd_tokens.specs.Tokens.{QName, Attribute}
+use Rattle.odd_tokens.proofs.Ascii.{ascii_codes}
 use Rattle.odd_reader.proofs.Unprefixed.{not_same}
 
 pub same_from : (a b : List ℕ) → a ≡ b → is_same a b ≡ true

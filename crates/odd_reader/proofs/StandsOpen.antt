@@ -2,7 +2,7 @@
 use Rattle.std.proofs.Common.{◌≡◌, false, List, [], ◌∷◌, ◌++◌, reverse, refl, sym, ap, ◌∙◌, append_assoc, append-nil}
 use Rattle.std.proofs.lemmas.List.{reverse-reverse, reverse-append}
 use Rattle.odd_reader.specs.Fitting.{is_start_or_end, IsBalanced, nothing, piece, element, AreOpen, none, more}
-use Rattle.odd_reader.specs.Tokens.{Tag, Token, start_tag, end_tag}
+use Rattle.odd_tokens.specs.Tokens.{Tag, Token, start_tag, end_tag}
 
 abbrev without_last : List Tag → List Tag
 without_last [] = []

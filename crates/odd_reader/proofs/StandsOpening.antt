@@ -4,8 +4,8 @@ use Rattle.std.proofs.lemmas.Bool.{or_parts, leb-true, leb-false}
 use Rattle.odd_reader.specs.declared.builder.Misfit.{Misfit}
 use Rattle.odd_reader.specs.declared.builder.Misfit.TheVariants as misfit
 use Rattle.odd_reader.specs.declared.builder.Open.{Open}
-use Rattle.odd_reader.specs.declared.token.WrittenAttr.{WrittenAttr}
-use Rattle.odd_reader.specs.declared.token.WrittenTag.{WrittenTag}
+use Rattle.odd_tokens.specs.declared.token.WrittenAttr.{WrittenAttr}
+use Rattle.odd_tokens.specs.declared.token.WrittenTag.{WrittenTag}
 use Rattle.odd_reader.specs.declared.tree.Tree.{Tree}
 use Rattle.odd_reader.specs.Building.{Kept, Built, misplaced, text_ended, resolved, some_twice, is_written_same, element_opened, element_closed}
 use Rattle.odd_reader.specs.Spelled.{deepest}

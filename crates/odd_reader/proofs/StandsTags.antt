@@ -5,11 +5,11 @@ use Rattle.odd_base.specs.declared.name.Bind.{Bind}
 use Rattle.odd_base.specs.declared.name.Name.{Name}
 use Rattle.odd_reader.specs.declared.tree.Attr.{Attr}
 use Rattle.odd_reader.specs.declared.builder.Open.{Open}
-use Rattle.odd_reader.specs.declared.token.WrittenTag.{WrittenTag}
+use Rattle.odd_tokens.specs.declared.token.WrittenTag.{WrittenTag}
 use Rattle.odd_reader.specs.Building.{around, binds_made, plain_made, may_bind, element_named, attributes_named, some_twice, is_same_name, resolved, tree_of}
-use Rattle.odd_reader.specs.Making.{name_made, attribute_made, tag_made}
+use Rattle.odd_tokens.specs.Making.{name_made, attribute_made, tag_made}
 use Rattle.odd_reader.specs.Names.{binds_of, plain_attributes, element_name, attribute_read, NamesFit}
-use Rattle.odd_reader.specs.Tokens.{Tag, NoneTwice}
+use Rattle.odd_tokens.specs.Tokens.{Tag, NoneTwice}
 use Rattle.odd_reader.specs.Trees.{HasTag}
 use Rattle.odd_reader.proofs.StandsDistinct.{names_once, once_names}
 use Rattle.odd_reader.proofs.StandsNames.{binds_are, plain_are, element_is, attributes_are, all_named, bindings_from, all_may_bind, AreNamed, some_name, each_named}

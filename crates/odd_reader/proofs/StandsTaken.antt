@@ -6,11 +6,11 @@ use Rattle.odd_reader.specs.declared.builder.Last.TheVariants as last
 use Rattle.odd_reader.specs.declared.builder.Open.{Open}
 use Rattle.odd_reader.specs.declared.tree.Tree.{Tree}
 use Rattle.odd_reader.specs.Building.{Kept, Built, misplaced, build, is_brackets}
-use Rattle.odd_reader.specs.Characters.{is_space}
+use Rattle.odd_tokens.specs.Characters.{is_space}
 use Rattle.odd_reader.specs.Fitting.{is_tag, IsBalanced, AreOpen, none, Fits, FitsIn}
-use Rattle.odd_reader.specs.Making.{token_made}
+use Rattle.odd_tokens.specs.Making.{token_made}
 use Rattle.odd_reader.specs.Spelled.{IsDocument}
-use Rattle.odd_reader.specs.Tokens.{Tag, Token, character, referred, cdata, IsToken}
+use Rattle.odd_tokens.specs.Tokens.{Tag, Token, character, referred, cdata, IsToken}
 use Rattle.odd_reader.proofs.Fits.{balanced_append}
 use Rattle.odd_reader.proofs.StandsLevels.{Inside, StandsIn, inside_more, inside_open, element_balanced}
 use Rattle.odd_reader.proofs.StandsTexts.{no_tags_at, no_tags_from, no_tags_snoc, no_tags_balanced, brackets_last}

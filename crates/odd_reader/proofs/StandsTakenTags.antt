@@ -7,11 +7,11 @@ use Rattle.odd_reader.specs.declared.tree.Node.{Node, Element}
 use Rattle.odd_reader.specs.declared.tree.Tree.{Tree}
 use Rattle.odd_reader.specs.Building.{Kept, Built, build, around, tree_of, with_children, is_written_same, element_opened, element_closed, then_other}
 use Rattle.odd_reader.specs.Fitting.{none, innermost, Fits}
-use Rattle.odd_reader.specs.Making.{name_made, tag_made, token_made}
+use Rattle.odd_tokens.specs.Making.{name_made, tag_made, token_made}
 use Rattle.odd_reader.specs.Names.{NamesFit}
-use Rattle.odd_reader.specs.Tokens.{QName, Tag, Token, start_tag, empty_tag, end_tag, IsToken, IsTag}
+use Rattle.odd_tokens.specs.Tokens.{QName, Tag, Token, start_tag, empty_tag, end_tag, IsToken, IsTag}
 use Rattle.odd_reader.specs.Trees.{IsElement, empty}
-use Rattle.odd_reader.proofs.Lexes.{IsLexedTag}
+use Rattle.odd_tokens.proofs.Lexes.{IsLexedTag}
 use Rattle.odd_reader.proofs.PrintedTrees.{text_nodes}
 use Rattle.odd_reader.proofs.Sizes.{size}
 use Rattle.odd_reader.proofs.StandsDistinct.{one_made, written_same, written_once}

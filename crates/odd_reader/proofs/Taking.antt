@@ -4,18 +4,19 @@ use Rattle.std.proofs.Math.Utf8.{encode}
 use Rattle.std.specs.Prelude.{Option, Some, None, Result, Ok, Err, encode_utf8, if◌then◌else◌}
 use Rattle.odd_reader.specs.Building.{Kept, Built, build, begun}
 use Rattle.odd_reader.specs.Fitting.{AreOpen, AllFit, Fits, FitsIn, is_start_or_empty}
-use Rattle.odd_reader.specs.Lexing.{Lexed, started}
-use Rattle.odd_reader.specs.Making.{token_made}
+use Rattle.odd_tokens.specs.Lexing.{Lexed, started}
+use Rattle.odd_tokens.specs.Making.{token_made}
 use Rattle.odd_reader.specs.Reading.{Read, nothing_read, read_character, read_from, then_read, with_kept, with_lexed}
-use Rattle.odd_reader.specs.Spelled.{Declaration, IsDeclaration, Opening, IsOpening, NoneTooDeep, opening_written, declaration_written, deepest}
-use Rattle.odd_reader.specs.Tokens.{Tag, Token, character, referred, cdata, comment, instruction, start_tag, empty_tag, end_tag, IsToken, token_written, tokens_written, size_of}
+use Rattle.odd_tokens.specs.Openings.{Declaration, IsDeclaration, Opening, IsOpening, opening_written, declaration_written}
+use Rattle.odd_reader.specs.Spelled.{NoneTooDeep, deepest}
+use Rattle.odd_tokens.specs.Tokens.{Tag, Token, character, referred, cdata, comment, instruction, start_tag, empty_tag, end_tag, IsToken, token_written, tokens_written, size_of}
 use Rattle.odd_reader.specs.declared.builder.Misfit.{Misfit}
 use Rattle.odd_reader.specs.declared.builder.Misfit.TheVariants as misfit
-use Rattle.odd_reader.specs.declared.token.Token.{Token as Made}
-use Rattle.odd_reader.specs.declared.token.Token.TheVariants as made
+use Rattle.odd_tokens.specs.declared.token.Token.{Token as Made}
+use Rattle.odd_tokens.specs.declared.token.Token.TheVariants as made
 use Rattle.odd_reader.proofs.Fits.{written-append}
-use Rattle.odd_reader.proofs.Lexed.{token_lexed, declaration_lexed, mark_lexed}
-use Rattle.odd_reader.proofs.Lexes.{IsIdle, IsLexed, Lexes, last, more}
+use Rattle.odd_tokens.proofs.Lexed.{token_lexed, declaration_lexed, mark_lexed}
+use Rattle.odd_tokens.proofs.Lexes.{IsIdle, IsLexed, Lexes, last, more}
 use Rattle.odd_reader.proofs.Openings.{mark_written, none_open}
 use Rattle.odd_reader.proofs.Sizes.{size_of_append}
 use Rattle.odd_reader.proofs.Stands.{Stands, nothing_stands, taken_stands, taken_shallow, fit_taken, stands_open}

@@ -3,17 +3,17 @@ use Rattle.std.proofs.Common.{◌≡◌, ⊎_elim, ℕ, ◌+◌, ◌≤◌, Bool
 use Rattle.std.proofs.lemmas.Str.{length-le-encodes}
 use Rattle.std.specs.Prelude.{Option, Some, None, Result, Ok, Err, encode_utf8}
 use Rattle.odd_reader.specs.Building.{Kept, begun, build}
-use Rattle.odd_reader.specs.Lexing.{Lexed, Taken, next}
-use Rattle.odd_reader.specs.Making.{token_made}
+use Rattle.odd_tokens.specs.Lexing.{Lexed, Taken, next}
+use Rattle.odd_tokens.specs.Making.{token_made}
 use Rattle.odd_reader.specs.Reading.{Read, nothing_read, read_character, read_from, then_read, with_kept, with_lexed, with_token}
-use Rattle.odd_reader.specs.Spelled.{Declaration, Opening, opening_written, declaration_written}
-use Rattle.odd_reader.specs.Tokens.{Token, token_written, tokens_written, size_of}
+use Rattle.odd_tokens.specs.Openings.{Declaration, Opening, opening_written, declaration_written}
+use Rattle.odd_tokens.specs.Tokens.{Token, token_written, tokens_written, size_of}
 use Rattle.odd_reader.specs.declared.builder.Misfit.{Misfit}
-use Rattle.odd_reader.specs.declared.token.Token.{Token as Made}
+use Rattle.odd_tokens.specs.declared.token.Token.{Token as Made}
 use Rattle.odd_reader.proofs.Depth.{none_deep, one_depth_open, shallow_after}
 use Rattle.odd_reader.proofs.Fits.{fit_append, written-append}
-use Rattle.odd_reader.proofs.InToken.{InToken, token_begins, token_alone, token_goes_on, token_ends}
-use Rattle.odd_reader.proofs.Lexes.{IsIdle, IsRead, IsDeclared}
+use Rattle.odd_tokens.proofs.InToken.{InToken, token_begins, token_alone, token_goes_on, token_ends}
+use Rattle.odd_tokens.proofs.Lexes.{IsIdle, IsRead, IsDeclared}
 use Rattle.odd_reader.proofs.Sizes.{size_of_append, size_of_one_more}
 use Rattle.odd_reader.proofs.Stands.{Stands, nothing_stands, taken_stands, taken_shallow, stands_open}
 use Rattle.odd_reader.proofs.Told.{Told, IsTold, idle, unfinished, nothing_told}

@@ -3,12 +3,13 @@ use Rattle.std.proofs.Common.{◌≡◌, ℕ, ◌≤◌, Bool, true, false, List
 use Rattle.std.specs.Prelude.{None}
 use Rattle.odd_reader.specs.Building.{Kept, begun}
 use Rattle.odd_reader.specs.Reading.{Read, nothing_read}
-use Rattle.odd_reader.specs.Spelled.{Opening, IsOpening, NoneTooDeep, opening_written}
-use Rattle.odd_reader.specs.Tokens.{Token, tokens_written, size_of}
+use Rattle.odd_tokens.specs.Openings.{Opening, IsOpening, opening_written}
+use Rattle.odd_reader.specs.Spelled.{NoneTooDeep}
+use Rattle.odd_tokens.specs.Tokens.{Token, tokens_written, size_of}
 use Rattle.odd_reader.proofs.Depth.{none_deep}
 use Rattle.odd_reader.proofs.Fits.{FitAfter}
-use Rattle.odd_reader.proofs.InToken.{InToken}
-use Rattle.odd_reader.proofs.Lexes.{IsIdle}
+use Rattle.odd_tokens.proofs.InToken.{InToken}
+use Rattle.odd_tokens.proofs.Lexes.{IsIdle}
 use Rattle.odd_reader.proofs.Stands.{Stands, nothing_stands}
 
 -- nothing but a byte order mark was read

@@ -4,14 +4,14 @@ use Rattle.std.proofs.lemmas.Str.{length-le-encodes}
 use Rattle.std.specs.Prelude.{Ok, encode_utf8}
 use Rattle.std.specs.Str.{encode_utf8_all}
 use Rattle.odd_reader.specs.Building.{Kept}
-use Rattle.odd_reader.specs.Lexing.{Lexed}
+use Rattle.odd_tokens.specs.Lexing.{Lexed}
 use Rattle.odd_reader.specs.Reading.{Read, nothing_read, read_from, place_of}
-use Rattle.odd_reader.specs.Spelled.{opening_written}
-use Rattle.odd_reader.specs.Tokens.{size_of}
-use Rattle.odd_reader.specs.declared.lexer.State.{State}
-use Rattle.odd_reader.specs.declared.lexer.State.TheVariants as state
-use Rattle.odd_reader.proofs.InToken.{InToken, token_unfinished}
-use Rattle.odd_reader.proofs.Lexes.{IsIdle}
+use Rattle.odd_tokens.specs.Openings.{opening_written}
+use Rattle.odd_tokens.specs.Tokens.{size_of}
+use Rattle.odd_tokens.specs.declared.lexer.State.{State}
+use Rattle.odd_tokens.specs.declared.lexer.State.TheVariants as state
+use Rattle.odd_tokens.proofs.InToken.{InToken, token_unfinished}
+use Rattle.odd_tokens.proofs.Lexes.{IsIdle}
 use Rattle.odd_reader.proofs.Taking.{read_append}
 use Rattle.odd_reader.proofs.Telling.{read_then, read_told, told_from}
 use Rattle.odd_reader.proofs.Told.{Told, IsTold, idle, unfinished}

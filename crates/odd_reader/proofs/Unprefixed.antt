@@ -7,10 +7,11 @@ use Rattle.std.proofs.lemmas.List.Elements.{All-filter, All-map}
 use Rattle.std.proofs.lemmas.Str.{encodes_same}
 use Rattle.odd_base.specs.declared.name.Bind.{Bind}
 use Rattle.odd_base.specs.declared.name.Name.{Name}
-use Rattle.odd_reader.specs.Tokens.{QName, Piece, Attribute, Tag, NoneTwice, name_written}
-use Rattle.odd_reader.specs.Names.{is_same, declared_prefix, binds_of, plain_attributes, attribute_name}
+use Rattle.odd_tokens.specs.Tokens.{QName, Piece, Attribute, Tag, NoneTwice, name_written}
+use Rattle.odd_tokens.specs.Same.{is_same}
+use Rattle.odd_reader.specs.Names.{declared_prefix, binds_of, plain_attributes, attribute_name}
 use Rattle.odd_reader.specs.Markup.{Pair}
-use Rattle.odd_reader.proofs.Distinct.{Lacks, distinct, none_twice, kept_distinct}
+use Rattle.odd_tokens.proofs.Distinct.{Lacks, distinct, none_twice, kept_distinct}
 
 abbrev pub unprefixed : List ℕ → QName
 unprefixed name = record { prefix = []; local = name }

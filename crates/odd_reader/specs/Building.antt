@@ -4,8 +4,9 @@ use Rattle.std.specs.Option.{option_map}
 use Rattle.std.specs.List.{list_all, list_any}
 use Rattle.odd_base.specs.declared.name.Bind.{Bind}
 use Rattle.odd_base.specs.declared.name.Name.{Name}
-use Rattle.odd_reader.specs.Characters.{is_space}
-use Rattle.odd_reader.specs.Names.{is_same, in_force, last_bound, xml_namespace, xmlns_namespace}
+use Rattle.odd_tokens.specs.Characters.{is_space}
+use Rattle.odd_tokens.specs.Same.{is_same}
+use Rattle.odd_reader.specs.Names.{in_force, last_bound, xml_namespace, xmlns_namespace}
 use Rattle.odd_reader.specs.Spelled.{deepest}
 use Rattle.odd_reader.specs.declared.builder.Builder.{Builder}
 use Rattle.odd_reader.specs.declared.builder.Last.{Last}
@@ -13,11 +14,11 @@ use Rattle.odd_reader.specs.declared.builder.Last.TheVariants as last
 use Rattle.odd_reader.specs.declared.builder.Misfit.{Misfit}
 use Rattle.odd_reader.specs.declared.builder.Misfit.TheVariants as misfit
 use Rattle.odd_reader.specs.declared.builder.Open.{Open}
-use Rattle.odd_reader.specs.declared.token.Token.{Token}
-use Rattle.odd_reader.specs.declared.token.Token.TheVariants as token
-use Rattle.odd_reader.specs.declared.token.WrittenAttr.{WrittenAttr}
-use Rattle.odd_reader.specs.declared.token.WrittenName.{WrittenName}
-use Rattle.odd_reader.specs.declared.token.WrittenTag.{WrittenTag}
+use Rattle.odd_tokens.specs.declared.token.Token.{Token}
+use Rattle.odd_tokens.specs.declared.token.Token.TheVariants as token
+use Rattle.odd_tokens.specs.declared.token.WrittenAttr.{WrittenAttr}
+use Rattle.odd_tokens.specs.declared.token.WrittenName.{WrittenName}
+use Rattle.odd_tokens.specs.declared.token.WrittenTag.{WrittenTag}
 use Rattle.odd_reader.specs.declared.tree.Attr.{Attr}
 use Rattle.odd_reader.specs.declared.tree.Node.{Node, Element, Text}
 use Rattle.odd_reader.specs.declared.tree.Tree.{Tree, roll-Tree}

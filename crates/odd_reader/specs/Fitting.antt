@@ -2,8 +2,8 @@
 use Rattle.std.specs.Prelude.{◌≡◌, ℕ, Bool, true, false, List, [], ◌∷◌, ◌++◌, IsTrue, ◌||◌}
 use Rattle.std.specs.List.{list_any}
 use Rattle.odd_base.specs.declared.name.Bind.{Bind}
-use Rattle.odd_reader.specs.Characters.{is_space}
-use Rattle.odd_reader.specs.Tokens.{QName, Tag, Token, character, comment, instruction, start_tag, empty_tag, end_tag, IsToken}
+use Rattle.odd_tokens.specs.Characters.{is_space}
+use Rattle.odd_tokens.specs.Tokens.{QName, Tag, Token, character, comment, instruction, start_tag, empty_tag, end_tag, IsToken}
 use Rattle.odd_reader.specs.Names.{binds_of, NamesFit}
 
 abbrev pub is_start_or_end : Token → Bool

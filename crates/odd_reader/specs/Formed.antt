@@ -3,9 +3,9 @@ use Rattle.std.specs.Prelude.{◌≢◌, ◌≤◌, ℕ, suc, List, [], ◌∷�
 use Rattle.odd_reader.specs.declared.tree.Attr.{Attr}
 use Rattle.odd_reader.specs.declared.tree.Tree.{Tree, out-Tree}
 use Rattle.odd_reader.specs.declared.tree.Node.{Node, Element, Text}
-use Rattle.odd_reader.specs.Characters.{IsLegal, IsNCName}
+use Rattle.odd_tokens.specs.Characters.{IsLegal, IsNCName}
 use Rattle.odd_reader.specs.Names.{IsBinding}
-use Rattle.odd_reader.specs.Tokens.{NoneTwice}
+use Rattle.odd_tokens.specs.Tokens.{NoneTwice}
 
 -- the name of an element, its attributes and its bindings
 pub record IsFormedTag (t : Tree) : Type 0 where

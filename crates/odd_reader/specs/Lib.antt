@@ -1,14 +1,9 @@
 pub mod Building
-pub mod Characters
-pub mod Declaring
 pub mod Escaping
 pub mod Fitting
 pub mod Formed
-pub mod Lexing
-pub mod Making
 pub mod Markup
 pub mod Names
 pub mod Reading
 pub mod Spelled
-pub mod Tokens
 pub mod Trees

@@ -1,35 +1,19 @@
 -- Namespaces in XML 1.0: what a tag declares, which prefixes are in force, and the expanded names.
-use Rattle.std.specs.Prelude.{◌≡◌, ◌≢◌, ◌↔◌, ℕ, Bool, false, ◌&&◌, ◌==◌, if◌then◌else◌, List, [], ◌∷◌, ◌++◌, map, filter, Option, Some, None, IsSome, All, codes, unwrap_or, is_none}
+use Rattle.std.specs.Prelude.{◌≡◌, ◌≢◌, ◌↔◌, ℕ, ◌&&◌, if◌then◌else◌, List, [], ◌∷◌, ◌++◌, map, filter, Option, Some, None, IsSome, All, codes, unwrap_or, is_none}
 use Rattle.std.specs.Option.{option_map}
-use Rattle.std.specs.Cmp.Lexicographic.{pointwise}
 use Rattle.std.specs.Str.{encode_utf8_all}
 use Rattle.odd_base.specs.declared.name.Bind.{Bind}
 use Rattle.odd_base.specs.declared.name.Name.{Name}
+use Rattle.odd_tokens.specs.Same.{is_same}
+use Rattle.odd_tokens.specs.Values.{value_read}
 use Rattle.odd_reader.specs.declared.tree.Attr.{Attr}
-use Rattle.odd_reader.specs.Characters.{is_space}
-use Rattle.odd_reader.specs.Tokens.{QName, Piece, itself, reference, Attribute, Tag, character_of, NoneTwice}
+use Rattle.odd_tokens.specs.Tokens.{QName, Attribute, Tag, NoneTwice}
 
 abbrev pub xml_namespace : List ℕ
 xml_namespace = codes "http://www.w3.org/XML/1998/namespace"
 
 abbrev pub xmlns_namespace : List ℕ
 xmlns_namespace = codes "http://www.w3.org/2000/xmlns/"
-
-abbrev pub is_same : List ℕ → List ℕ → Bool
-is_same = pointwise ◌==◌
-
--- XML 1.0, section 3.3.3: white space that stands as itself in a value is a space, and CR LF is one; a reference gives its character
-abbrev begins_with_line_feed : List Piece → Bool
-begins_with_line_feed (itself c ∷ rest) = c == 0xA
-begins_with_line_feed rest = false
-
-abbrev piece_read : Piece → List Piece → List ℕ
-piece_read (reference r) next = character_of r ∷ []
-piece_read (itself c) next = if c == 0xD && begins_with_line_feed next then [] else (if is_space c then 0x20 else c) ∷ []
-
-abbrev pub value_read : List Piece → List ℕ
-value_read [] = []
-value_read (p ∷ ps) = piece_read p ps ++ value_read ps
 
 -- section 3: the prefix that an attribute declares, empty for the default namespace
 abbrev pub declared_prefix : QName → Option (List ℕ)

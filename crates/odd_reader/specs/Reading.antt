@@ -2,17 +2,17 @@
 use Rattle.std.specs.Prelude.{◌≡◌, ◌≢◌, ◌⊎◌, ℕ, ◌+◌, ◌++◌, Bool, true, false, if◌then◌else◌, List, [], ◌∷◌, length, Option, Some, None, Result, Ok, Err, MatchResult, encode_utf8}
 use Rattle.std.specs.Char.{IsScalar}
 use Rattle.odd_reader.specs.Building.{Kept, Built, build, begun, kept_of}
-use Rattle.odd_reader.specs.Lexing.{Lexed, Taken, next, started, lexed}
+use Rattle.odd_tokens.specs.Lexing.{Lexed, Taken, next, started, lexed}
 use Rattle.odd_reader.specs.declared.builder.Misfit.{Misfit}
 use Rattle.odd_reader.specs.declared.builder.Misfit.TheVariants as misfit
-use Rattle.odd_reader.specs.declared.lexer.Fault.{Fault}
-use Rattle.odd_reader.specs.declared.lexer.Fault.TheVariants as fault
-use Rattle.odd_reader.specs.declared.lexer.State.{State}
-use Rattle.odd_reader.specs.declared.lexer.State.TheVariants as state
+use Rattle.odd_tokens.specs.declared.lexer.Fault.{Fault}
+use Rattle.odd_tokens.specs.declared.lexer.Fault.TheVariants as fault
+use Rattle.odd_tokens.specs.declared.lexer.State.{State}
+use Rattle.odd_tokens.specs.declared.lexer.State.TheVariants as state
 use Rattle.odd_reader.specs.declared.reader.ReadRefusal.{ReadRefusal}
 use Rattle.odd_reader.specs.declared.reader.ReadRefusal.TheVariants as refusal
 use Rattle.odd_reader.specs.declared.reader.Reader.{Reader}
-use Rattle.odd_reader.specs.declared.token.Token.{Token}
+use Rattle.odd_tokens.specs.declared.token.Token.{Token}
 use Rattle.odd_reader.specs.declared.tree.Tree.{Tree}
 
 -- what was made of the characters so far, and how many bytes they take

@@ -2,20 +2,12 @@
 use Rattle.std.specs.Prelude.{◌≡◌, ℕ, ◌+◌, Bool, false, ◌==◌, if◌then◌else◌, List, [], ◌∷◌, ◌++◌, map, Some}
 use Rattle.std.specs.Str.{encode_utf8_all}
 use Rattle.odd_base.specs.declared.name.Bind.{Bind}
+use Rattle.odd_tokens.specs.Lines.{lines_read}
 use Rattle.odd_reader.specs.declared.tree.Tree.{Tree, out-Tree}
 use Rattle.odd_reader.specs.declared.tree.Node.{Node, Element, Text}
-use Rattle.odd_reader.specs.Tokens.{QName, Tag, Token, character, referred, cdata, start_tag, empty_tag, end_tag, character_of, token_written, tokens_written, size_of}
+use Rattle.odd_tokens.specs.Tokens.{QName, Tag, Token, character, referred, cdata, start_tag, empty_tag, end_tag, character_of, token_written, tokens_written, size_of}
 use Rattle.odd_reader.specs.Names.{binds_of, plain_attributes, element_name, attribute_read}
 use Rattle.odd_reader.specs.Fitting.{is_tag}
-
-abbrev begins_with_line_feed : List ℕ → Bool
-begins_with_line_feed [] = false
-begins_with_line_feed (c ∷ cs) = c == 0xA
-
--- section 2.11: CR LF and a lone CR are read as LF
-abbrev pub lines_read : List ℕ → List ℕ
-lines_read [] = []
-lines_read (c ∷ cs) = (if c == 0xD then (if begins_with_line_feed cs then [] else 0xA ∷ []) else c ∷ []) ++ lines_read cs
 
 abbrev is_line_feed_next : List Token → Bool
 is_line_feed_next (character c ∷ ts) = c == 0xA

@@ -2,14 +2,14 @@ ghost use Rattle.std.specs.Prelude.{◌≡◌, ◌++◌, ◌∷◌, [], None, So
 ghost use Rattle.std.specs.List.{list_all};
 ghost use Rattle.std.specs.Option.{option_copied};
 ghost use Rattle.odd_reader.specs.Building.{Follows, Gives, around, attribute_named, attributes_named, begun, binds_made, build, character as a_character, character_text as text_of_character, element_closed, element_named, element_opened, ends_innermost as ends_the_innermost, inside as an_inside, is_nothing, is_root_closed as has_closed_root, is_same_name, is_written_same, kept_of, last_after as what_is_last_after, may_bind as can_bind, plain_made, prefix_declared, resolved as an_open, some_twice, text_ended, then_closed, then_other, tree_of as the_tree_of, with_children};
-ghost use Rattle.odd_reader.specs.Names.{in_force, is_same, last_bound, xml_namespace};
+ghost use Rattle.odd_tokens.specs.Same.{is_same};
+ghost use Rattle.odd_reader.specs.Names.{in_force, last_bound, xml_namespace};
 ghost use Rattle.odd_reader.specs.Spelled.{deepest};
 
 use crate::bindings::Bindings;
-use crate::character::is_space;
-use crate::token::{Token, WrittenAttr, WrittenAttrs, WrittenName, WrittenTag};
 use crate::tree::{Attr, Attrs, Node, Nodes, Tree};
 use odd_base::{Bind, Name, NoMemory, Scope, Text, TryCopy};
+use odd_tokens::{Token, WrittenAttr, WrittenAttrs, WrittenName, WrittenTag, is_space};
 use std::alloc::{AllocFailed, Global};
 use std::mem;
 

@@ -1,5 +1,5 @@
 ghost use Rattle.std.specs.Prelude.{◌≡◌, IfOk};
-ghost use Rattle.odd_reader.specs.Characters.{IsLegal};
+ghost use Rattle.odd_tokens.specs.Characters.{IsLegal};
 ghost use Rattle.odd_reader.specs.Escaping.{IsTextOf, IsValueOf};
 ghost use Rattle.odd_reader.specs.Markup.{escaped_text, escaped_value};
 

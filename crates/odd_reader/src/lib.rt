@@ -3,18 +3,13 @@
 
 mod bindings;
 mod builder;
-mod character;
-mod declaration;
 mod escaping;
-mod lexer;
-pub mod names;
 pub mod printing;
 pub mod reader;
-mod token;
 pub mod tree;
 
 pub use escaping::{escape_text, escape_value};
-pub use names::is_ncname;
+pub use odd_tokens::is_ncname;
 pub use reader::{ReadRefusal, read_tree};
 pub use tree::{Attr, Attrs, Node, Nodes, Tree};
 

@@ -5,8 +5,8 @@ ghost use Rattle.odd_reader.specs.Spelled.{DepthPlace, GivesTree, IsNotXml};
 ghost use Rattle.odd_reader.specs.declared.tree.Tree.{Tree as ATree};
 
 use crate::builder::{Builder, Misfit};
-use crate::lexer::{Fault, Lexer};
 use crate::tree::Tree;
+use odd_tokens::{Fault, Lexer};
 use std::alloc::Global;
 use std::str;
 

@@ -4,14 +4,14 @@ use Rattle.std.specs.FinMap.{find}
 use Rattle.std.specs.Option.{option_copied}
 use Rattle.odd_base.specs.Key.{key_cmp}
 use Rattle.odd_decls.specs.Odd.{element_key}
+use Rattle.odd_decls.proofs.Standing.{nothing_stands}
 use Rattle.compile_core.specs.Schema.{IsLeast}
 use Rattle.compile_core.proofs.Missing.{held_more, missing_more, nothing_found, something_found}
-use Rattle.compile_core.proofs.Standing.{none_stands}
 use Rattle.compile_core.proofs.compiling.least_missing.Goals as goal
 use Rattle.compile_core.proofs.compiling.least_missing.Goals.{then-is_none, else-is_none}
 
 pub loop-word-init : goal.loop-word-init
-loop-word-init c = λ w a missing. none_stands w a
+loop-word-init c = λ w a missing. nothing_stands w a
 
 pub loop-word-preserved : goal.loop-word-preserved
 loop-word-preserved c =

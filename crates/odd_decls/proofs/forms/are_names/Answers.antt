@@ -3,7 +3,7 @@ use Rattle.std.specs.Prelude.{All}
 use Rattle.std.proofs.lemmas.Bool.{both_ways, eqb-true, false_from_ne_true, not-true}
 use Rattle.std.proofs.lemmas.List.{nil_from_length, take_all}
 use Rattle.std.proofs.lemmas.List.Elements.{All-more}
-use Rattle.odd_reader.specs.Characters.{IsNCName}
+use Rattle.odd_tokens.specs.Characters.{IsNCName}
 use Rattle.odd_decls.proofs.forms.are_names.Goals as goal
 
 pub returns-then-not-is_ncname : goal.returns-then-not-is_ncname

@@ -1,9 +1,8 @@
 use Rattle.std.proofs.Common.{sym, ◌∙◌}
 use Rattle.std.specs.Prelude.{codes}
 use Rattle.odd_decls.specs.Offences.{ItemFault}
-use Rattle.odd_decls.proofs.ByName.{neither_name}
 use Rattle.odd_decls.proofs.FaultsFound.{item_relax, item_second, item_third, least_spec}
-use Rattle.odd_decls.proofs.Named.{one_named}
+use Rattle.odd_decls.proofs.Named.{neither_name, one_named}
 use Rattle.odd_decls.proofs.forms.item_fault.Goals as goal
 
 pub returns-then-is_relax_ng : goal.returns-then-is_relax_ng

@@ -3,10 +3,9 @@ use Rattle.std.specs.Prelude.{codes}
 use Rattle.std.proofs.lemmas.Bool.{both_ways, not-true}
 use Rattle.odd_decls.specs.Reading.{SpecChildFault}
 use Rattle.odd_decls.specs.Search.{is_one_of, is_passed_over, is_relax_ng, is_tei}
-use Rattle.odd_decls.proofs.ByName.{neither_name}
 use Rattle.odd_decls.proofs.FaultsFound.{child_second, child_third, least_content}
 use Rattle.odd_decls.proofs.Least.{least_if}
-use Rattle.odd_decls.proofs.Named.{one_named}
+use Rattle.odd_decls.proofs.Named.{neither_name, one_named}
 use Rattle.odd_decls.proofs.forms.spec_child_fault.Goals as goal
 use Rattle.odd_decls.proofs.forms.spec_child_fault.Goals.{else-is_tei, then-is_relax_ng-via-else-is_relax_ng+then-is_one_of-2, then-is_relax_ng-via-then-is_relax_ng, then-is_tei}
 

@@ -2,8 +2,8 @@ use Rattle.std.proofs.Common.{◌||◌, [], ◌∷◌, codes, ap, subst, ◌∙�
 use Rattle.std.proofs.lemmas.Bool.{false≢true, or_left}
 use Rattle.odd_decls.specs.Pending.{HoldsForm}
 use Rattle.odd_decls.specs.Search.{is_one_of}
-use Rattle.odd_decls.proofs.Elements.{text_shown}
-use Rattle.odd_decls.proofs.Holding.{around_children, child_form, child_stands, none_first, none_held, none_more, none_seen, none_text, own_form}
+use Rattle.odd_decls.proofs.Elements.{child_stands, text_shown}
+use Rattle.odd_decls.proofs.Holding.{around_children, child_form, none_first, none_held, none_more, none_seen, none_text, own_form}
 use Rattle.odd_decls.proofs.pending.+is_pending.Goals.{then-in_content, else-in_content, in-Element+else-is_pending, in_default}
 use Rattle.odd_decls.proofs.pending.+is_pending.Goals as goal
 

@@ -1,7 +1,6 @@
 use Rattle.std.proofs.Common.{◌≡◌, ◌≤◌, ◌+◌, if◌then◌else◌, ap, subst, ◌∙◌, sym, arith, take, refl}
 use Rattle.odd_decls.specs.Search.{is_tei as the_is_tei}
-use Rattle.odd_decls.proofs.Counted.{counted, counted_fails, counted_passes, counted_text, counted_within}
-use Rattle.odd_decls.proofs.Elements.{text_shown}
+use Rattle.odd_decls.proofs.Elements.{counted, counted_fails, counted_passes, counted_text, counted_within, text_shown}
 use Rattle.odd_decls.proofs.pending.holds_two.Goals.{in-Element+then-is_tei+else-any, in-Element+else-is_tei, in_default}
 use Rattle.odd_decls.proofs.pending.holds_two.Goals as goal
 

@@ -1,6 +1,6 @@
 use Rattle.std.proofs.Common.{◌≡◌, if◌then◌else◌, take}
 use Rattle.odd_decls.specs.Search.{is_tei as the_is_tei}
-use Rattle.odd_decls.proofs.Counted.{counted}
+use Rattle.odd_decls.proofs.Elements.{counted}
 use Rattle.odd_decls.proofs.pending.holds_two.Given as goal
 
 abbrev pub invariant-loop-node : goal.invariant-loop-node

@@ -1,10 +1,10 @@
-use Rattle.std.proofs.Common.{◌≡◌, ◌+◌, [], take, drop, subst, sym, ap, refl, ◌∙◌}
-use Rattle.odd_reader.specs.declared.tree.Tree.{Tree}
+use Rattle.std.proofs.Common.{◌≡◌, [], take, subst, sym, refl}
+use Rattle.odd_reader.specs.declared.tree.Tree.{Tree, out-Tree}
 use Rattle.odd_reader.specs.declared.tree.Node.{Element}
 use Rattle.odd_decls.specs.Declares.{AreReadAs}
 use Rattle.odd_decls.specs.Odd.{elements_of, StandsIn}
 use Rattle.odd_decls.specs.Search.{children_of}
-use Rattle.odd_decls.proofs.Elements.{element_around, element_more, text_passed, text_shown}
+use Rattle.odd_decls.proofs.Elements.{child_stands, element_more, text_passed, text_shown}
 use Rattle.odd_decls.proofs.ReadAs.{spec_read, other_read, with_ident, without_ident}
 use Rattle.odd_decls.proofs.reading.entries.Goals as goal
 use Rattle.odd_decls.proofs.reading.entries.Goals.{in-Element+in-Some+in_ok-entry+in_ok-push, in-Element+in_default-spec_ident, in_default}
@@ -20,7 +20,7 @@ loop-node-preserved c =
     let schema = c.args.schema.now in
     let es = c.loop-node.entries in
     let stands : (t : Tree) → n ≡ Element t → StandsIn (children_of schema) t =
-    λ t is. (elements_of (take i ns), elements_of (drop (i + 1) ns), ap elements_of (sym c.as_slice-node-items.ensures) ∙ element_around ns i n t c.loop-node-test.true c.node-item.is is) in
+    λ t is. child_stands ns (out-Tree schema).children i n t c.as_slice-node-items.ensures c.loop-node-test.true c.node-item.is is in
     elim c.match-node.branch [
       | in-Element+in-Some+in_ok-entry+in_ok-push w ↦
           rw (w.entries-is, w.in_ok-push.ensures.ok, element_more ns i n w.in-Element.item c.loop-node-test.true c.node-item.is w.in-Element.is)

@@ -2,7 +2,7 @@ use Rattle.std.proofs.Common.{◌≡◌, [], ◌++◌, sym, ap, subst, ◌∙◌
 use Rattle.std.proofs.lemmas.List.{append-nil, nil_from_length}
 use Rattle.std.proofs.lemmas.List.Filters.{dedup_is}
 use Rattle.std.specs.List.Sorted.{IsPermutation}
-use Rattle.odd_decls.proofs.Sorting.{sorted_once}
+use Rattle.odd_decls.proofs.SortedWords.{sorted_once}
 use Rattle.odd_decls.proofs.reading.sorted.Goals as goal
 
 pub returns : goal.returns

@@ -2,7 +2,7 @@ use Rattle.std.proofs.Common.{◌≡◌, Bool, List, [], ◌∷◌, ℕ, map, ap
 use Rattle.std.specs.List.{list_any}
 use Rattle.std.proofs.lemmas.Iterator.{YieldsList-from_slice}
 use Rattle.std.proofs.lemmas.Iterator.Search.{any_from_yields_List}
-use Rattle.odd_reader.specs.Names.{is_same}
+use Rattle.odd_tokens.specs.Same.{is_same}
 use Rattle.odd_reader.specs.declared.tree.Tree.{out-Tree}
 use Rattle.odd_decls.proofs.searching.is_one_of.Goals as goal
 

@@ -1,7 +1,7 @@
 use Rattle.std.proofs.Common.{◌≡◌, ℕ, ◌<◌, ◌≤◌, List, length, map, refl, sym, ap, ◌∙◌, arith}
 use Rattle.std.proofs.lemmas.List.{take_all}
 use Rattle.odd_reader.specs.Building.{is_written_same}
-use Rattle.odd_reader.specs.declared.token.WrittenAttr.{WrittenAttr}
+use Rattle.odd_tokens.specs.declared.token.WrittenAttr.{WrittenAttr}
 use Rattle.odd_reader.proofs.BuildingTwice.{alike_more, are_same, texts_of, some_twice_alike, some_twice-map}
 use Rattle.odd_reader.proofs.builder.is_written_twice.Goals as goal
 

@@ -1,0 +1,131 @@
+-- What was read of a reference, and what the next character makes of it.
+use Rattle.std.proofs.Common.{◌≡◌, ℕ, ◌+◌, ◌*◌, ◌<◌, true, false, ◌==◌, ◌&&◌, nat_le, nat_lt, encode_utf8, if◌then◌else◌, List, [], ◌∷◌, ◌++◌, length, Some, None, codes, refl, sym, ap, ◌∙◌, arith, subst, ⊎_elim}
+use Rattle.std.proofs.lemmas.Bool.{cond_both, cases_Bool, and_parts, eqb-true, leb-true}
+use Rattle.std.proofs.lemmas.Str.{encode_ascii}
+use Rattle.std.specs.Char.{digit_value}
+use Rattle.std.specs.Cmp.Lexicographic.{same_text}
+use Rattle.odd_tokens.specs.Characters.{is_char}
+use Rattle.odd_tokens.specs.Same.{is_same}
+use Rattle.odd_tokens.specs.Lexing.{Lexed, Taken, go, referred, reference, letter, digit, base_of, entity_named, end_letters, end_digits}
+use Rattle.odd_tokens.specs.Tokens as written
+use Rattle.odd_tokens.specs.declared.lexer.Place.{Place}
+use Rattle.odd_tokens.specs.declared.lexer.ReferencePart.{ReferencePart}
+use Rattle.odd_tokens.specs.declared.lexer.ReferencePart.TheVariants as ref
+use Rattle.odd_tokens.specs.declared.lexer.State.TheVariants as state
+use Rattle.odd_tokens.proofs.InReferenceDigits.{InDecimal, InHexadecimal, counts_is, decimal_more, decimal_first, hexadecimal_more, hexadecimal_first}
+
+-- what was read of a reference, from its ampersand on
+abbrev pub InReference : ReferencePart → (read : List ℕ) → Lexed → Type 0
+InReference ref.Begins read l = read ≡ codes "&"
+InReference ref.Letters read l = read ≡ 0x26 ∷ l.text
+InReference ref.Hash read l = read ≡ codes "&#"
+InReference ref.HexBegins read l = read ≡ codes "&#x"
+InReference ref.Decimal read l = InDecimal read l.number
+InReference ref.Hexadecimal read l = InHexadecimal read l.number
+
+pub reference_begins : (l : Lexed) → InReference ref.Begins (codes "&") l
+reference_begins l = refl
+
+pub data ReferenceStep (p : Place) (read : List ℕ) (l : Lexed) (taken : Taken) : Type 0 where
+  goes : (after : ReferencePart) (text : List ℕ) (number : ℕ) → taken ≡ go (state.Reference p after) (record l { text = text; number = number })
+      → InReference after read (record l { text = text; number = number }) → ReferenceStep p read l taken
+  ends : (r : written.Reference) → written.IsReference r → written.reference_written r ≡ read → taken ≡ referred p (written.character_of r) l → ReferenceStep p read l taken
+  stops : taken ≡ None → ReferenceStep p read l taken
+
+pub reference_kept : (part : ReferencePart) (read : List ℕ) (l m : Lexed) → l.text ≡ m.text → l.number ≡ m.number → InReference part read l → InReference part read m
+reference_kept ref.Begins read l m t n h = h
+reference_kept ref.Letters read l m t n h = h ∙ ap (λ x. 0x26 ∷ x) t
+reference_kept ref.Hash read l m t n h = h
+reference_kept ref.HexBegins read l m t n h = h
+reference_kept ref.Decimal read l m t n h = subst (InDecimal read) n h
+reference_kept ref.Hexadecimal read l m t n h = subst (InHexadecimal read) n h
+
+-- a digit goes on
+digit_steps : (p : Place) (part : ReferencePart) (read : List ℕ) (l : Lexed) (c number : ℕ)
+    → (nat_lt (digit_value c) (base_of part) ≡ true → InReference part read (record l { number = if nat_le number 0x10FFFF then number * base_of part + digit_value c else number }))
+    → ReferenceStep p read l (digit p part (record l { number = number }) c)
+digit_steps p part read l c number goes_on =
+    cond_both (nat_lt (digit_value c) (base_of part)) _ None (ReferenceStep p read l) (λ h. goes part l.text _ refl (goes_on h)) (λ h. stops refl)
+
+-- and a semicolon ends the digits
+digits_end : (p : Place) (read : List ℕ) (l : Lexed) (r : written.Reference) → (is_char l.number ≡ true → written.IsReference r) → written.reference_written r ≡ read
+    → (is_char l.number ≡ true → l.number ≡ written.character_of r) → ReferenceStep p read l (end_digits p l)
+digits_end p read l r is_reference is_written same =
+    cond_both (is_char l.number) (referred p l.number l) None (ReferenceStep p read l) (λ h. ends r (is_reference h) is_written (ap (λ n. referred p n l) (same h))) (λ h. stops refl)
+
+decimal_ends : (p : Place) (read : List ℕ) (l : Lexed) → InDecimal read l.number → ReferenceStep p (read ++ codes ";") l (end_digits p l)
+decimal_ends p read l h =
+    digits_end p (read ++ codes ";") l (written.decimal h.digits) (λ e. (h.some, h.all, ap is_char (sym (counts_is _ l.number e h.counts)) ∙ e))
+    (ap (λ x. x ++ codes ";") (sym h.is_read)) (λ e. counts_is _ l.number e h.counts)
+
+hexadecimal_ends : (p : Place) (read : List ℕ) (l : Lexed) → InHexadecimal read l.number → ReferenceStep p (read ++ codes ";") l (end_digits p l)
+hexadecimal_ends p read l h =
+    digits_end p (read ++ codes ";") l (written.hexadecimal h.digits) (λ e. (h.some, h.all, ap is_char (sym (counts_is _ l.number e h.counts)) ∙ e))
+    (ap (λ x. x ++ codes ";") (sym h.is_read)) (λ e. counts_is _ l.number e h.counts)
+
+-- a letter
+
+letter_steps : (p : Place) (read : List ℕ) (l : Lexed) (c : ℕ) (text : List ℕ) → read ≡ 0x26 ∷ text → ReferenceStep p (read ++ c ∷ []) l (letter p (record l { text = text }) c)
+letter_steps p read l c text e =
+    cond_both (nat_le 0x61 c && nat_le c 0x7A && nat_lt (length text) 4) _ None (ReferenceStep p (read ++ c ∷ []) l)
+    (λ h. goes ref.Letters (text ++ encode_utf8 c) l.number refl (ap (λ x. x ++ c ∷ []) e ∙ ap (λ x. 0x26 ∷ (text ++ x)) (sym (encode_ascii c (low c (and_parts _ _ (and_parts _ _ h).0).1)))))
+    (λ h. stops refl)
+  where
+    low : (c : ℕ) → nat_le c 0x7A ≡ true → c < 128
+    low c h = omega (arith, leb-true c 0x7A h)
+
+-- a semicolon after letters
+
+named : (p : Place) (l : Lexed) (name : List ℕ) (n : ℕ) → entity_named name ≡ Some n → is_same l.text name ≡ true → end_letters p l ≡ referred p n l
+named p l name n e h =
+    let f : entity_named l.text ≡ Some n = ap entity_named (same_text l.text name (sym h)) ∙ e in
+    rw f refl
+
+unnamed : (p : Place) (l : Lexed) → entity_named l.text ≡ None → end_letters p l ≡ None
+unnamed p l e = rw e refl
+
+no_entity : (name : List ℕ) → is_same name (codes "lt") ≡ false → is_same name (codes "gt") ≡ false → is_same name (codes "amp") ≡ false → is_same name (codes "apos") ≡ false
+    → is_same name (codes "quot") ≡ false → entity_named name ≡ None
+no_entity name a b c d e = rw (a, b, c, d, e) refl
+
+entity_ends : (p : Place) (read : List ℕ) (l : Lexed) (r : written.Reference) (name : List ℕ) → read ≡ 0x26 ∷ l.text → written.IsReference r
+    → written.reference_written r ≡ 0x26 ∷ (name ++ codes ";")
+    → entity_named name ≡ Some (written.character_of r) → is_same l.text name ≡ true → ReferenceStep p (read ++ codes ";") l (end_letters p l)
+entity_ends p read l r name e is_reference is_written is_named h =
+    ends r is_reference (is_written ∙ ap (λ x. 0x26 ∷ (x ++ codes ";")) (sym (same_text l.text name (sym h))) ∙ ap (λ x. x ++ codes ";") (sym e))
+    (named p l name (written.character_of r) is_named h)
+
+letters_end : (p : Place) (read : List ℕ) (l : Lexed) → read ≡ 0x26 ∷ l.text → ReferenceStep p (read ++ codes ";") l (end_letters p l)
+letters_end p read l e =
+    ⊎_elim (entity_ends p read l written.lt (codes "lt") e tt refl refl) (λ h₁.
+    ⊎_elim (entity_ends p read l written.gt (codes "gt") e tt refl refl) (λ h₂.
+    ⊎_elim (entity_ends p read l written.amp (codes "amp") e tt refl refl) (λ h₃.
+    ⊎_elim (entity_ends p read l written.apos (codes "apos") e tt refl refl) (λ h₄.
+    ⊎_elim (entity_ends p read l written.quot (codes "quot") e tt refl refl) (λ h₅.
+    stops (unnamed p l (no_entity l.text h₁ h₂ h₃ h₄ h₅)))
+    (cases_Bool (is_same l.text (codes "quot")))) (cases_Bool (is_same l.text (codes "apos")))) (cases_Bool (is_same l.text (codes "amp"))))
+    (cases_Bool (is_same l.text (codes "gt")))) (cases_Bool (is_same l.text (codes "lt")))
+
+-- each part of a reference
+
+-- a test for one character, and what is read with it
+pub at_character : {X : Type 0} (Q : List ℕ → X → Type 0) (read : List ℕ) (c n : ℕ) (x y : X) → Q (read ++ n ∷ []) x → ((c == n) ≡ false → Q (read ++ c ∷ []) y)
+    → Q (read ++ c ∷ []) (if c == n then x else y)
+at_character Q read c n x y a b =
+    cond_both (c == n) x y (Q (read ++ c ∷ [])) (λ h. subst (λ z. Q (read ++ z ∷ []) x) (sym (eqb-true c n h)) a) b
+
+pub reference_steps : (p : Place) (part : ReferencePart) (read : List ℕ) (l : Lexed) (c : ℕ) → is_char c ≡ true → InReference part read l
+    → ReferenceStep p (read ++ c ∷ []) l (reference p part l c)
+reference_steps p ref.Begins read l c legal h =
+    at_character (λ r. ReferenceStep p r l) read c 0x23 _ _ (goes ref.Hash l.text l.number refl (ap (λ r. r ++ codes "#") h)) (λ _. letter_steps p read l c [] h)
+reference_steps p ref.Letters read l c legal h = at_character (λ r. ReferenceStep p r l) read c 0x3B _ _ (letters_end p read l h) (λ _. letter_steps p read l c l.text h)
+reference_steps p ref.Hash read l c legal h =
+    at_character (λ r. ReferenceStep p r l) read c 0x78 _ _ (goes ref.HexBegins l.text l.number refl (ap (λ r. r ++ codes "x") h))
+    (λ _. digit_steps p ref.Decimal (read ++ c ∷ []) l c 0 (λ d. rw h (decimal_first c d)))
+reference_steps p ref.HexBegins read l c legal h = digit_steps p ref.Hexadecimal (read ++ c ∷ []) l c 0 (λ d. rw h (hexadecimal_first c d))
+reference_steps p ref.Decimal read l c legal h =
+    at_character (λ r. ReferenceStep p r l) read c 0x3B _ _ (decimal_ends p read l h)
+    (λ _. digit_steps p ref.Decimal (read ++ c ∷ []) l c l.number (λ d. decimal_more read l.number c h d))
+reference_steps p ref.Hexadecimal read l c legal h =
+    at_character (λ r. ReferenceStep p r l) read c 0x3B _ _ (hexadecimal_ends p read l h)
+    (λ _. digit_steps p ref.Hexadecimal (read ++ c ∷ []) l c l.number (λ d. hexadecimal_more read l.number c h d))

@@ -1,0 +1,9 @@
+pub mod Characters
+pub mod Declaring
+pub mod Lexing
+pub mod Lines
+pub mod Making
+pub mod Openings
+pub mod Same
+pub mod Tokens
+pub mod Values
