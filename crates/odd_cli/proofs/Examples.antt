@@ -276,7 +276,7 @@ one_element_sound =
     (λ ident. subst (λ ts. StandsTwice (IsSpecOf ident) ts → ⊥) (sym one_child) (few (IsSpecOf ident) (element_tree ∷ []) (omega arith)))
 
 element_read : IsReadAs root_tree element_tree 68 element_spec
-element_read = record { ident = codes "a"; is_spec = (refl, refl, is_name (codes "a") refl); key = refl; modul = refl; ns = refl; content = refl; placed = refl }
+element_read = record { ident = codes "a"; is_spec = (refl, refl, is_name (codes "a") refl); key = refl; of_module = refl; ns = refl; content = refl; placed = refl }
 
 one_element_declares : Declares root_tree one_doc
 one_element_declares = record {
@@ -425,11 +425,8 @@ p_offence = record { file = 1; who = who.At 68; rule = 3 }
 
 p_refusal : IsRefusal offending_tree 1 p_offence
 p_refusal = record {
-  all_read = not_pending offending_tree offending_tree [] offending_schema one_p_plain;
-  in_file = refl;
-  place = 68;
-  placed = refl;
-  first = record { is_one = p_offends; first = p_alone };
+  is_one = record { all_read = not_pending offending_tree offending_tree [] offending_schema one_p_plain; in_file = refl; place = 68; placed = refl; offends = p_offends };
+  first = p_alone;
 }
 
 offending_reply : Reply compile_f (holding one_p) [] (status.Refused p_offence)

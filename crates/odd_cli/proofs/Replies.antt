@@ -126,13 +126,13 @@ pending_gives_none : (bytes : List ℕ) (t : Tree) (library : Library) → Gives
 pending_gives_none bytes t library g p h = h.declared.all_read (subst IsPending (one_given bytes t h.tree g h.given) p)
 
 pending_has_none : (bytes : List ℕ) (t u : Tree) (offence : Offence) → GivesTree bytes t → IsPending t → GivesTree bytes u → IsRefusal u 1 offence → ⊥
-pending_has_none bytes t u offence g p h r = r.all_read (subst IsPending (one_given bytes t u g h) p)
+pending_has_none bytes t u offence g p h r = r.is_one.all_read (subst IsPending (one_given bytes t u g h) p)
 
 -- a file with an offence gives no library
 offends_gives_none : (bytes : List ℕ) (t : Tree) (offence : Offence) (library : Library) → GivesTree bytes t → IsRefusal t 1 offence → Gives bytes library → ⊥
 offends_gives_none bytes t offence library g r h =
     let moved : IsRefusal h.tree 1 offence = subst (λ x. IsRefusal x 1 offence) (one_given bytes t h.tree g h.given) r in
-    h.declared.unoffended moved.place offence.rule moved.first.is_one
+    h.declared.unoffended moved.is_one.place offence.rule moved.is_one.offends
 
 refusal_but : (bytes : List ℕ) (s : Status) (library : Library) → FileRefusal bytes s → Gives bytes library → HoldsStart library library.start → ⊥
 refusal_but bytes s library (not_xml place n) g h = no_refusal_of_tree bytes g.tree place g.given n

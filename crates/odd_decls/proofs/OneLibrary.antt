@@ -19,7 +19,7 @@ use Rattle.odd_decls.proofs.SortedWords.{one_sorted}
 one_spec : (schema item : Tree) (i j : ℕ) (a b : Spec) → IsReadAs schema item i a → IsReadAs schema item j b → a ≡ b
 one_spec schema item i j a b p q =
     let keys : a.key ≡ b.key = p.key ∙ ap element_key (same_Some _ _ (sym p.is_spec.1 ∙ q.is_spec.1)) ∙ sym q.key in
-    let modules : a.«module» ≡ b.«module» = p.modul ∙ sym q.modul in
+    let modules : a.«module» ≡ b.«module» = p.of_module ∙ sym q.of_module in
     let namespaces : a.ns ≡ b.ns = p.ns ∙ sym q.ns in
     let contents : a.content ≡ b.content = p.content ∙ sym q.content in
     λ n. record { key = keys n; «module» = modules n; ns = namespaces n; content = contents n }

@@ -3,7 +3,7 @@ use Rattle.std.proofs.Common.{◌≡◌, ℕ, inl, inr, sym, ap, ◌∙◌, arit
 use Rattle.odd_base.specs.declared.offence.Offence.{Offence}
 use Rattle.odd_base.specs.declared.offence.Who.TheVariants as who
 use Rattle.odd_reader.specs.declared.tree.Tree.{Tree}
-use Rattle.odd_decls.specs.Offences.{IsFirstOf, IsNotBefore, IsRefusal}
+use Rattle.odd_decls.specs.Offences.{IsNotBefore, IsRefusal}
 
 -- two offences, neither of which comes after the other, are one
 neither_after : (p r q s : ℕ) → IsNotBefore p r q s → IsNotBefore q s p r → (p ≡ q) × (r ≡ s)
@@ -12,15 +12,11 @@ neither_after p r q s (inl a) (inr b) = let e = b.0 in omega (arith, a, e)
 neither_after p r q s (inr a) (inl b) = let e = a.0 in omega (arith, b, e)
 neither_after p r q s (inr a) (inr b) = let h = a.1 in let k = b.1 in (a.0, omega (arith, h, k))
 
--- the first is one
-pub one_first : (HasOne : ℕ → ℕ → Type 0) (p r q s : ℕ) → IsFirstOf HasOne p r → IsFirstOf HasOne q s → (p ≡ q) × (r ≡ s)
-one_first HasOne p r q s a b = neither_after p r q s (a.first q s b.is_one) (b.first p r a.is_one)
-
 -- a file is refused with one offence
 pub one_offence : (t : Tree) (file : ℕ) (o p : Offence) → IsRefusal t file o → IsRefusal t file p → o ≡ p
 one_offence t file o p a b =
-    let same = one_first _ a.place o.rule b.place p.rule a.first b.first in
-    let files : o.file ≡ p.file = a.in_file ∙ sym b.in_file in
-    let whos : o.who ≡ p.who = a.placed ∙ ap who.At same.0 ∙ sym b.placed in
+    let same = neither_after a.is_one.place o.rule b.is_one.place p.rule (a.first b.is_one.place p.rule b.is_one.offends) (b.first a.is_one.place o.rule a.is_one.offends) in
+    let files : o.file ≡ p.file = a.is_one.in_file ∙ sym b.is_one.in_file in
+    let whos : o.who ≡ p.who = a.is_one.placed ∙ ap who.At same.0 ∙ sym b.is_one.placed in
     let rules : o.rule ≡ p.rule = same.1 in
     λ n. record { file = files n; who = whos n; rule = rules n }

@@ -6,7 +6,7 @@ use Rattle.odd_base.specs.declared.offence.Who.TheVariants as who
 use Rattle.odd_reader.specs.Formed.{IsFormed}
 use Rattle.odd_reader.specs.declared.tree.Tree.{Tree, out-Tree}
 use Rattle.odd_decls.specs.declared.reading.Fault.{Fault}
-use Rattle.odd_decls.specs.Offences.{HasOffence, IsFirstOffence, IsOffenceOf, IsRefusal, Offends}
+use Rattle.odd_decls.specs.Offences.{HasOffence, IsFirstOf, IsOffenceOf, IsRefusal, Offends}
 use Rattle.odd_decls.specs.Offences as offences
 use Rattle.odd_decls.specs.Pending.{HoldsForm, IsPending, form, no_schema}
 use Rattle.odd_decls.specs.Reading.{AddsFound, IsFirstFault, PlacesRise}
@@ -35,7 +35,7 @@ unoffended t schema others found none place rule h = none place rule (offence_fo
 
 -- the first fault of what the search finds is the first offence of the file
 pub first_offence : (first end : ℕ) (t schema : Tree) (others : List Tree) (fault : Fault) → IsFormed first end t → Finds t (schema ∷ others)
-    → IsFirstFault (Offends schema others) (PlacesRise schema others) fault → IsFirstOffence t fault.at fault.rule
+    → IsFirstFault (Offends schema others) (PlacesRise schema others) fault → IsFirstOf (HasOffence t) fault.at fault.rule
 first_offence first end t schema others fault formed found h = record {
   is_one = record { schema = schema; others = others; found = found; offends = h.is_one };
   first = λ place rule o. (h.first (places_rise first end t schema others formed found)).first place rule (offence_found t schema others place rule found o);
@@ -52,10 +52,13 @@ offence_of t file fault offence whole has is =
     subst (IsOffenceOf t file) is (record { all_read = whole; in_file = refl; place = fault.at; placed = refl; offends = has })
 
 -- the first offence of a file that is read whole refuses it
-pub refusal_of : (t : Tree) (file : ℕ) (fault : Fault) (offence : Offence) → (IsPending t → ⊥) → IsFirstOffence t fault.at fault.rule → told_as file fault ≡ offence
+pub refusal_of : (t : Tree) (file : ℕ) (fault : Fault) (offence : Offence) → (IsPending t → ⊥) → IsFirstOf (HasOffence t) fault.at fault.rule → told_as file fault ≡ offence
     → IsRefusal t file offence
 refusal_of t file fault offence whole first is =
-    subst (IsRefusal t file) is (record { all_read = whole; in_file = refl; place = fault.at; placed = refl; first = first })
+    subst (IsRefusal t file) is (record {
+      is_one = record { all_read = whole; in_file = refl; place = fault.at; placed = refl; offends = first.is_one };
+      first = first.first;
+    })
 
 -- a `schemaSpec` that breaks nothing with those after it breaks nothing alone
 pub sound_alone : (schema : Tree) (others : List Tree) → ((place rule : ℕ) → Offends schema others place rule → ⊥) → (place rule : ℕ) → Offends schema [] place rule → ⊥

@@ -34,7 +34,7 @@ pub record IsReadAs (schema item : Tree) (at : ℕ) (spec : Spec) : Type 0 where
   pub ident : List ℕ
   pub is_spec : IsSpecOf ident item
   pub key : spec.key ≡ element_key ident
-  pub modul : spec.«module» ≡ unwrap_or (given item (codes "module")) []
+  pub of_module : spec.«module» ≡ unwrap_or (given item (codes "module")) []
   pub ns : spec.ns ≡ Some (namespace_given schema item)
   pub content : spec.content ≡ content_given (children_of item)
   pub placed : at ≡ (out-Tree item).at

@@ -1,6 +1,6 @@
 -- The offences of form of an ODD file: rule 1, a needed attribute is absent or one is malformed; 2, a form that is left out; 3, a child that may not
 -- stand there; 4, twice. An offence is of an item, wherever inside the item the fault is.
-use Rattle.std.specs.Prelude.{◌≡◌, ◌≢◌, ◌⊎◌, ◌≤◌, ◌<◌, ℕ, Bool, true, false, List, [], ◌∷◌, ◌++◌, Option, Some, None, IsSome, All, codes, IsTrue}
+use Rattle.std.specs.Prelude.{◌≡◌, ◌≢◌, ◌⊎◌, ◌≤◌, ◌<◌, ℕ, Bool, true, false, ◌&&◌, if◌then◌else◌, List, [], ◌∷◌, ◌++◌, Option, Some, None, IsSome, All, codes, IsTrue}
 use Rattle.odd_base.specs.declared.offence.Offence.{Offence}
 use Rattle.odd_base.specs.declared.offence.Who.TheVariants as who
 use Rattle.odd_tokens.specs.Characters.{IsNCName}
@@ -36,12 +36,8 @@ pub data IsReadIn (spec : Tree) : Tree → Type 0 where
 
 -- the children that an `elementSpec`, a `content` and a part of it may have
 abbrev pub is_named_child : Tree → Tree → Bool
-is_named_child t child = named (is_one_of (codes "elementSpec" ∷ []) t) (is_one_of (codes "content" ∷ []) t)
-  where
-    named : Bool → Bool → Bool
-    named true other = is_one_of (codes "content" ∷ codes "constraintSpec" ∷ []) child
-    named false true = is_part child
-    named false false = false
+is_named_child t child = if is_one_of (codes "elementSpec" ∷ []) t then is_one_of (codes "content" ∷ codes "constraintSpec" ∷ []) child
+    else is_one_of (codes "content" ∷ []) t && is_part child
 
 -- a child that may not stand there: a TEI element that is neither named nor passed over, and below `content` any of another namespace
 abbrev pub MayNotStand : Tree → Tree → Type 0
@@ -111,9 +107,6 @@ pub record IsFirstOf (HasOne : ℕ → ℕ → Type 0) (place rule : ℕ) : Type
   pub is_one : HasOne place rule
   pub first : (other others_rule : ℕ) → HasOne other others_rule → IsNotBefore place rule other others_rule
 
-abbrev pub IsFirstOffence : Tree → ℕ → ℕ → Type 0
-IsFirstOffence t = IsFirstOf (HasOffence t)
-
 -- the offence is one of the file, which has no form that is not read yet
 pub record IsOffenceOf (t : Tree) (file : ℕ) (offence : Offence) : Type 0 where
   pub all_read : IsPending t → ⊥
@@ -122,10 +115,7 @@ pub record IsOffenceOf (t : Tree) (file : ℕ) (offence : Offence) : Type 0 wher
   pub placed : offence.who ≡ who.At place
   pub offends : HasOffence t place offence.rule
 
--- the offence is the first of a file that has no form that is not read yet
+-- and no other of the file comes before it
 pub record IsRefusal (t : Tree) (file : ℕ) (offence : Offence) : Type 0 where
-  pub all_read : IsPending t → ⊥
-  pub in_file : offence.file ≡ file
-  pub place : ℕ
-  pub placed : offence.who ≡ who.At place
-  pub first : IsFirstOffence t place offence.rule
+  pub is_one : IsOffenceOf t file offence
+  pub first : (place rule : ℕ) → HasOffence t place rule → IsNotBefore is_one.place offence.rule place rule

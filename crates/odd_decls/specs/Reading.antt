@@ -82,3 +82,8 @@ PlacesRise schema others = Rises (suc (out-Tree schema).at) others × Rises (suc
 -- at each key the same is declared
 abbrev pub DeclareTheSame : List Entry → List Entry → Type 0
 DeclareTheSame some others = (key : Key) → declared_at others key ≡ declared_at some key
+
+-- a word that ends, where one has begun, before those that come later
+abbrev pub ended : List ℕ → List (List ℕ) → List (List ℕ)
+ended [] later = later
+ended (c ∷ cs) later = (c ∷ cs) ∷ later

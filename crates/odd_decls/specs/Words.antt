@@ -1,15 +1,20 @@
 -- The words of an attribute's value: what stands between white space.
-use Rattle.std.specs.Prelude.{ℕ, List, [], ◌∷◌, ◌++◌, if◌then◌else◌}
+use Rattle.std.specs.Prelude.{ℕ, Bool, true, false, List, [], ◌∷◌, filter, if◌then◌else◌}
 use Rattle.odd_tokens.specs.Characters.{is_space}
 
-abbrev pub ended : List ℕ → List (List ℕ) → List (List ℕ)
-ended [] later = later
-ended (c ∷ cs) later = (c ∷ cs) ∷ later
+-- the character stands before the first piece
+abbrev pub begun_with : ℕ → List (List ℕ) → List (List ℕ)
+begun_with c [] = (c ∷ []) ∷ []
+begun_with c (piece ∷ pieces) = (c ∷ piece) ∷ pieces
 
--- with the word that has begun
-abbrev pub words_after : List ℕ → List ℕ → List (List ℕ)
-words_after begun [] = ended begun []
-words_after begun (c ∷ cs) = if is_space c then ended begun (words_after [] cs) else words_after (begun ++ c ∷ []) cs
+-- the pieces between the characters of white space, which may be empty
+abbrev pub pieces_of : List ℕ → List (List ℕ)
+pieces_of [] = [] ∷ []
+pieces_of (c ∷ cs) = if is_space c then [] ∷ pieces_of cs else begun_with c (pieces_of cs)
+
+abbrev pub is_filled : List ℕ → Bool
+is_filled [] = false
+is_filled (c ∷ cs) = true
 
 abbrev pub words_of : List ℕ → List (List ℕ)
-words_of value = words_after [] value
+words_of value = filter is_filled (pieces_of value)

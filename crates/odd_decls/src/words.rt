@@ -1,5 +1,6 @@
 ghost use Rattle.std.specs.Prelude.{◌≡◌, [], ◌++◌, IfOk, OnOk};
-ghost use Rattle.odd_decls.specs.Words.{ended, words_of as the_words_of};
+ghost use Rattle.odd_decls.specs.Reading.{ended};
+ghost use Rattle.odd_decls.specs.Words.{words_of as the_words_of};
 
 use odd_base::{NoMemory, Text, Words};
 use odd_tokens::is_space;

@@ -1,6 +1,6 @@
-use Rattle.std.proofs.Common.{◌++◌, sym, ap, ◌∙◌}
-use Rattle.odd_decls.proofs.Spaced.{at_other}
-use Rattle.odd_decls.specs.Words.{words_after}
+use Rattle.std.proofs.Common.{◌≡◌, [], ◌++◌, sym, ap, ◌∙◌}
+use Rattle.std.proofs.lemmas.List.{nil_from_length}
+use Rattle.odd_decls.proofs.Spaced.{all_words, at_other, words_after}
 use Rattle.odd_decls.proofs.words.words_of.Goals as goal
 
 pub loop-c-preserved : goal.loop-c-preserved
@@ -10,3 +10,8 @@ loop-c-preserved c =
     ap (λ w. words ++ words_after w rest) c.in_ok-push.ensures.ok
     ∙ ap (λ x. words ++ x) (sym (at_other c.loop-c.word rest c.in-Some.c (sym c.is_space.ensures ∙ c.if-is_space.false)))
     ∙ ap (λ bytes. words ++ words_after c.loop-c.word bytes) (sym c.in-Some.ensures.steps.0) ∙ c.loop-c.invariant
+
+pub returns : goal.returns
+returns c =
+    let done : c.loop-c.c-iterator.rest.now ≡ [] = nil_from_length _ c.in-None.ensures.steps.0.0 in
+    c.in_ok-end_word-2.ensures ∙ ap (λ bytes. c.loop-c.words ++ words_after c.loop-c.word bytes) (sym done) ∙ c.loop-c.invariant ∙ all_words c.args.value.now
