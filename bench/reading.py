@@ -1,24 +1,32 @@
 #!/usr/bin/env python3
-"""How fast a large ODD file is read, and in how much memory, beside xmllint.
+"""How fast large files are read, and in how much memory, beside xmllint.
 
     bench/reading.py PROGRAM [FOLDER]
 
-writes three files into FOLDER (a new one under /tmp where none is given): an ODD file of 15 MB with 20,000 elementSpec
-among comments, prose, references and CDATA sections, one of 12 MB with 400,000 of them and nothing else, their idents
-falling, and a file whose root has 200,000 attributes. Then it runs `PROGRAM compile FILE` and `xmllint --noout FILE` in
-turn, seven times each, and prints the least time in seconds and the greatest memory in MB. The program compiles the first
-two, and answers the third with code 10. The last two go to PROGRAM alone: xmllint compares the attributes of the third in
-pairs, for many minutes.
+writes files into FOLDER (a new one under /tmp where none is given):
+
+- an ODD file of 15 MB with 20,000 elementSpec among comments, prose, references and CDATA sections;
+- 14 MB of empty elements, and nothing else;
+- 140 KB with a namespace of 100 KB, which 10,000 elements have;
+- 400,000 elementSpec and nothing else, with their idents rising, falling and shuffled;
+- a root with 200,000 attributes.
+
+Then it runs `PROGRAM compile FILE` and `xmllint --noout FILE` in turn, five times each, and prints the least processor time
+(user and system) in seconds, and the greatest memory in MB. The program compiles the first and the declarations, and
+answers the others with code 10 or 2. The last file goes to PROGRAM alone: xmllint compares its attributes in pairs, for
+many minutes.
 """
 import os
+import random
 import sys
 import tempfile
-import time
 
 SPECS = 20_000
-FALLING = 400_000
+EMPTY = 3_500_000
+IN_NAMESPACE = 10_000
+DECLARATIONS = 400_000
 ATTRIBUTES = 200_000
-RUNS = 7
+RUNS = 5
 WORDS = "the name of a person, place or thing as it stands in the source".split()
 
 
@@ -49,9 +57,23 @@ def odd_file():
     )
 
 
-def falling_file():
-    specs = "".join(f'<elementSpec ident="a{number:06}"/>\n' for number in reversed(range(FALLING)))
+def empty_file():
+    return "<a>" + "<a/>" * EMPTY + "</a>\n"
+
+
+def namespace_file():
+    return f'<a xmlns="urn:{"x" * 100_000}">' + "<a/>" * IN_NAMESPACE + "</a>\n"
+
+
+def declarations_file(numbers):
+    specs = "".join(f'<elementSpec ident="a{number:06}"/>\n' for number in numbers)
     return f'<schemaSpec xmlns="http://www.tei-c.org/ns/1.0" ident="s" start="a000000">{specs}</schemaSpec>\n'
+
+
+def shuffled():
+    numbers = list(range(DECLARATIONS))
+    random.Random(1).shuffle(numbers)
+    return numbers
 
 
 def wide_file():
@@ -59,9 +81,18 @@ def wide_file():
     return f"<wide{attributes}/>\n"
 
 
+def write(path, make):
+    """Writes a file in a process of its own: the peak of a run counts what its parent holds."""
+    child = os.fork()
+    if child == 0:
+        with open(path, "wb") as out:
+            out.write(make().encode("utf-8"))
+        os._exit(0)
+    os.waitpid(child, 0)
+
+
 def run(words):
-    """The seconds and the peak memory in MB of one run."""
-    begin = time.perf_counter()
+    """The processor time in seconds, the peak memory in MB and the exit code of one run."""
     child = os.fork()
     if child == 0:
         null = os.open(os.devnull, os.O_RDWR)
@@ -69,7 +100,18 @@ def run(words):
             os.dup2(null, stream)
         os.execvp(words[0], words)
     _, status, usage = os.wait4(child, 0)
-    return time.perf_counter() - begin, usage.ru_maxrss / 1024, os.waitstatus_to_exitcode(status)
+    return usage.ru_utime + usage.ru_stime, usage.ru_maxrss / 1024, os.waitstatus_to_exitcode(status)
+
+
+FILES = (
+    ("large.odd", odd_file, True),
+    ("empty.xml", empty_file, True),
+    ("namespace.xml", namespace_file, True),
+    ("rising.odd", lambda: declarations_file(range(DECLARATIONS)), True),
+    ("falling.odd", lambda: declarations_file(reversed(range(DECLARATIONS))), True),
+    ("shuffled.odd", lambda: declarations_file(shuffled()), True),
+    ("wide.xml", wide_file, False),
+)
 
 
 def main():
@@ -78,12 +120,11 @@ def main():
     program = sys.argv[1]
     folder = sys.argv[2] if len(sys.argv) == 3 else tempfile.mkdtemp(prefix="odd-bench-")
     os.makedirs(folder, exist_ok=True)
-    for name, make, beside in (("large.odd", odd_file, True), ("falling.odd", falling_file, False), ("wide.xml", wide_file, False)):
+    for name, make, beside in FILES:
         path = os.path.join(folder, name)
-        with open(path, "wb") as out:
-            out.write(make().encode("utf-8"))
+        write(path, make)
         size = os.path.getsize(path)
-        print(f"{path}: {size} bytes")
+        print(f"{name}: {size} bytes")
         readers = [[program, "compile", path]]
         if beside:
             readers.append(["xmllint", "--huge", "--noout", path])
@@ -95,7 +136,7 @@ def main():
             seconds = min(r[0] for r in runs[which])
             memory = max(r[1] for r in runs[which])
             codes = sorted({r[2] for r in runs[which]})
-            print(f"  {words[0]}: {seconds:.3f} s, {memory:.0f} MB, {memory * 1048576 / size:.1f} times the file, codes {codes}")
+            print(f"  {os.path.basename(words[0])}: {seconds:.3f} s, {memory:.0f} MB, {memory * 1048576 / size:.1f} times the file, codes {codes}", flush=True)
 
 
 if __name__ == "__main__":

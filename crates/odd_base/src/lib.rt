@@ -34,6 +34,3 @@ pub use seq::Seq;
 pub use shelf::{Shelf, ShelfFault};
 pub use sink::{Sink, SinkFault};
 pub use text::{Text, Words};
-
-#[cfg(test)]
-mod tests;

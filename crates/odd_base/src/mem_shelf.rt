@@ -38,7 +38,7 @@ pub struct MemShelf {
     files: Files,
     chunk: usize,
     fail: Calls,
-    begun: bool,
+    begins: u64,
     place: Option<Place>,
     calls: u64,
     faults: u64,
@@ -52,7 +52,7 @@ impl MemShelf {
         requires { 1 ≤ chunk }
         ensures holds { ⟦<MemShelf as Shelf>⟧.holds result ≡ Some (files_of files) }
         ensures nothing_unread { ⟦<MemShelf as Shelf>⟧.rest result ≡ Some [] }
-        ensures not_begun { ⟦<MemShelf as Shelf>⟧.begun result ≡ false }
+        ensures not_begun { ⟦<MemShelf as Shelf>⟧.begins result ≡ 0 }
         ensures no_faults { ⟦<MemShelf as Shelf>⟧.faults result ≡ 0 }
         ensures keeps { (result.chunk ≡ chunk) × (result.fail ≡ fail) }
         ensures no_calls { result.calls ≡ 0 }
@@ -63,7 +63,7 @@ impl MemShelf {
             files,
             chunk,
             fail,
-            begun: false,
+            begins: 0,
             place: None,
             calls: 0,
             faults: 0,
@@ -114,7 +114,7 @@ impl Shelf for MemShelf {
 
     ghost reads = { λ s. s.reads };
 
-    ghost begun = { λ s. s.begun };
+    ghost begins = { λ s. s.begins };
 
     ghost steady = { λ s. is_empty s.fail };
 
@@ -122,10 +122,11 @@ impl Shelf for MemShelf {
         ensures same_files { ⟦<MemShelf as Shelf>⟧.holds self.new ≡ ⟦<MemShelf as Shelf>⟧.holds self.old }
         ensures same_steady { ⟦<MemShelf as Shelf>⟧.steady self.new ≡ ⟦<MemShelf as Shelf>⟧.steady self.old }
         ensures same_reads { ⟦<MemShelf as Shelf>⟧.reads self.new ≡ ⟦<MemShelf as Shelf>⟧.reads self.old }
-        ensures begins { ⟦<MemShelf as Shelf>⟧.begun self.new ≡ true }
+        ensures counted { ⟦<MemShelf as Shelf>⟧.begins self.new ≡ next_count (⟦<MemShelf as Shelf>⟧.begins self.old) }
         ensures opened { (files : FileMap) → ⟦<MemShelf as Shelf>⟧.holds self.old ≡ Some files → OnOk result (Opened files name.now (⟦<MemShelf as Shelf>⟧.rest self.new)) }
         ensures closed { (files : FileMap) → ⟦<MemShelf as Shelf>⟧.holds self.old ≡ Some files → OnErr result (⟦<MemShelf as Shelf>⟧.rest self.new ≡ Some []) }
         ensures emptied { OnErr result (IfSome (⟦<MemShelf as Shelf>⟧.rest self.new) (λ left. left ≡ [])) }
+        ensures begins_never_fall { ⟦<MemShelf as Shelf>⟧.begins self.old ≤ ⟦<MemShelf as Shelf>⟧.begins self.new }
         ensures never_falls { ⟦<MemShelf as Shelf>⟧.faults self.old ≤ ⟦<MemShelf as Shelf>⟧.faults self.new }
         ensures stands_still { ⟦<MemShelf as Shelf>⟧.faults self.old ≡ last_count → ⟦<MemShelf as Shelf>⟧.faults self.new ≡ last_count }
         ensures rose { OnErr result (HasRisen (⟦<MemShelf as Shelf>⟧.faults self.old) (⟦<MemShelf as Shelf>⟧.faults self.new)) }
@@ -138,7 +139,7 @@ impl Shelf for MemShelf {
         ensures fails_only { OnErr result (IsToFail self.old.fail (next_count self.old.calls) ⊎ NotHeld (files_of self.old.files) name.now) }
         ensures counts_faults { self.new.faults ≡ (if is_err result then next_count self.old.faults else self.old.faults) }
     {
-        self.begun = true;
+        self.begins = next_count(self.begins);
         self.place = None;
         self.calls = next_count(self.calls);
         if self.fail.as_slice().contains(&self.calls) {
@@ -160,27 +161,28 @@ impl Shelf for MemShelf {
     fn read(&mut self, buf: &mut [u8]) -> Result<usize, ShelfFault>
         ensures same_files { ⟦<MemShelf as Shelf>⟧.holds self.new ≡ ⟦<MemShelf as Shelf>⟧.holds self.old }
         ensures same_steady { ⟦<MemShelf as Shelf>⟧.steady self.new ≡ ⟦<MemShelf as Shelf>⟧.steady self.old }
-        ensures same_begun { ⟦<MemShelf as Shelf>⟧.begun self.new ≡ ⟦<MemShelf as Shelf>⟧.begun self.old }
+        ensures same_begins { ⟦<MemShelf as Shelf>⟧.begins self.new ≡ ⟦<MemShelf as Shelf>⟧.begins self.old }
         ensures within { IfOk result (λ n. n ≤ length buf.old) }
         ensures moved { (unread : List ℕ) → ⟦<MemShelf as Shelf>⟧.rest self.old ≡ Some unread → IfOk result (TakesFront unread buf.old buf.new (⟦<MemShelf as Shelf>⟧.rest self.new)) }
         ensures unmoved { OnErr result (⟦<MemShelf as Shelf>⟧.rest self.new ≡ ⟦<MemShelf as Shelf>⟧.rest self.old) }
         ensures counted { ⟦<MemShelf as Shelf>⟧.reads self.new ≡ (if brings result then next_count (⟦<MemShelf as Shelf>⟧.reads self.old) else ⟦<MemShelf as Shelf>⟧.reads self.old) }
-        ensures not_begun { ⟦<MemShelf as Shelf>⟧.begun self.old ≡ false → IsErr result }
+        ensures not_begun { ⟦<MemShelf as Shelf>⟧.begins self.old ≡ 0 → IsErr result }
+        ensures reads_never_fall { ⟦<MemShelf as Shelf>⟧.reads self.old ≤ ⟦<MemShelf as Shelf>⟧.reads self.new }
         ensures never_falls { ⟦<MemShelf as Shelf>⟧.faults self.old ≤ ⟦<MemShelf as Shelf>⟧.faults self.new }
         ensures stands_still { ⟦<MemShelf as Shelf>⟧.faults self.old ≡ last_count → ⟦<MemShelf as Shelf>⟧.faults self.new ≡ last_count }
         ensures rose { OnErr result (HasRisen (⟦<MemShelf as Shelf>⟧.faults self.old) (⟦<MemShelf as Shelf>⟧.faults self.new)) }
-        ensures steady_fault { IsTrue (⟦<MemShelf as Shelf>⟧.steady self.old) → IsTrue (⟦<MemShelf as Shelf>⟧.begun self.old) → IsOk result }
+        ensures steady_fault { IsTrue (⟦<MemShelf as Shelf>⟧.steady self.old) → 0 < ⟦<MemShelf as Shelf>⟧.begins self.old → IsOk result }
 
         // Beside the clauses of the trait: which calls fault, how much comes, and what is counted.
         ensures called { self.new.calls ≡ next_count self.old.calls }
         ensures kept { (self.new.chunk ≡ self.old.chunk) × (self.new.fail ≡ self.old.fail) }
         ensures at_most_chunk { IfOk result (λ n. n ≤ self.old.chunk) }
         ensures fails { IsToFail self.old.fail (next_count self.old.calls) → IsErr result }
-        ensures fails_only { OnErr result (IsToFail self.old.fail (next_count self.old.calls) ⊎ (self.old.begun ≡ false)) }
+        ensures fails_only { OnErr result (IsToFail self.old.fail (next_count self.old.calls) ⊎ (self.old.begins ≡ 0)) }
         ensures counts_faults { self.new.faults ≡ (if is_err result then next_count self.old.faults else self.old.faults) }
     {
         self.calls = next_count(self.calls);
-        if !self.begun || self.fail.as_slice().contains(&self.calls) {
+        if self.begins == 0 || self.fail.as_slice().contains(&self.calls) {
             self.faults = next_count(self.faults);
             return Err(ShelfFault);
         }

@@ -1,5 +1,5 @@
 ghost use Rattle.std.specs.Prelude.{◌≡◌, ◌≤◌, ◌+◌, ℕ, List, Some, [], length, IsTrue, IfOk, OnOk};
-ghost use Rattle.odd_base.specs.Count.{HasRisen};
+ghost use Rattle.odd_base.specs.Count.{HasRisen, next_count};
 ghost use Rattle.odd_base.specs.Shelf.{FileMap, Held, NotHeld, IsTooLong, LeavesSuffix};
 
 use crate::bytes::Bytes;
@@ -43,6 +43,9 @@ pub fn slurp<F: Shelf>(
 
     ensures same_files { F.holds shelf.new ≡ F.holds shelf.old }
     ensures same_steady { F.steady shelf.new ≡ F.steady shelf.old }
+    ensures begins { F.begins shelf.new ≡ next_count (F.begins shelf.old) }
+    ensures begins_never_fall { F.begins shelf.old ≤ F.begins shelf.new }
+    ensures reads_never_fall { F.reads shelf.old ≤ F.reads shelf.new }
     ensures never_falls { F.faults shelf.old ≤ F.faults shelf.new }
     ensures few_reads { F.reads shelf.new ≤ F.reads shelf.old + (limit + 1) }
 {

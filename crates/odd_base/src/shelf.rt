@@ -1,4 +1,4 @@
-ghost use Rattle.std.specs.Prelude.{◌≡◌, ◌≤◌, ◌+◌, ℕ, List, Option, Some, [], length, IsTrue, IsOk, IsErr, IfOk, IfSome, OnOk, OnErr, Bool, true, false, if◌then◌else◌};
+ghost use Rattle.std.specs.Prelude.{◌≡◌, ◌≤◌, ◌<◌, ◌+◌, ℕ, List, Option, Some, [], length, IsTrue, IsOk, IsErr, IfOk, IfSome, OnOk, OnErr, Bool, if◌then◌else◌};
 ghost use Rattle.odd_base.specs.Count.{last_count, next_count, HasRisen};
 ghost use Rattle.odd_base.specs.Shelf.{FileMap, NotHeld, Opened, TakesFront, brings};
 
@@ -22,8 +22,8 @@ pub trait Shelf {
     /// The count of reads that brought bytes.
     ghost reads: { Self → ℕ };
 
-    /// Whether a file was begun, also one that could not be.
-    ghost begun: { Self → Bool };
+    /// The count of files that were begun, also of those that could not be.
+    ghost begins: { Self → ℕ };
 
     /// Whether it faults only at a name that it does not hold, and at a read before any file was begun.
     ghost steady: { Self → Bool };
@@ -33,7 +33,7 @@ pub trait Shelf {
         ensures same_files { holds self.new ≡ holds self.old }
         ensures same_steady { steady self.new ≡ steady self.old }
         ensures same_reads { reads self.new ≡ reads self.old }
-        ensures begins { begun self.new ≡ true }
+        ensures counted { begins self.new ≡ next_count (begins self.old) }
 
         // Ok only at a file that is held, of which all is unread then.
         ensures opened { (files : FileMap) → holds self.old ≡ Some files → OnOk result (Opened files name.now (rest self.new)) }
@@ -42,6 +42,7 @@ pub trait Shelf {
         ensures closed { (files : FileMap) → holds self.old ≡ Some files → OnErr result (rest self.new ≡ Some []) }
         ensures emptied { OnErr result (IfSome (rest self.new) (λ left. left ≡ [])) }
 
+        ensures begins_never_fall { begins self.old ≤ begins self.new }
         ensures never_falls { faults self.old ≤ faults self.new }
         ensures stands_still { faults self.old ≡ last_count → faults self.new ≡ last_count }
         ensures rose { OnErr result (HasRisen (faults self.old) (faults self.new)) }
@@ -52,16 +53,17 @@ pub trait Shelf {
     fn read(&mut self, buf: &mut [u8]) -> Result<usize, ShelfFault>
         ensures same_files { holds self.new ≡ holds self.old }
         ensures same_steady { steady self.new ≡ steady self.old }
-        ensures same_begun { begun self.new ≡ begun self.old }
+        ensures same_begins { begins self.new ≡ begins self.old }
 
         ensures within { IfOk result (λ n. n ≤ length buf.old) }
         ensures moved { (unread : List ℕ) → rest self.old ≡ Some unread → IfOk result (TakesFront unread buf.old buf.new (rest self.new)) }
         ensures unmoved { OnErr result (rest self.new ≡ rest self.old) }
         ensures counted { reads self.new ≡ (if brings result then next_count (reads self.old) else reads self.old) }
 
-        ensures not_begun { begun self.old ≡ false → IsErr result }
+        ensures not_begun { begins self.old ≡ 0 → IsErr result }
+        ensures reads_never_fall { reads self.old ≤ reads self.new }
         ensures never_falls { faults self.old ≤ faults self.new }
         ensures stands_still { faults self.old ≡ last_count → faults self.new ≡ last_count }
         ensures rose { OnErr result (HasRisen (faults self.old) (faults self.new)) }
-        ensures steady_fault { IsTrue (steady self.old) → IsTrue (begun self.old) → IsOk result };
+        ensures steady_fault { IsTrue (steady self.old) → 0 < begins self.old → IsOk result };
 }

@@ -1,4 +1,4 @@
-ghost use Rattle.std.specs.Prelude.{◌≡◌, ◌≤◌, ◌++◌, List, ℕ, Some, length, IsTrue, IsOk, OnOk, OnErr};
+ghost use Rattle.std.specs.Prelude.{◌≡◌, ◌≤◌, ◌+◌, ◌++◌, List, ℕ, Some, length, IsTrue, IsOk, OnOk, OnErr};
 ghost use Rattle.odd_base.specs.Count.{HasRisen};
 ghost use Rattle.odd_base.specs.Sink.{IsPartWritten};
 
@@ -11,6 +11,7 @@ pub fn write_whole<W: Sink>(out: &mut W, bytes: &[u8]) -> Result<(), SinkFault>
     ensures part { (before : List ℕ) → W.written out.old ≡ Some before → OnErr result (IsPartWritten before bytes.now (W.written out.new)) }
     ensures rose { OnErr result (HasRisen (W.faults out.old) (W.faults out.new)) }
     ensures room { IsTrue (W.steady out.old) → length bytes.now ≤ W.room out.old → IsOk result }
+    ensures room_taken { IsTrue (W.steady out.old) → OnOk result (W.room out.new + length bytes.now ≡ W.room out.old) }
     ensures same_steady { W.steady out.new ≡ W.steady out.old }
     ensures never_falls { W.faults out.old ≤ W.faults out.new }
 {

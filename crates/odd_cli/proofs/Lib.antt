@@ -1,5 +1,1 @@
-pub mod Examples
-pub mod Formed
-pub mod Lists
-pub mod Replies
-pub mod Saying
+mod Arguments

@@ -1,4 +1,1 @@
-pub mod Note
-pub mod Reply
-pub mod Running
-pub mod Words
+pub mod CommandLine

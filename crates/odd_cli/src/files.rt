@@ -1,4 +1,5 @@
-ghost use Rattle.std.specs.Prelude.{◌≡◌, false};
+ghost use Rattle.std.specs.Prelude.{◌≡◌, ◌<◌, ◌≤◌, length, take, IfSome};
+ghost use Rattle.std.specs.Io.KnownBytes.{Consumes, IsAtEnd};
 
 use odd_base::count::next_count;
 use odd_base::{Shelf, ShelfFault, Text};
@@ -14,7 +15,7 @@ where
 {
     rt: &'a R,
     file: Option<R::File>,
-    begun: bool,
+    begins: u64,
     faults: u64,
     reads: u64,
 }
@@ -25,17 +26,30 @@ where
 {
     /// A shelf of which no file is begun.
     pub fn new(rt: &'a R) -> FileShelf<'a, R>
-        ensures not_begun { ⟦<FileShelf<'a, R> as Shelf>⟧.begun result ≡ false }
+        ensures not_begun { ⟦<FileShelf<'a, R> as Shelf>⟧.begins result ≡ 0 }
         ensures no_faults { ⟦<FileShelf<'a, R> as Shelf>⟧.faults result ≡ 0 }
         ensures no_reads { ⟦<FileShelf<'a, R> as Shelf>⟧.reads result ≡ 0 }
     {
         FileShelf {
             rt,
             file: None,
-            begun: false,
+            begins: 0,
             faults: 0,
             reads: 0,
         }
+    }
+}
+
+// Reads into the front of the buffer, and says how many bytes; none into a buffer with room only at the end of the
+// file. None where that failed.
+fn read_front<F: Read>(file: &mut F, buf: &mut [u8]) -> Option<usize>
+    ensures within { IfSome result (λ n. n ≤ length buf.new) }
+    ensures moved { IfSome result (λ n. Consumes (F.remaining file.old) (F.remaining file.new) (take n buf.new)) }
+    ensures ends { IfSome result (λ n. n ≡ 0 → 0 < length buf.new → IsAtEnd (F.remaining file.new)) }
+{
+    match file.read(buf) {
+        Ok(n) => Some(n),
+        Err(_) => None,
     }
 }
 
@@ -53,12 +67,12 @@ where
 
     ghost reads = { λ s. s.reads };
 
-    ghost begun = { λ s. s.begun };
+    ghost begins = { λ s. s.begins };
 
     ghost steady = { λ s. false };
 
     fn begin(&mut self, name: &Text) -> Result<(), ShelfFault> {
-        self.begun = true;
+        self.begins = next_count(self.begins);
         self.file = None;
         match fs::open(self.rt, name.as_str()) {
             Ok(file) => {
@@ -73,19 +87,17 @@ where
     }
 
     fn read(&mut self, buf: &mut [u8]) -> Result<usize, ShelfFault> {
-        match &mut self.file {
-            Some(file) if self.begun => match file.read(buf) {
-                Ok(0) => Ok(0),
-                Ok(n) => {
-                    self.reads = next_count(self.reads);
-                    Ok(n)
-                }
-                Err(_) => {
-                    self.faults = next_count(self.faults);
-                    Err(ShelfFault)
-                }
-            },
-            _ => {
+        let front = match &mut self.file {
+            Some(file) if self.begins > 0 => read_front(file, buf),
+            _ => None,
+        };
+        match front {
+            Some(0) => Ok(0),
+            Some(n) => {
+                self.reads = next_count(self.reads);
+                Ok(n)
+            }
+            None => {
                 self.faults = next_count(self.faults);
                 Err(ShelfFault)
             }

@@ -1,55 +1,27 @@
-//! The program `odd`: words and files in, a reply out.
+//! The program `odd`: the words of the command line, real files and streams, and a status to end with.
 #![tactic(auto)]
 
+mod command_line;
 mod files;
-mod note;
-mod running;
-mod status;
 mod streams;
-mod words;
 
+use crate::command_line::{ending, words_given};
 use crate::files::FileShelf;
-use crate::running::run;
 use crate::streams::StdSink;
-use odd_base::{NoMemory, Text, Words};
-use std::alloc::Global;
+use odd_run::run;
 use std::env;
-use std::io::ErrorKind;
 use std::process::ExitCode;
 
-// The status where a word is not UTF-8, and where there is no memory for the words.
-const NOT_WORDS: u8 = 4;
-
-const NO_MEMORY: u8 = 8;
-
 fn main(rt: HostRuntime) -> ExitCode {
-    let args = match env::args(&rt) {
-        Ok(args) => args,
-        Err(error) if error.kind() == ErrorKind::OutOfMemory => return ExitCode::from(NO_MEMORY),
-        Err(_) => return ExitCode::from(NOT_WORDS),
+    let words = match words_given(rt.alloc(), env::args(&rt)) {
+        Ok(words) => words,
+        Err(status) => return ending(&status),
     };
-    let Ok(words) = words_after_name(rt.alloc(), args) else {
-        return ExitCode::from(NO_MEMORY);
-    };
-    let mut shelf = FileShelf::new(&rt);
+    let mut files = FileShelf::new(&rt);
     let mut out = StdSink::new(rt.stdout());
     let mut note = StdSink::new(rt.stderr());
-    let status = run(rt.alloc(), &words, &mut shelf, &mut out, &mut note);
-    ExitCode::from(status.code())
+    ending(&run(rt.alloc(), &words, &mut files, &mut out, &mut note))
 }
 
-// The words after the program's name.
-fn words_after_name(alloc: Global, args: env::Args) -> Result<Words, NoMemory> {
-    let mut words = Words::new(alloc);
-    for word in args.skip(1) {
-        words.push(Text::from_str(alloc, word.as_str())?)?;
-    }
-    Ok(words)
-}
-
-#[cfg(test)]
-mod odd_files;
-#[cfg(test)]
-mod odd_tests;
 #[cfg(test)]
 mod tests;

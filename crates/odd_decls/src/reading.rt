@@ -149,12 +149,12 @@ fn first_item_fault(alloc: Global, schema: &Tree) -> Result<Option<Fault>, NoMem
 }
 
 // The least rule that an item breaks after those of these idents, to which its own is added.
-fn broken_rule<'a>(idents: &mut BTreeSet<&'a Text>, item: &'a Tree) -> Result<Option<u8>, NoMemory>
+fn broken_rule<'a>(idents: &mut BTreeSet<&'a str>, item: &'a Tree) -> Result<Option<u8>, NoMemory>
     ensures least { IfOk result (λ rule. (items : List ATree) → HoldsIdents items idents.old → IsLeast (BreaksAfter items item.now) rule) }
     ensures idents { OnOk result ((items : List ATree) → HoldsIdents items idents.old → HoldsIdents (items ++ item.now ∷ []) idents.new) }
 {
     let again = match spec_ident(item) {
-        Some(ident) => !idents.insert(ident)?,
+        Some(ident) => !idents.insert(ident.as_str())?,
         None => false,
     };
     Ok(item_fault(item).or(again.then_some(TWICE)))

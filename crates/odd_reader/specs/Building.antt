@@ -1,5 +1,5 @@
 -- How the builder goes from token to token: what private functions of the builder say of each other. The public contract is in other words.
-use Rattle.std.specs.Prelude.{◌≡◌, ◌⊎◌, ℕ, Bool, true, false, ◌&&◌, ◌||◌, ◌==◌, not, if◌then◌else◌, List, [], ◌∷◌, ◌++◌, length, map, reverse, Option, Some, None, Result, Ok, Err, MatchResult, codes, nat_le, encode_utf8, unwrap_or}
+use Rattle.std.specs.Prelude.{string_bytes, ◌≡◌, ◌⊎◌, ℕ, Bool, true, false, ◌&&◌, ◌||◌, ◌==◌, not, if◌then◌else◌, List, [], ◌∷◌, ◌++◌, length, map, reverse, Option, Some, None, Result, Ok, Err, MatchResult, codes, nat_le, encode_utf8, unwrap_or}
 use Rattle.std.specs.Option.{option_map}
 use Rattle.std.specs.List.{list_all, list_any}
 use Rattle.odd_base.specs.declared.name.Bind.{Bind}
@@ -31,7 +31,7 @@ pub record Kept : Type 0 where
   pub last : Last
 
 abbrev pub kept_of : Builder → Kept
-kept_of b = record { open_elements = reverse b.open.items; root = b.root; text = b.text; last = b.last }
+kept_of b = record { open_elements = reverse b.open.items; root = b.root; text = string_bytes b.text; last = b.last }
 
 -- what it keeps after a token, or why the token does not fit
 abbrev pub Built : Type 0

@@ -1,4 +1,4 @@
-ghost use Rattle.std.specs.Prelude.{◌≡◌, ◌++◌, ◌∷◌, [], None, Some, Ok, IfOk, OnOk, MatchResult, length, nat_le, codes, encode_utf8, ◌||◌, not, if◌then◌else◌, map, reverse, unwrap_or};
+ghost use Rattle.std.specs.Prelude.{◌≡◌, ◌++◌, ◌∷◌, [], None, Some, Ok, IfOk, OnOk, MatchResult, length, nat_le, codes, encode_utf8, string_bytes, ◌||◌, not, if◌then◌else◌, map, reverse, unwrap_or};
 ghost use Rattle.std.specs.List.{list_all};
 ghost use Rattle.std.specs.Option.{option_copied};
 ghost use Rattle.odd_reader.specs.Building.{Follows, Gives, around, attribute_named, attributes_named, begun, binds_made, build, character as a_character, character_text as text_of_character, element_closed, element_named, element_opened, ends_innermost as ends_the_innermost, inside as an_inside, is_nothing, is_root_closed as has_closed_root, is_same_name, is_written_same, kept_of, last_after as what_is_last_after, may_bind as can_bind, plain_made, prefix_declared, resolved as an_open, some_twice, text_ended, then_closed, then_other, tree_of as the_tree_of, with_children};
@@ -8,13 +8,10 @@ ghost use Rattle.odd_reader.specs.Spelled.{deepest};
 
 use crate::bindings::Bindings;
 use crate::tree::{Attr, Attrs, Node, Nodes, Tree};
+use crate::xml::{XML, XmlNamespace};
 use odd_base::{Bind, Name, NoMemory, Scope, Text, TryCopy};
 use odd_tokens::{Token, WrittenAttr, WrittenAttrs, WrittenName, WrittenTag, is_space};
-use std::alloc::{AllocFailed, Global};
-use std::mem;
-
-/// The namespace to which the prefix `xml` is bound.
-pub const XML: &str = "http://www.w3.org/XML/1998/namespace";
+use std::alloc::{AllocError, AllocFailed, Global};
 
 /// The namespace to which nothing is bound.
 pub const XMLNS: &str = "http://www.w3.org/2000/xmlns/";
@@ -37,6 +34,16 @@ impl From<NoMemory> for Misfit {
     ghost from_gives = { λ _ error. error ≡ misfit.NoMemory };
 
     fn from(_error: NoMemory) -> Misfit {
+        Misfit::NoMemory
+    }
+}
+
+impl From<AllocError> for Misfit {
+    ghost use Rattle.odd_reader.specs.declared.builder.Misfit.TheVariants as misfit;
+
+    ghost from_gives = { λ _ error. error ≡ misfit.NoMemory };
+
+    fn from(_error: AllocError) -> Misfit {
         Misfit::NoMemory
     }
 }
@@ -79,22 +86,24 @@ pub struct Builder {
     // the open elements, the outermost first
     open: Vec<Open>,
     root: Option<Tree>,
-    // the text that is not finished
-    text: Text,
+    // the text that is not finished, in a buffer that is used again
+    text: String,
     last: Last,
+    xml: XmlNamespace,
 }
 
 impl Builder {
-    pub fn new(alloc: Global) -> Builder
-        ensures { kept_of result ≡ begun }
+    pub fn new(alloc: Global) -> Result<Builder, NoMemory>
+        ensures { IfOk result (λ made. kept_of made ≡ begun) }
     {
-        Builder {
+        Ok(Builder {
             alloc,
             open: Vec::new(alloc),
             root: None,
-            text: Text::new(alloc),
+            text: String::new(alloc),
             last: Last::Other,
-        }
+            xml: XmlNamespace::new(alloc)?,
+        })
     }
 
     /// Takes the token that comes next.
@@ -125,6 +134,7 @@ impl Builder {
             root,
             text: _,
             last: _,
+            xml: _,
         } = self;
         root
     }
@@ -211,10 +221,11 @@ impl Builder {
     fn end_text(&mut self) -> Result<(), Misfit>
         ensures { Follows (Ok (text_ended (kept_of self.old))) result (kept_of self.new) }
     {
-        let text = mem::replace(&mut self.text, Text::new(self.alloc));
-        if text.as_str().is_empty() {
+        if self.text.is_empty() {
             return Ok(());
         }
+        let text = Text::from_str(self.alloc, self.text.as_str())?;
+        self.text.clear();
         add_child(&mut self.open, Node::Text(text))?;
         Ok(())
     }
@@ -306,7 +317,7 @@ impl Builder {
         ensures { Gives (in_force (around (kept_of self.now).open_elements ++ own.now) prefix.now) result }
     {
         if prefix.as_str() == "xml" {
-            return Ok(Text::from_str(self.alloc, XML)?);
+            return Ok(self.xml.share(self.alloc)?);
         }
         match self.bound(own, prefix) {
             Some(ns) => Ok(ns.copy(self.alloc)?),
@@ -357,6 +368,7 @@ impl Builder {
             let name = self.attribute_name(own, name)?;
             attrs.push(Attr { name, value })?;
         }
+        attrs.fit();
         Ok(attrs)
     }
 
@@ -379,8 +391,8 @@ impl Builder {
 }
 
 // Puts what a character is read as at the end of a text: a line end is a line feed.
-fn push_character(text: &mut Text, last: Last, c: char) -> Result<(), NoMemory>
-    ensures { OnOk result (text.new ≡ text.old ++ text_of_character last c) }
+fn push_character(text: &mut String, last: Last, c: char) -> Result<(), AllocError>
+    ensures { OnOk result (string_bytes text.new ≡ string_bytes text.old ++ text_of_character last c) }
 {
     match c {
         '\r' => text.push('\n'),
@@ -465,6 +477,7 @@ fn declarations(alloc: Global, attrs: WrittenAttrs) -> Result<(Scope, Vec<Writte
             Err(attr) => plain.push(attr)?,
         }
     }
+    binds.fit();
     Ok((binds, plain))
 }
 

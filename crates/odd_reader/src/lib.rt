@@ -7,13 +7,9 @@ mod escaping;
 pub mod printing;
 pub mod reader;
 pub mod tree;
+mod xml;
 
 pub use escaping::{escape_text, escape_value};
 pub use odd_tokens::is_ncname;
 pub use reader::{ReadRefusal, read_tree};
 pub use tree::{Attr, Attrs, Node, Nodes, Tree};
-
-#[cfg(test)]
-mod files;
-#[cfg(test)]
-mod tests;

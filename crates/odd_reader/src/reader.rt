@@ -6,6 +6,7 @@ ghost use Rattle.odd_reader.specs.declared.tree.Tree.{Tree as ATree};
 
 use crate::builder::{Builder, Misfit};
 use crate::tree::Tree;
+use odd_base::NoMemory;
 use odd_tokens::{Fault, Lexer};
 use std::alloc::Global;
 use std::str;
@@ -51,13 +52,13 @@ struct Reader {
 }
 
 impl Reader {
-    fn new(alloc: Global) -> Reader
-        ensures { read_of result 0 ≡ nothing_read }
+    fn new(alloc: Global) -> Result<Reader, NoMemory>
+        ensures { IfOk result (λ made. read_of made 0 ≡ nothing_read) }
     {
-        Reader {
+        Ok(Reader {
             lexer: Lexer::new(alloc),
-            builder: Builder::new(alloc),
-        }
+            builder: Builder::new(alloc)?,
+        })
     }
 
     // The byte where the unfinished token begins; where none is unfinished, that of the next character.
@@ -127,7 +128,10 @@ pub fn read_tree(alloc: Global, bytes: &[u8]) -> Result<Tree, ReadRefusal>
     ensures too_deep { IfErr result (λ e. (at : ℕ) → e ≡ ReadRefusal.TooDeep at → DepthPlace bytes.now at) }
 {
     let front = longest_front(bytes);
-    let mut reader = Reader::new(alloc);
+    let mut reader = match Reader::new(alloc) {
+        Ok(reader) => reader,
+        Err(NoMemory) => return Err(ReadRefusal::NoMemory),
+    };
     for (at, c) in front.char_indices() {
         reader.take(at as u64, c)?;
     }

@@ -1,5 +1,5 @@
 -- How the lexer goes from character to character: what the lexer's functions say. The contract of `read_tree` is in other words.
-use Rattle.std.specs.Prelude.{◌≡◌, ℕ, ◌+◌, ◌*◌, Bool, true, false, ◌&&◌, ◌||◌, ◌==◌, not, if◌then◌else◌, List, [], ◌∷◌, ◌++◌, length, Option, Some, None, Result, MatchResult, codes, nat_le, nat_lt, encode_utf8}
+use Rattle.std.specs.Prelude.{◌≡◌, ℕ, ◌+◌, ◌*◌, Bool, true, false, ◌&&◌, ◌||◌, ◌==◌, not, if◌then◌else◌, List, [], ◌∷◌, ◌++◌, length, Option, Some, None, Result, MatchResult, codes, nat_le, nat_lt, encode_utf8, string_bytes}
 use Rattle.std.specs.Char.{digit_value}
 use Rattle.std.specs.Str.{str_eq_ignore_ascii_case}
 use Rattle.odd_tokens.specs.Characters.{is_char, is_space, is_name_start, is_name_char}
@@ -36,7 +36,7 @@ pub record Lexed : Type 0 where
   pub number : ℕ
 
 abbrev pub lexed : Lexer → Lexed
-lexed l = record { state = l.state; opening = l.opening; begin = l.begin; declares = l.declares; tag = l.tag; name = l.name; value = l.value; text = l.text; number = l.number }
+lexed l = record { state = l.state; opening = l.opening; begin = l.begin; declares = l.declares; tag = l.tag; name = l.name; value = string_bytes l.value; text = string_bytes l.text; number = l.number }
 
 -- what it keeps after a character, and the token that the character ends
 abbrev pub Taken : Type 0

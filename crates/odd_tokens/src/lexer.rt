@@ -1,13 +1,14 @@
-ghost use Rattle.std.specs.Prelude.{◌≡◌, ◌↔◌, ℕ, ◌<◌, ◌≤◌, IsTrue};
+ghost use Rattle.std.specs.Prelude.{◌≡◌, ◌↔◌, ℕ, ◌<◌, ◌≤◌, IsTrue, IfOk, OnOk};
 ghost use Rattle.odd_tokens.specs.Lexing.{Follows, base_of as a_base_of, before_equals as a_before_equals, before_quote as a_before_quote, between as a_between, cdata as a_cdata, cdata_letter as a_cdata_letter, cdata_open as a_cdata_open, cdata_text as a_cdata_text, entity_named, comment as a_comment, comment_dash as a_comment_dash, digit as a_digit, done as a_done, end_attribute as an_end_attribute, end_digits as an_end_digits, end_letters as an_end_letters, end_space as an_end_space, exclamation as an_exclamation, fresh_tag, go as a_go, instruction as an_instruction, less as a_less, letter as a_letter, lexed, name_begins as a_name_begins, name_goes_on as a_name_goes_on, named_in, next, no_name, question as a_question, reference as a_reference, referred as a_referred, slash as a_slash, started, tag_goes_on as a_tag_goes_on, tag_space as a_tag_space, target as a_target, target_question as a_target_question, value as a_value};
 ghost use Rattle.odd_tokens.specs.declared.lexer.State.TheVariants as state;
 
 use crate::character::{is_char, is_space};
 use crate::declaration::is_declaration;
 use crate::names::{is_name_char, is_name_start};
+use crate::table::TextTable;
 use crate::token::{Token, WrittenAttr, WrittenAttrs, WrittenName, WrittenTag};
 use odd_base::{NoMemory, Text};
-use std::alloc::Global;
+use std::alloc::{AllocError, Global};
 use std::mem;
 
 /// Why a token does not go on with a character.
@@ -24,6 +25,16 @@ impl From<NoMemory> for Fault {
     ghost from_gives = { λ _ error. error ≡ fault.NoMemory };
 
     fn from(_error: NoMemory) -> Fault {
+        Fault::NoMemory
+    }
+}
+
+impl From<AllocError> for Fault {
+    ghost use Rattle.odd_tokens.specs.declared.lexer.Fault.TheVariants as fault;
+
+    ghost from_gives = { λ _ error. error ≡ fault.NoMemory };
+
+    fn from(_error: AllocError) -> Fault {
         Fault::NoMemory
     }
 }
@@ -118,10 +129,12 @@ pub struct Lexer {
     // the token is the XML declaration, which is read like a tag
     declares: bool,
     tag: WrittenTag,
+    // the name and the value that are read, in buffers that are used again
     name: WrittenName,
-    value: Text,
+    value: String,
+    names: TextTable,
     // the text of a CDATA section, the target of an instruction, the letters of a reference
-    text: Text,
+    text: String,
     // the number of a reference
     number: u32,
 }
@@ -199,8 +212,9 @@ impl Lexer {
             declares: false,
             tag: new_tag(alloc, 0),
             name: new_name(alloc),
-            value: Text::new(alloc),
-            text: Text::new(alloc),
+            value: String::new(alloc),
+            names: TextTable::new(alloc),
+            text: String::new(alloc),
             number: 0,
         }
     }
@@ -283,24 +297,42 @@ impl Lexer {
         Ok(Some(Token::Character(c)))
     }
 
+    fn clear_name(&mut self)
+        ensures { lexed self.new ≡ record (lexed self.old) { name = no_name } }
+    {
+        self.name.prefix.clear();
+        self.name.local.clear();
+    }
+
+    // The name that was read, of which each part is kept once a file.
+    fn take_name(&mut self) -> Result<WrittenName, NoMemory>
+        ensures name { IfOk result (λ name. name ≡ (lexed self.old).name) }
+        ensures cleared { OnOk result (lexed self.new ≡ record (lexed self.old) { name = no_name }) }
+    {
+        let prefix = self.names.share(&self.name.prefix)?;
+        let local = self.names.share(&self.name.local)?;
+        self.clear_name();
+        Ok(WrittenName { prefix, local })
+    }
+
     // After `<`.
     fn less(&mut self, c: char) -> Taken
         ensures { Follows (a_less (lexed self.old) c) result (lexed self.new) }
     {
         if c == '?' {
-            self.text = Text::new(self.alloc);
+            self.text.clear();
             return self.go(State::Target);
         }
         self.opening = false;
         match c {
             '!' => self.go(State::Exclamation),
             '/' => {
-                self.name = new_name(self.alloc);
+                self.clear_name();
                 self.go(State::Name(Named::EndTag, NamePart::Begins))
             }
             _ => {
                 self.tag = new_tag(self.alloc, self.begin);
-                self.name = new_name(self.alloc);
+                self.clear_name();
                 self.name_begins(Named::Element, NamePart::First, c)
             }
         }
@@ -350,7 +382,7 @@ impl Lexer {
         if letters < 5 {
             return self.go(State::CdataOpen(letters + 1));
         }
-        self.text = Text::new(self.alloc);
+        self.text.clear();
         self.go(State::Cdata(0, false))
     }
 
@@ -365,7 +397,8 @@ impl Lexer {
                 Ok(None)
             }
             (2, '>') => {
-                let text = mem::replace(&mut self.text, Text::new(self.alloc));
+                let text = Text::from_str(self.alloc, self.text.as_str())?;
+                self.text.clear();
                 self.done(Token::Cdata(text))
             }
             _ => self.cdata_text(brackets, after_return, c),
@@ -456,7 +489,8 @@ impl Lexer {
             NamePart::Begins => self.name_begins(named, NamePart::First, c),
             NamePart::LocalBegins => self.name_begins(named, NamePart::Local, c),
             NamePart::First if c == ':' => {
-                self.name.prefix = mem::replace(&mut self.name.local, Text::new(self.alloc));
+                mem::swap(&mut self.name.prefix, &mut self.name.local);
+                self.name.local.clear();
                 self.go(State::Name(named, NamePart::LocalBegins))
             }
             NamePart::First | NamePart::Local => self.name_goes_on(named, c),
@@ -482,7 +516,7 @@ impl Lexer {
         }
         match named {
             Named::Element => {
-                self.tag.name = mem::replace(&mut self.name, new_name(self.alloc));
+                self.tag.name = self.take_name()?;
                 self.tag_goes_on(c)
             }
             Named::Attribute => self.before_equals(c),
@@ -513,7 +547,7 @@ impl Lexer {
         if !is_name_start(c) {
             return self.tag_goes_on(c);
         }
-        self.name = new_name(self.alloc);
+        self.clear_name();
         self.name_begins(Named::Attribute, NamePart::First, c)
     }
 
@@ -534,7 +568,7 @@ impl Lexer {
     {
         match c {
             '"' | '\'' => {
-                self.value = Text::new(self.alloc);
+                self.value.clear();
                 self.go(State::Value(c, false))
             }
             _ if is_space(c) => self.go(State::BeforeQuote),
@@ -563,8 +597,9 @@ impl Lexer {
     fn end_attribute(&mut self) -> Taken
         ensures { Follows (an_end_attribute (lexed self.old)) result (lexed self.new) }
     {
-        let name = mem::replace(&mut self.name, new_name(self.alloc));
-        let value = mem::replace(&mut self.value, Text::new(self.alloc));
+        let name = self.take_name()?;
+        let value = Text::from_str(self.alloc, self.value.as_str())?;
+        self.value.clear();
         self.tag.attrs.push(WrittenAttr { name, value })?;
         self.go(State::ValueEnd)
     }
@@ -590,7 +625,7 @@ impl Lexer {
         if c != '>' {
             return Err(Fault::Malformed);
         }
-        let name = mem::replace(&mut self.name, new_name(self.alloc));
+        let name = self.take_name()?;
         self.done(Token::End(name))
     }
 
@@ -603,7 +638,7 @@ impl Lexer {
                 ReferencePart::Hash,
             )),
             ReferencePart::Begins => {
-                self.text = Text::new(self.alloc);
+                self.text.clear();
                 self.letter(place, c)
             }
             ReferencePart::Letters if c == ';' => self.end_letters(place),

@@ -26,7 +26,9 @@ pub reading-preserved : goal.reading-preserved
 reading-preserved g c = record {
   same_files = search rules;
   same_steady = search rules;
-  begun = search rules;
+  begins = search rules;
+  reads_never_fall = search rules;
+  begins_never_fall = search rules;
   never_falls = search rules;
   few_reads =
       let more = counted_read (nat_lt 0 c.in-Ok-read.n) (g.F.Shelf.reads c.reading.shelf) (g.F.Shelf.reads c.read.new.self) c.in-Ok-read.ensures.counted in

@@ -1,4 +1,5 @@
-use Rattle.std.proofs.Common.{◌≡◌, ◌≤◌, ◌+◌, ◌-◌, Some, true, vec_len}
+use Rattle.std.proofs.Common.{◌≡◌, ◌≤◌, ◌+◌, ◌-◌, Some, vec_len}
+use Rattle.odd_base.specs.Count.{next_count}
 use Rattle.odd_base.specs.Shelf.{FileMap}
 use Rattle.odd_base.proofs.ReadSoFar.{ReadSoFar}
 use Rattle.odd_base.proofs.reading.slurp.Given as goal
@@ -9,7 +10,9 @@ invariant-reading g l =
     record {
       same_files : F.holds l.shelf ≡ F.holds l.fn.shelf;
       same_steady : F.steady l.shelf ≡ F.steady l.fn.shelf;
-      begun : F.begun l.shelf ≡ true;
+      begins : F.begins l.shelf ≡ next_count (F.begins l.fn.shelf);
+      reads_never_fall : F.reads l.fn.shelf ≤ F.reads l.shelf;
+      begins_never_fall : F.begins l.fn.shelf ≤ F.begins l.shelf;
       never_falls : F.faults l.fn.shelf ≤ F.faults l.shelf;
       few_reads : F.reads l.shelf ≤ F.reads l.fn.shelf + vec_len l.bytes;
       within : vec_len l.bytes ≤ l.limit;

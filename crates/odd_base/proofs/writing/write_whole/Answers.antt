@@ -17,6 +17,10 @@ writing-preserved g c = record {
       c.in-Ok.ensures.appended (before ++ take done bytes) (c.writing.invariant.sofar before e)
       ∙ ap (λ x. Some ((before ++ take done bytes) ++ take c.in-Ok.n x)) (left_of bytes done)
       ∙ ap (λ x. Some x) (append_assoc before (take done bytes) (take c.in-Ok.n (drop done bytes)) ∙ ap (λ x. before ++ x) (sym (take-add done c.in-Ok.n bytes)));
+  room_taken = λ s.
+      let left = c.writing.invariant.room_taken s in
+      let now = c.in-Ok.ensures.room_taken (c.writing.invariant.same_steady ∙ s) in
+      omega (arith, left, now);
   room = λ s h.
       let left = c.writing.invariant.room s h in
       let now = c.in-Ok.ensures.room_taken (c.writing.invariant.same_steady ∙ s) in

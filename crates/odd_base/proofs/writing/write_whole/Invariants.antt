@@ -10,6 +10,7 @@ invariant-writing g l =
       never_falls : W.faults l.fn.out ≤ W.faults l.out;
       same_steady : W.steady l.out ≡ W.steady l.fn.out;
       sofar : (before : List ℕ) → W.written l.fn.out ≡ Some before → W.written l.out ≡ Some (before ++ take l.done l.bytes);
+      room_taken : IsTrue (W.steady l.fn.out) → W.room l.out + l.done ≡ W.room l.fn.out;
       room : IsTrue (W.steady l.fn.out) → length l.bytes ≤ W.room l.fn.out → length l.bytes ≤ W.room l.out + l.done;
     }
 

@@ -14,11 +14,11 @@ pub loop-at-init : goal.loop-at-init
 loop-at-init c =
     let it = c.into_iter-at-iterator.result in
     let h = c.char_indices-at-items.ensures in
-    let reader = c.new-reader.result in
+    let reader = c.in-Ok.reader in
     let rest = ap char_indices_rest c.into_iter-at-iterator.ensures.into_iter_gives ∙ h.rest in
     let offset = ap char_indices_offset c.into_iter-at-iterator.ensures.into_iter_gives ∙ h.offset in
     front_begun c.args.bytes.now c.longest_front-front.result.now (char_indices_rest it) (read_of reader (char_indices_offset it)) c.longest_front-front.ensures rest
-    (ap (read_of reader) offset ∙ c.new-reader.ensures)
+    (ap (read_of reader) offset ∙ c.in-Ok.ensures)
 
 pub loop-at-preserved : goal.loop-at-preserved
 loop-at-preserved c =

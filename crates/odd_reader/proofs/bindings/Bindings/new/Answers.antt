@@ -14,7 +14,7 @@ loop-bind-preserved c = λ prefix.
     let lt : i < length bs = omega arith in
     let more : last_bound (take (i + 1) bs) prefix ≡ cond (is_at (text_cmp b.prefix) prefix) (Some b.ns) (last_bound (take i bs) prefix) =
     last_bound_more bs i b prefix lt c.bind-item.is in
-    let e : get text_cmp c.insert.new.self prefix ≡ cond (is_at (text_cmp c.in_ok-copy.field-0) prefix) (Some c.in_ok-copy-2.field-0) (get text_cmp c.loop-bind.index prefix) =
+    let e : get text_cmp c.insert-in-loop-bind.new.self prefix ≡ cond (is_at (text_cmp c.in_ok-copy.field-0) prefix) (Some c.in_ok-copy-2.field-0) (get text_cmp c.loop-bind.index prefix) =
     c.in_ok-insert.ensures.updates.0 prefix in
     let p : c.in_ok-copy.field-0 ≡ b.prefix = c.in_ok-copy.ensures in
     let n : c.in_ok-copy-2.field-0 ≡ b.ns = c.in_ok-copy-2.ensures in

@@ -1,0 +1,146 @@
+ghost use Rattle.std.specs.Prelude.{◌≡◌, ◌↔◌, IsNone, IfOk};
+ghost use Rattle.odd_cases.specs.Comparing.{IsAnswered};
+
+use crate::case::{Case, Faulty, Question, Reply, Wanted};
+use crate::comparing::{Answer, is_answered, is_wanted};
+use crate::fault::CaseFault;
+use crate::showing::add_tree_of;
+use odd_base::{Bytes, Files, MemShelf, MemSink, NoMemory, Text, Words};
+use odd_run::run;
+use std::alloc::Global;
+
+// How many bytes an output takes, and how many of them at once.
+const ROOM: usize = 4_000_000;
+
+const CHUNK: usize = 10;
+
+// How many bytes a read brings.
+const READ: usize = 16;
+
+// How many bytes of an answer are told.
+const TOLD: usize = 80;
+
+/// What the answer to a case has otherwise than it wants, where something is.
+pub fn difference(alloc: Global, case: Case) -> Result<Option<String>, CaseFault> {
+    let Case { files, question } = case;
+    match question {
+        Question::Run {
+            words,
+            faulty,
+            reply,
+        } => {
+            let answer = answer_of(alloc, &words, files, faulty)?;
+            reply_difference(alloc, &reply, &answer)
+        }
+        Question::Tree(wanted) => {
+            let shown = shown_trees(alloc, &files)?;
+            tree_difference(alloc, &wanted, &shown)
+        }
+    }
+}
+
+// What a run with the words answers.
+fn answer_of(
+    alloc: Global,
+    words: &Words,
+    files: Files,
+    faulty: Faulty,
+) -> Result<Answer, CaseFault> {
+    let mut shelf = MemShelf::new(files, READ, faulty.shelf);
+    let mut out = MemSink::new(alloc, ROOM, CHUNK, faulty.out)?;
+    let mut note = MemSink::new(alloc, ROOM, CHUNK, faulty.note)?;
+    let code = run(alloc, words, &mut shelf, &mut out, &mut note).code();
+    Ok(Answer {
+        code,
+        note: Bytes::from_slice(alloc, note.written())?,
+        out: Bytes::from_slice(alloc, out.written())?,
+    })
+}
+
+// What an answer has otherwise than the wanted one.
+fn reply_difference(
+    alloc: Global,
+    reply: &Reply,
+    answer: &Answer,
+) -> Result<Option<String>, CaseFault>
+    ensures { IfOk result (λ told. IsNone told ↔ IsAnswered reply.now answer.now) }
+{
+    if is_answered(reply, answer) {
+        return Ok(None);
+    }
+    let mut told = String::new(alloc);
+    if reply.code != answer.code {
+        write!(told, " code {} for {}", answer.code, reply.code)?;
+    }
+    add_difference(&mut told, "note", &reply.note, answer.note.as_slice())?;
+    add_difference(&mut told, "out", &reply.out, answer.out.as_slice())?;
+    Ok(Some(told))
+}
+
+// Puts what is written otherwise than wanted.
+fn add_difference(
+    told: &mut String,
+    name: &str,
+    wanted: &Wanted,
+    bytes: &[u8],
+) -> Result<(), CaseFault> {
+    if is_wanted(wanted, bytes) {
+        return Ok(());
+    }
+    match wanted {
+        Wanted::Whole(whole) => add_place(told, name, whole.as_slice(), bytes),
+        Wanted::Holding(_) => {
+            write!(told, " {name} lacks a part")?;
+            Ok(())
+        }
+    }
+}
+
+// Puts the first place where two texts differ, and what stands there in each.
+fn add_place(told: &mut String, name: &str, wanted: &[u8], bytes: &[u8]) -> Result<(), CaseFault> {
+    let at = common_front(wanted, bytes);
+    let found = told_from(bytes, at).escape_ascii();
+    let other = told_from(wanted, at).escape_ascii();
+    write!(told, " {name} at {at} '{found}' for '{other}'")?;
+    Ok(())
+}
+
+// How many bytes two texts have in common at their beginning.
+fn common_front(one: &[u8], other: &[u8]) -> usize {
+    let mut count = 0usize;
+    for (byte, expected) in one.iter().zip(other) {
+        if byte != expected {
+            return count;
+        }
+        count = count.saturating_add(1);
+    }
+    count
+}
+
+// Some of the bytes from a place on.
+fn told_from(bytes: &[u8], at: usize) -> &[u8] {
+    let rest = bytes.get(at..).unwrap_or(&[]);
+    rest.get(..TOLD).unwrap_or(rest)
+}
+
+// The trees of the files, as they are shown.
+fn shown_trees(alloc: Global, files: &Files) -> Result<Text, NoMemory> {
+    let mut shown = Text::new(alloc);
+    for file in files.as_slice() {
+        add_tree_of(alloc, &mut shown, file.bytes.as_slice())?;
+    }
+    Ok(shown)
+}
+
+// What a shown tree has otherwise than the wanted one.
+fn tree_difference(alloc: Global, wanted: &Bytes, shown: &Text) -> Result<Option<String>, CaseFault>
+    ensures { IfOk result (λ told. IsNone told ↔ (wanted.now ≡ shown.now)) }
+{
+    let bytes = shown.as_str().as_bytes();
+    if wanted.as_slice() == bytes {
+        return Ok(None);
+    }
+    let mut told = String::new(alloc);
+    add_place(&mut told, "tree", wanted.as_slice(), bytes)?;
+    Ok(Some(told))
+}

@@ -1,0 +1,42 @@
+//! Runs each case of data/ over files and outputs in memory, and tells each whose answer is not the wanted one.
+#![tactic(auto)]
+
+mod answering;
+mod body;
+mod case;
+mod comparing;
+mod draft;
+mod escapes;
+mod fault;
+mod outcome;
+mod part;
+mod paths;
+mod section;
+mod showing;
+
+use crate::outcome::{count_differing, outcomes_of};
+use anyhow::Result;
+
+// The cases whose answers are wrong on purpose, so that it shows where a comparison never differs.
+const WRONG: &str = "wrong";
+
+const CASES: &str = "cases";
+
+fn main(rt: HostRuntime) -> Result<()> {
+    for outcome in outcomes_of(&rt, WRONG)? {
+        println!(rt; "{outcome}")?;
+    }
+    let outcomes = outcomes_of(&rt, CASES)?;
+    for outcome in &outcomes {
+        if outcome.difference.is_some() {
+            println!(rt; "{outcome}")?;
+        }
+    }
+    let count = outcomes.len();
+    let differing = count_differing(outcomes.as_slice());
+    println!(rt; "{count} cases, {differing} differ")?;
+    Ok(())
+}
+
+#[cfg(test)]
+mod tests;

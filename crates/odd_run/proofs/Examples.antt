@@ -1,0 +1,441 @@
+-- Small checks of what the definitions of this crate say: where they hold, and where they do not.
+use Rattle.std.proofs.Common.{◌≡◌, ◌≤◌, ℕ, false, List, [], ◌∷◌, length, Some, None, inr, refl, sym, ap, subst, ◌∙◌, arith, slice_get}
+use Rattle.std.specs.Fmt.{digits}
+use Rattle.std.specs.Prelude.{◌≢◌, All, codes}
+use Rattle.std.specs.FinMap as map
+use Rattle.std.proofs.lemmas.Cmp.{nat_list_cmp_total}
+use Rattle.std.proofs.lemmas.List.Elements.{All-nil, All-cons}
+use Rattle.std.proofs.lemmas.Option.{same_Some}
+use Rattle.odd_base.specs.Text.{text_cmp}
+use Rattle.odd_base.specs.Key.{key_cmp}
+use Rattle.odd_base.specs.Shelf.{FileMap, Held}
+use Rattle.odd_base.specs.declared.key.Key.{Key}
+use Rattle.odd_base.specs.declared.key.Kind.TheVariants as kind
+use Rattle.odd_base.specs.declared.offence.Offence.{Offence}
+use Rattle.odd_base.specs.declared.offence.Who.TheVariants as who
+use Rattle.std.proofs.Math.Utf8.{encode}
+use Rattle.odd_base.specs.declared.name.Name.{Name}
+use Rattle.odd_tokens.specs.Characters.{is_char, is_name_char, is_name_start}
+use Rattle.odd_reader.specs.Spelled.{GivesTree}
+use Rattle.odd_reader.specs.declared.tree.Tree.{Tree, roll-Tree}
+use Rattle.odd_reader.specs.declared.tree.Node.{Element}
+use Rattle.odd_reader.specs.Reading.{nothing_read}
+use Rattle.odd_reader.proofs.Faults.{ended_place}
+use Rattle.odd_reader.proofs.ReadTo.{nothing_read_to}
+use Rattle.odd_reader.proofs.ReadTrees.{literal_gives}
+use Rattle.odd_decls.specs.Declares.{AreReadAs, Declares, IsReadAs}
+use Rattle.odd_decls.specs.Odd.{StandsIn, element_key, tei_namespace}
+use Rattle.odd_decls.specs.Offences.{HasOffence, IsNotBefore, IsRefusal, IsSpecOf, ItemFault, ItemOffends, Offends, StandsTwice}
+use Rattle.odd_decls.specs.Search.{Finds, children_of, through}
+use Rattle.odd_decls.specs.Search as search
+use Rattle.odd_decls.specs.declared.content.Content.TheVariants as content
+use Rattle.odd_decls.specs.declared.library.Component.TheVariants as component
+use Rattle.odd_decls.specs.declared.library.Library.{Library}
+use Rattle.odd_decls.specs.declared.odd.Entry.TheVariants as entry
+use Rattle.odd_decls.specs.declared.odd.OddDoc.{OddDoc}
+use Rattle.odd_decls.specs.declared.spec.Spec.{Spec}
+use Rattle.odd_decls.proofs.Examples.{AllWithin, IsBare, IsNamedSchema, IsPlain, IsSound, a_alone, bare_is_sound, elements_are, few, items_alone, leaf_within, no_offence, not_pending, one_item, one_within, one_word, other_breaks_three}
+use Rattle.odd_decls.proofs.Named.{is_name}
+use Rattle.std.specs.declared.cmp.Ordering.TheVariants.{Less}
+use Rattle.compile_core.specs.Schema.{IsLeastMissing}
+use Rattle.odd_run.specs.Note.{code_of, note_text}
+use Rattle.odd_run.specs.Words.{Compiles, WordsMean, compile}
+use Rattle.odd_run.specs.declared.status.Status.{Status}
+use Rattle.odd_run.specs.Reply.{Reply, Reads, Gives, not_xml, offends, start_missing, no_job, no_file, too_long, refused, done}
+use Rattle.odd_run.specs.declared.words.Command.TheVariants as command
+use Rattle.odd_run.specs.declared.words.Job.{Job}
+use Rattle.odd_run.specs.declared.status.LimitKind.TheVariants as limit
+use Rattle.odd_run.specs.declared.status.Status.TheVariants as status
+use Rattle.odd_run.proofs.Replies.{one_status}
+
+-- Words
+
+abbrev compile_f : List (List ℕ)
+compile_f = codes "compile" ∷ codes "f" ∷ []
+
+abbrev compile_job : Job
+compile_job = record { command = command.Compile; aside = false; files = 1; number = 0 }
+
+f_compiles : Compiles compile_f (codes "f")
+f_compiles = (refl, λ e. cc)
+
+-- `compile f` asks for the schema of one file
+f_has_a_job : WordsMean compile_f compile_job
+f_has_a_job = compile (codes "f") f_compiles refl
+
+-- the empty word is a file word
+empty_word_has_a_job : WordsMean (codes "compile" ∷ [] ∷ []) compile_job
+empty_word_has_a_job = compile [] (refl, λ e. cc) refl
+
+-- words have at most one job
+one_job : (words : List (List ℕ)) (a b : Job) → WordsMean words a → WordsMean words b → a ≡ b
+one_job words a b (compile f c e) (compile g d i) = e ∙ sym i
+
+no_words : (job : Job) → WordsMean [] job → ⊥
+no_words job (compile file c e) = let same = c.0 in cc
+
+command_alone : (job : Job) → WordsMean (codes "compile" ∷ []) job → ⊥
+command_alone job (compile file c e) = let same = c.0 in cc
+
+two_files : (job : Job) → WordsMean (codes "compile" ∷ codes "f" ∷ codes "g" ∷ []) job → ⊥
+two_files job (compile file c e) = let same = c.0 in cc
+
+another_command : (job : Job) → WordsMean (codes "merge" ∷ codes "f" ∷ []) job → ⊥
+another_command job (compile file c e) = let same = c.0 in cc
+
+-- `--` is no file
+dashes : (job : Job) → WordsMean (codes "compile" ∷ codes "--" ∷ []) job → ⊥
+dashes job (compile file c e) = c.1 (sym (same_Some (codes "--") file (ap (λ ws. slice_get ws 1) c.0)))
+
+-- Lines and codes
+
+line_feed : codes "\n" ≡ 10 ∷ []
+line_feed = refl
+
+line_of_done : note_text status.Done ≡ []
+line_of_done = refl
+
+line_of_usage : note_text status.Usage ≡ codes "odd: usage\n"
+line_of_usage = refl
+
+line_of_limit : note_text (status.Limit (limit.Bytes 12)) ≡ codes "odd: limit bytes file 12\n"
+unfolding digits
+line_of_limit = refl
+
+line_of_depth : note_text (status.Limit (limit.Depth 1 600)) ≡ codes "odd: limit depth file 1 byte 600\n"
+unfolding digits
+line_of_depth = refl
+
+line_of_not_xml : note_text (status.NotXml 1 92) ≡ codes "odd: file 1: byte 92: not XML\n"
+unfolding digits
+line_of_not_xml = refl
+
+line_of_read_fault : note_text (status.ReadFault 1) ≡ codes "odd: read fault file 1\n"
+unfolding digits
+line_of_read_fault = refl
+
+line_of_write_fault : note_text status.WriteFault ≡ codes "odd: write fault\n"
+line_of_write_fault = refl
+
+line_of_no_memory : note_text status.NoMemory ≡ codes "odd: no memory\n"
+line_of_no_memory = refl
+
+line_of_not_yet : note_text (status.NotYet 10) ≡ codes "odd: file 10: not yet\n"
+unfolding digits
+line_of_not_yet = refl
+
+line_at_a_place : note_text (status.Refused (record { file = 2; who = who.At 68; rule = 8 })) ≡ codes "odd: file 2: byte 68: rule 8\n"
+unfolding digits
+line_at_a_place = refl
+
+line_of_a_component : note_text (status.Refused (record { file = 1; who = who.Part (record { kind = kind.Class; ident = codes "model.x" }); rule = 13 })) ≡ codes "odd: file 1: class model.x: rule 13\n"
+unfolding digits
+line_of_a_component = refl
+
+line_of_a_start_word : note_text (status.Refused (record { file = 1; who = who.Start (codes "a"); rule = 20 })) ≡ codes "odd: start a: rule 20\n"
+unfolding digits
+line_of_a_start_word = refl
+
+line_of_an_asked_ident : note_text (status.Refused (record { file = 1; who = who.Asked (codes "q"); rule = 21 })) ≡ codes "odd: explain q: rule 21\n"
+unfolding digits
+line_of_an_asked_ident = refl
+
+-- a want of memory and a usage have different lines, and different codes
+lines_differ : note_text status.Usage ≢ note_text status.NoMemory
+lines_differ e = cc
+
+codes_differ : code_of status.Usage ≢ code_of status.NoMemory
+codes_differ e = cc
+
+-- Replies
+
+-- the shelf that holds `f` alone
+abbrev holding : List ℕ → FileMap
+holding bytes = map.from_entries ((codes "f", bytes) ∷ [])
+
+f_held : (bytes : List ℕ) → Held (holding bytes) (codes "f") bytes
+f_held bytes = map.get-from_entries nat_list_cmp_total ((codes "f", bytes) ∷ []) (codes "f")
+
+f_reads : (bytes : List ℕ) → length bytes ≤ 16777216 → Reads compile_f (holding bytes) bytes
+f_reads bytes short = record { file = codes "f"; compiles = f_compiles; held = f_held bytes; within = short }
+
+-- no words are a usage over any shelf, and nothing is written
+usage_reply : (files : FileMap) → Reply [] files [] status.Usage
+usage_reply files = no_job no_words
+
+usage_writes_nothing : (files : FileMap) → Reply [] files (codes "x") status.Usage → ⊥
+usage_writes_nothing files h = elim h [ ]
+
+-- `compile f` is no usage
+job_is_no_usage : (files : FileMap) → Reply compile_f files [] status.Usage → ⊥
+job_is_no_usage files (no_job none) = none compile_job f_has_a_job
+job_is_no_usage files (refused bytes p f) = elim f [ ]
+
+-- a shelf without `f`
+not_held_reply : Reply compile_f map.empty [] (status.ReadFault 1)
+not_held_reply = no_file (codes "f") f_compiles (map.get-empty text_cmp (codes "f"))
+
+-- another number is no reply
+not_held_is_file_one : (words : List (List ℕ)) (files : FileMap) → Reply words files [] (status.ReadFault 2) → ⊥
+not_held_is_file_one words files (refused bytes p f) = elim f [ ]
+
+-- the outside's other failures are no reply
+no_memory_is_no_reply : (words : List (List ℕ)) (files : FileMap) (text : List ℕ) → Reply words files text status.NoMemory → ⊥
+no_memory_is_no_reply words files text (refused bytes p f) = elim f [ ]
+
+write_fault_is_no_reply : (words : List (List ℕ)) (files : FileMap) (text : List ℕ) → Reply words files text status.WriteFault → ⊥
+write_fault_is_no_reply words files text (refused bytes p f) = elim f [ ]
+
+-- a file of 16,777,217 bytes is too long, and one of 16,777,216 is not
+too_long_reply : (bytes : List ℕ) → length bytes ≡ 16777217 → Reply compile_f (holding bytes) [] (status.Limit (limit.Bytes 1))
+too_long_reply bytes e = too_long (codes "f") bytes f_compiles (f_held bytes) (omega (arith, e))
+
+longest_is_read : (bytes : List ℕ) → length bytes ≡ 16777216 → Reply compile_f (holding bytes) [] (status.Limit (limit.Bytes 1)) → ⊥
+longest_is_read bytes e (too_long file other c h long) =
+    let f_is : codes "f" ≡ file = same_Some (codes "f") file (ap (λ ws. slice_get ws 1) c.0) in
+    let same : bytes ≡ other = same_Some bytes other (sym (f_held bytes) ∙ ap (map.get (holding bytes)) f_is ∙ h) in
+    let short : length other ≡ 16777216 = sym (ap length same) ∙ e in
+    omega (arith, short, long)
+longest_is_read bytes e (refused c p f) = elim f [ ]
+
+-- an empty file is not XML from its end on
+empty_reply : Reply compile_f (holding []) [] (status.NotXml 1 0)
+empty_reply = refused [] (f_reads [] (omega arith)) (not_xml 0 (ended_place [] [] nothing_read (nothing_read_to [] nothing_read refl) refl (λ t f. let no = f.rooted in cc)))
+
+-- The smallest file that declares an element, and the schema that is its reply.
+
+abbrev one_element : List ℕ
+one_element = codes "<schemaSpec xmlns=\"http://www.tei-c.org/ns/1.0\" ident=\"s\" start=\"a\"><elementSpec ident=\"a\"/></schemaSpec>"
+
+abbrev schema : List ℕ
+schema = codes "<?xml version=\"1.0\" encoding=\"UTF-8\"?>\n<grammar xmlns=\"http://relaxng.org/ns/structure/1.0\" datatypeLibrary=\"http://www.w3.org/2001/XMLSchema-datatypes\">\n<start>\n<ref name=\"e.a\"/>\n</start>\n<define name=\"e.a\">\n<element name=\"a\" ns=\"http://www.tei-c.org/ns/1.0\">\n<empty/>\n</element>\n</define>\n</grammar>\n"
+
+abbrev tei_name : List ℕ → Name
+tei_name local = record { ns = tei_namespace; local = local }
+
+abbrev plain_name : List ℕ → Name
+plain_name local = record { ns = []; local = local }
+
+abbrev element_tree : Tree
+element_tree = roll-Tree (record {
+  name = tei_name (codes "elementSpec");
+  attrs = record { name = plain_name (codes "ident"); value = codes "a" } ∷ [];
+  binds = [];
+  children = [];
+  at = 68;
+})
+
+abbrev root_tree : Tree
+root_tree = roll-Tree (record {
+  name = tei_name (codes "schemaSpec");
+  attrs = record { name = plain_name (codes "ident"); value = codes "s" } ∷ record { name = plain_name (codes "start"); value = codes "a" } ∷ [];
+  binds = record { prefix = []; ns = codes "http://www.tei-c.org/ns/1.0" } ∷ [];
+  children = Element element_tree ∷ [];
+  at = 0;
+})
+
+-- the reader ends with this tree
+one_element_read : GivesTree one_element root_tree
+unfolding encode is_char is_name_char is_name_start
+one_element_read = literal_gives one_element _ root_tree refl refl (record { between = refl; rooted = refl })
+
+abbrev a_key : Key
+a_key = element_key (codes "a")
+
+abbrev element_spec : Spec
+element_spec = record { key = a_key; «module» = []; ns = Some tei_namespace; content = None }
+
+abbrev one_doc : OddDoc
+one_doc = record { ident = codes "s"; start = codes "a" ∷ []; entries = entry.Spec 68 element_spec ∷ [] }
+
+abbrev one_library : Library
+one_library = record { ident = codes "s"; start = codes "a" ∷ []; parts = (a_key, component.Element (record { «module» = []; ns = tei_namespace; content = content.Empty })) ∷ [] }
+
+one_child : children_of root_tree ≡ element_tree ∷ []
+one_child = elements_are (element_tree ∷ [])
+
+-- it has no form that is not read yet, and no offence
+one_schema : Finds root_tree (root_tree ∷ [])
+one_schema = through [] refl (search.element [] [] (through [] refl search.nothing refl) search.nothing refl) refl
+
+one_element_plain : AllWithin IsPlain root_tree
+one_element_plain =
+    one_within IsPlain root_tree element_tree one_child (record { no_form = refl; no_content = refl; no_mode = λ is. refl })
+    (leaf_within IsPlain element_tree refl (record { no_form = refl; no_content = refl; no_mode = λ is. refl }))
+
+root_named : IsNamedSchema (codes "s") (codes "a") root_tree
+root_named = record { ident = refl; name = is_name (codes "s") refl; asked = refl; names = a_alone }
+
+element_bare : IsBare (codes "a") element_tree
+element_bare = record { is_spec = refl; ident = refl; name = is_name (codes "a") refl; no_module = refl; no_prefix = refl; no_source = refl; no_child = refl }
+
+one_element_sound : (place rule : ℕ) → HasOffence root_tree place rule → ⊥
+one_element_sound =
+    no_offence (codes "s") (codes "a") root_tree root_tree one_schema root_named
+    (subst (All IsSound) (sym one_child) (All-cons IsSound element_tree [] (bare_is_sound (codes "a") element_tree element_bare) (All-nil IsSound)))
+    (λ ident. subst (λ ts. StandsTwice (IsSpecOf ident) ts → ⊥) (sym one_child) (few (IsSpecOf ident) (element_tree ∷ []) (omega arith)))
+
+element_read : IsReadAs root_tree element_tree 68 element_spec
+element_read = record { ident = codes "a"; is_spec = (refl, refl, is_name (codes "a") refl); key = refl; of_module = refl; ns = refl; content = refl; placed = refl }
+
+one_element_declares : Declares root_tree one_doc
+one_element_declares = record {
+  all_read = not_pending root_tree root_tree [] one_schema one_element_plain;
+  unoffended = one_element_sound;
+  schema = root_tree;
+  found = one_schema;
+  is_doc = record {
+    ident = refl;
+    start = one_word (codes "a");
+    entries = subst (λ ts. AreReadAs root_tree ts one_doc.entries) (sym one_child) (AreReadAs.spec refl element_read AreReadAs.nothing);
+  };
+}
+
+one_element_gives : Gives one_element one_library
+one_element_gives = record {
+  tree = root_tree;
+  given = one_element_read;
+  doc = one_doc;
+  declared = one_element_declares;
+  is_library = record { ident = refl; start = refl; rising = refl; holds = λ key. refl };
+}
+
+a_is_held : (word : List ℕ) → StandsIn one_library.start word → map.find key_cmp (element_key word) one_library.parts ≡ None → ⊥
+a_is_held word ([], after, e) missing = let is_word : word ≡ codes "a" = cc in let found = subst (λ w. map.find key_cmp (element_key w) one_library.parts ≡ None) is_word missing in cc
+a_is_held word (b ∷ [], after, e) missing = cc
+a_is_held word (b ∷ (c ∷ cs), after, e) missing = cc
+
+done_reply : Reply compile_f (holding one_element) schema status.Done
+done_reply = done one_element one_library (f_reads one_element (omega arith)) one_element_gives a_is_held refl
+
+-- the same file has no other status
+done_is_not_refused : (text : List ℕ) → Reply compile_f (holding one_element) text (status.NotYet 1) → ⊥
+done_is_not_refused text h = let same : status.Done ≡ status.NotYet 1 = one_status compile_f (holding one_element) schema text _ _ done_reply h in cc
+
+-- The same file without its element is refused at its start word.
+
+abbrev no_element : List ℕ
+no_element = codes "<schemaSpec xmlns=\"http://www.tei-c.org/ns/1.0\" ident=\"s\" start=\"a\"></schemaSpec>"
+
+abbrev empty_tree : Tree
+empty_tree = roll-Tree (record {
+  name = tei_name (codes "schemaSpec");
+  attrs = record { name = plain_name (codes "ident"); value = codes "s" } ∷ record { name = plain_name (codes "start"); value = codes "a" } ∷ [];
+  binds = record { prefix = []; ns = codes "http://www.tei-c.org/ns/1.0" } ∷ [];
+  children = [];
+  at = 0;
+})
+
+no_element_read : GivesTree no_element empty_tree
+unfolding encode is_char is_name_char is_name_start
+no_element_read = literal_gives no_element _ empty_tree refl refl (record { between = refl; rooted = refl })
+
+abbrev empty_doc : OddDoc
+empty_doc = record { ident = codes "s"; start = codes "a" ∷ []; entries = [] }
+
+abbrev empty_library : Library
+empty_library = record { ident = codes "s"; start = codes "a" ∷ []; parts = [] }
+
+empty_schema : Finds empty_tree (empty_tree ∷ [])
+empty_schema = through [] refl search.nothing refl
+
+no_element_sound : (place rule : ℕ) → HasOffence empty_tree place rule → ⊥
+no_element_sound =
+    no_offence (codes "s") (codes "a") empty_tree empty_tree empty_schema (record { ident = refl; name = is_name (codes "s") refl; asked = refl; names = a_alone })
+    (All-nil IsSound) (λ ident. few (IsSpecOf ident) [] (omega arith))
+
+no_element_gives : Gives no_element empty_library
+no_element_gives = record {
+  tree = empty_tree;
+  given = no_element_read;
+  doc = empty_doc;
+  declared = record {
+    all_read = not_pending empty_tree empty_tree [] empty_schema (leaf_within IsPlain empty_tree refl (record { no_form = refl; no_content = refl; no_mode = λ is. refl }));
+    unoffended = no_element_sound;
+    schema = empty_tree;
+    found = empty_schema;
+    is_doc = record { ident = refl; start = one_word (codes "a"); entries = AreReadAs.nothing };
+  };
+  is_library = record { ident = refl; start = refl; rising = refl; holds = λ key. refl };
+}
+
+a_is_least : IsLeastMissing empty_library empty_library.start (codes "a")
+a_is_least = record { among = ([], [], refl); missing = refl; least = least }
+  where
+    least : (other : List ℕ) → StandsIn empty_library.start other → map.find key_cmp (element_key other) empty_library.parts ≡ None → text_cmp other (codes "a") ≡ Less → ⊥
+    least other ([], after, e) missing less = let is_word : other ≡ codes "a" = cc in let tied = subst (λ w. text_cmp w (codes "a") ≡ Less) is_word less in cc
+    least other (b ∷ [], after, e) missing less = cc
+    least other (b ∷ (c ∷ cs), after, e) missing less = cc
+
+refused_reply : Reply compile_f (holding no_element) [] (status.Refused (record { file = 1; who = who.Start (codes "a"); rule = 20 }))
+refused_reply = refused no_element (f_reads no_element (omega arith)) (start_missing (codes "a") empty_library no_element_gives a_is_least refl)
+
+-- With a `p` in place of its element it is refused at the place of the `p`.
+
+abbrev one_p : List ℕ
+one_p = codes "<schemaSpec xmlns=\"http://www.tei-c.org/ns/1.0\" ident=\"s\" start=\"a\"><p/></schemaSpec>"
+
+abbrev p_tree : Tree
+p_tree = roll-Tree (record { name = tei_name (codes "p"); attrs = []; binds = []; children = []; at = 68 })
+
+abbrev offending_tree : Tree
+offending_tree = roll-Tree (record {
+  name = tei_name (codes "schemaSpec");
+  attrs = record { name = plain_name (codes "ident"); value = codes "s" } ∷ record { name = plain_name (codes "start"); value = codes "a" } ∷ [];
+  binds = record { prefix = []; ns = codes "http://www.tei-c.org/ns/1.0" } ∷ [];
+  children = Element p_tree ∷ [];
+  at = 0;
+})
+
+one_p_read : GivesTree one_p offending_tree
+unfolding encode is_char is_name_char is_name_start
+one_p_read = literal_gives one_p _ offending_tree refl refl (record { between = refl; rooted = refl })
+
+p_child : children_of offending_tree ≡ p_tree ∷ []
+p_child = elements_are (p_tree ∷ [])
+
+offending_schema : Finds offending_tree (offending_tree ∷ [])
+offending_schema = through [] refl (search.element [] [] (through [] refl search.nothing refl) search.nothing refl) refl
+
+one_p_plain : AllWithin IsPlain offending_tree
+one_p_plain =
+    one_within IsPlain offending_tree p_tree p_child (record { no_form = refl; no_content = refl; no_mode = λ is. refl })
+    (leaf_within IsPlain p_tree refl (record { no_form = refl; no_content = refl; no_mode = λ is. refl }))
+
+-- the `p` may not stand there
+p_offends : HasOffence offending_tree 68 3
+p_offends = record {
+  schema = offending_tree;
+  others = [];
+  found = offending_schema;
+  offends = Offends.items (ItemOffends.alone p_tree ([], [], p_child) (ItemFault.unknown refl refl refl) refl);
+}
+
+-- the file has no other offence
+p_alone : (place rule : ℕ) → HasOffence offending_tree place rule → IsNotBefore 68 3 place rule
+p_alone place rule h =
+    let offends = items_alone (codes "s") (codes "a") offending_tree offending_tree offending_schema
+    (record { ident = refl; name = is_name (codes "s") refl; asked = refl; names = a_alone }) place rule h in
+    let fault = one_item p_tree place rule (subst (λ ts. ItemOffends ts place rule) p_child offends) in
+    let three : rule ≡ 3 = other_breaks_three p_tree rule refl refl fault.0 in
+    inr (sym fault.1, omega (arith, three))
+
+abbrev p_offence : Offence
+p_offence = record { file = 1; who = who.At 68; rule = 3 }
+
+p_refusal : IsRefusal offending_tree 1 p_offence
+p_refusal = record {
+  is_one = record { all_read = not_pending offending_tree offending_tree [] offending_schema one_p_plain; in_file = refl; place = 68; placed = refl; offends = p_offends };
+  first = p_alone;
+}
+
+offending_reply : Reply compile_f (holding one_p) [] (status.Refused p_offence)
+offending_reply = refused one_p (f_reads one_p (omega arith)) (offends offending_tree one_p_read p_refusal)
+
+-- and it has no other status
+offending_has_one : (text : List ℕ) (s : Status) → Reply compile_f (holding one_p) text s → s ≡ status.Refused p_offence
+offending_has_one text s h = one_status compile_f (holding one_p) text [] s (status.Refused p_offence) h offending_reply
+
+-- so no schema is its reply
+offending_is_not_done : (text : List ℕ) → Reply compile_f (holding one_p) text status.Done → ⊥
+offending_is_not_done text h = let same : status.Done ≡ status.Refused p_offence = offending_has_one text status.Done h in cc

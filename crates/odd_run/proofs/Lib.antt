@@ -1,0 +1,5 @@
+pub mod Examples
+pub mod Formed
+pub mod Lists
+pub mod Replies
+pub mod Saying

@@ -1,0 +1,4 @@
+pub mod Note
+pub mod Reply
+pub mod Running
+pub mod Words
