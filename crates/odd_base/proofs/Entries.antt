@@ -1,5 +1,5 @@
 -- Entries in rising order of key: what a search finds among them, and what an edit there does.
-use Rattle.std.proofs.Common.{◌≡◌, ℕ, suc, zero, ◌<◌, ◌≤◌, Bool, true, false, ◌&&◌, List, [], ◌∷◌, length, get_or, set, T, Some, None, Result, Ok, Err, IfOk, IfErr, refl, sym, ap, subst, ◌∙◌, arith, inl, inr}
+use Rattle.std.proofs.Common.{◌≡◌, ℕ, suc, zero, ◌<◌, ◌≤◌, ◌-◌, Bool, true, false, ◌&&◌, List, [], ◌∷◌, length, get_or, set, T, Some, None, Result, Ok, Err, IfOk, IfErr, refl, sym, ap, subst, ◌∙◌, arith, inl, inr}
 use Rattle.std.specs.Prelude.{IsTrue}
 use Rattle.std.specs.List.{insert}
 use Rattle.std.specs.List.Sorted.{IsSearchInRange, IsBinarySearchResult, IsNonDecreasingBy}
@@ -90,6 +90,24 @@ module _ {K V : Type 0} (R : K → K → Ordering) (o : IsTotalOrder R) where
         before = λ j d le lt. turned R o _ k Greater ((parted ranks_rise).1 j d le lt);
       };
     }
+
+    -- a key above that of the last entry has its gap at the end
+    pub above_last : (last : K × V) → 0 < length es → ((d : K × V) → last ≡ get_or es (length es - 1) d) → IsTrue (is_lt (R last.0 k)) → IsGap R k es (length es)
+    above_last last some there above = record {
+      within = omega arith;
+      after = λ j d lt. turned R o _ k Less (below j d lt);
+      before = λ j d le lt. absurd (omega arith);
+    }
+      where
+        ends_below : (d : K × V) → R (get_or es (length es - 1) d).0 k ≡ Less
+        ends_below d = ap (λ (e : K × V). R e.0 k) (sym (there d)) ∙ is_less _ (as_T _ above)
+
+        below : (j : ℕ) (d : K × V) → j < length es → R (get_or es j d).0 k ≡ Less
+        below j d lt =
+            elim (cases_lt j (length es - 1)) [
+              | inl before ↦ o.trans _ _ k (rising R es (as_T _ sorted) j (length es - 1) d before (omega arith)) (ends_below d)
+              | inr after ↦ let same : j ≡ length es - 1 = omega arith in rw same (ends_below d)
+            ]
 
   -- what is found at the place of a key
   pub find_at : (k : K) (es : List (K × V)) (at : ℕ) (d : K × V) → at < length es → IsAfter R k es at → R k (get_or es at d).0 ≡ Equal → find R k es ≡ Some (get_or es at d).1

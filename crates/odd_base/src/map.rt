@@ -94,12 +94,18 @@ impl<K: ExactOrd, V> Map<K, V> {
     }
 }
 
-// Where the key is, or else where it would go.
+// Where the key is, or else where it would go. The last entry is looked at first, so that keys that rise are put with
+// one comparison each.
 fn search<K: ExactOrd, V>(entries: &[(K, V)], key: &K) -> Result<usize, usize>
     requires { IsTrue (is_sorted K.cmp entries.now) }
     ensures found { IfOk result (IsAt K.cmp key.now entries.now) }
     ensures absent { IfErr result (IsGap K.cmp key.now entries.now) }
 {
+    if let Some(last) = entries.last() {
+        if last.0.cmp(key).is_lt() {
+            return Err(entries.len());
+        }
+    }
     entries.binary_search_by(|entry| entry.0.cmp(key))
 }
 

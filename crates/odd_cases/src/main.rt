@@ -14,8 +14,11 @@ mod paths;
 mod section;
 mod showing;
 
-use crate::outcome::{count_differing, outcomes_of};
+use crate::outcome::{count_differing, outcomes_of, refusals_of};
 use anyhow::Result;
+
+// The cases that are not read, so that it shows where something else than a case is read as one.
+const MALFORMED: &str = "malformed";
 
 // The cases whose answers are wrong on purpose, so that it shows where a comparison never differs.
 const WRONG: &str = "wrong";
@@ -23,6 +26,9 @@ const WRONG: &str = "wrong";
 const CASES: &str = "cases";
 
 fn main(rt: HostRuntime) -> Result<()> {
+    for refusal in refusals_of(&rt, MALFORMED)? {
+        println!(rt; "{refusal}")?;
+    }
     for outcome in outcomes_of(&rt, WRONG)? {
         println!(rt; "{outcome}")?;
     }
@@ -37,6 +43,3 @@ fn main(rt: HostRuntime) -> Result<()> {
     println!(rt; "{count} cases, {differing} differ")?;
     Ok(())
 }
-
-#[cfg(test)]
-mod tests;

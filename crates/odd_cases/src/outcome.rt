@@ -49,6 +49,28 @@ fn file_difference<R: Files + AllocGlobal>(
     difference(rt.alloc(), case)
 }
 
+/// Why the cases of a folder are not read, in the order of their paths.
+pub fn refusals_of<R: Files + AllocGlobal + Clone + Drop>(
+    rt: &R,
+    folder: &str,
+) -> Result<Vec<Outcome>> {
+    let mut refusals = Vec::new(rt.alloc());
+    for path in sorted_paths(rt, folder).context(format_args!("{folder}"))? {
+        let difference = file_refusal(rt, path.as_str()).context(format_args!("{path}"))?;
+        refusals.push(Outcome { path, difference })?;
+    }
+    Ok(refusals)
+}
+
+// Why the case of a file is not read, where it is not.
+fn file_refusal<R: Files + AllocGlobal>(rt: &R, path: &str) -> Result<Option<String>, CaseFault> {
+    let text = fs::read_to_string(rt, path)?;
+    match read_case(rt.alloc(), text.as_str()) {
+        Ok(_) => Ok(None),
+        Err(fault) => Ok(Some(format!(in rt.alloc(); " {fault}")?)),
+    }
+}
+
 /// How many of the outcomes differ.
 pub fn count_differing(outcomes: &[Outcome]) -> usize
     ensures { result ≡ count_by differs outcomes.now }

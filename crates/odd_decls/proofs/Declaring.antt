@@ -1,5 +1,5 @@
 -- What entries declare at a key, with one entry more.
-use Rattle.std.proofs.Common.{◌≡◌, ℕ, ◌+◌, ◌<◌, List, [], ◌∷◌, ◌++◌, length, take, get_or, map, Option, Some, None, Bor, refl, ap, ◌∙◌, sym}
+use Rattle.std.proofs.Common.{◌≡◌, ℕ, ◌+◌, ◌<◌, List, [], ◌∷◌, ◌++◌, length, take, get_or, map, Option, Some, None, refl, ap, ◌∙◌, sym}
 use Rattle.std.proofs.lemmas.List.{get_or-map, length-map}
 use Rattle.odd_base.specs.declared.key.Key.{Key}
 use Rattle.odd_decls.specs.declared.library.Component.{Component}
@@ -32,8 +32,8 @@ pub declared_up_to : (es : List Entry) (i : ℕ) (e : Entry) (key : Key) → i <
 declared_up_to es i e key h is =
     ap (λ xs. declared_at xs key) (ends es i e h is) ∙ declared_more (take i es) e key
 
--- the same of references to entries
-pub declared_over : (bs : List (Bor Entry)) (i : ℕ) (b : Bor Entry) (key : Key) → i < length bs → b ≡ get_or bs i b
-    → declared_at (take (i + 1) (map (λ d. d.now) bs)) key ≡ last_of (entry_at b.now key) (declared_at (take i (map (λ d. d.now) bs)) key)
-declared_over bs i b key h is =
-    declared_up_to (map (λ d. d.now) bs) i b.now key (rw (length-map bs (λ d. d.now)) h) (ap (λ d. d.now) is ∙ sym (get_or-map (λ d. d.now) bs i b b.now h))
+-- the same of values that each have an entry
+pub declared_over : {X : Type 0} (entry_of : X → Entry) (xs : List X) (i : ℕ) (x : X) (key : Key) → i < length xs → x ≡ get_or xs i x
+    → declared_at (take (i + 1) (map entry_of xs)) key ≡ last_of (entry_at (entry_of x) key) (declared_at (take i (map entry_of xs)) key)
+declared_over entry_of xs i x key h is =
+    declared_up_to (map entry_of xs) i (entry_of x) key (rw (length-map xs entry_of) h) (ap entry_of is ∙ sym (get_or-map entry_of xs i x (entry_of x) h))

@@ -87,9 +87,9 @@ pub fn library_of(alloc: Global, doc: &OddDoc) -> Result<Library, NoMemory>
     ensures { IfOk result (IsLibraryOf doc.now) }
 {
     let mut parts = Parts::new(alloc);
-    let sorted = by_key(alloc, doc.entries.as_slice())?;
-    for entry in sorted.as_slice() {
-        declare(alloc, &mut parts, entry)?;
+    let sorted = by_ident(alloc, doc.entries.as_slice())?;
+    for pair in sorted.as_slice() {
+        declare(alloc, &mut parts, pair.1)?;
     }
     let ident = doc.ident.copy(alloc)?;
     let start = doc.start.copy(alloc)?;
@@ -100,15 +100,16 @@ pub fn library_of(alloc: Global, doc: &OddDoc) -> Result<Library, NoMemory>
     })
 }
 
-// The entries in the order of their keys, so that each is put at the end.
-fn by_key<'a>(alloc: Global, entries: &'a [Entry]) -> Result<Vec<&'a Entry>, NoMemory>
-    ensures { IfOk result (λ sorted. DeclareTheSame entries.entry.now (map (λ e. e.now) sorted.items)) }
+// The entries in the order of their idents, each beside its ident, which a comparison then reads at once. All are of
+// one kind so far, and so each is put at the end.
+fn by_ident<'a>(alloc: Global, entries: &'a [Entry]) -> Result<Vec<(&'a str, &'a Entry)>, NoMemory>
+    ensures { IfOk result (λ sorted. DeclareTheSame entries.entry.now (map (λ p. p.1.now) sorted.items)) }
 {
     let mut sorted = Vec::new(alloc);
     for entry in entries {
-        sorted.push(entry)?;
+        sorted.push((key_of(entry).ident.as_str(), entry))?;
     }
-    sorted.sort_by(|one, other| key_of(one).cmp(key_of(other)))?;
+    sorted.sort_by(|one, other| one.0.cmp(other.0))?;
     Ok(sorted)
 }
 

@@ -32,7 +32,18 @@ abbrev small : Tree
 small = made 0 (codes "a") (attribute (codes "n") (codes "1") ∷ []) (Text (codes "x") ∷ Element b_inside ∷ [])
 
 b_tag : IsFormedTag b_inside
-b_tag = record { named = name (codes "b") refl; attributes_named = All-nil _; valued = All-nil _; once = none_twice [] tt; bound = All-nil _ }
+b_tag = record {
+  named = name (codes "b") refl;
+  attributes_named = All-nil _;
+  valued = All-nil _;
+  once = none_twice [] tt;
+  bound = All-nil _;
+  within = ascii_legal [] refl;
+  attributes_within = All-nil _;
+  prefixed = All-nil _;
+  bound_to = All-nil _;
+  bound_once = none_twice [] tt;
+}
 
 small_formed : IsFormed 0 19 small
 small_formed = element (omega arith) (record {
@@ -41,6 +52,11 @@ small_formed = element (omega arith) (record {
   valued = All-cons (λ (a : Attr). IsLegal a.value) _ [] (ascii_legal (codes "1") refl) (All-nil _);
   once = none_twice (record { ns = []; local = codes "n" } ∷ []) (tt, tt);
   bound = All-nil _;
+  within = ascii_legal [] refl;
+  attributes_within = All-cons (λ (a : Attr). IsLegal a.name.ns) _ [] (ascii_legal [] refl) (All-nil _);
+  prefixed = All-nil _;
+  bound_to = All-nil _;
+  bound_once = none_twice [] tt;
 }) ((λ e. cc), ascii_legal (codes "x") refl, tt) (text (child 15 (element (omega arith) b_tag tt (nothing (omega arith))) (nothing (omega arith))))
 
 -- an empty text is not formed, nor are two texts side by side
@@ -57,6 +73,10 @@ text_is_legal x h = h.1
 -- no two attributes have one name
 name_twice : (t : Tree) (n : Name) → map (λ (a : Attr). a.name) (out-Tree t).attrs ≡ n ∷ n ∷ [] → IsFormedTag t → ⊥
 name_twice t n e f = f.once [] [] [] n e
+
+-- no two bindings have one prefix
+prefix_twice : (t : Tree) (prefix : List ℕ) → map (λ (b : Bind). b.prefix) (out-Tree t).binds ≡ prefix ∷ prefix ∷ [] → IsFormedTag t → ⊥
+prefix_twice t prefix e f = f.bound_once [] [] [] prefix e
 
 -- the prefix xml is bound to nothing else
 xml_elsewhere : (t : Tree) (b : Bind) (others : List Bind) → (out-Tree t).binds ≡ b ∷ others → b.prefix ≡ codes "xml" → b.ns ≡ codes "urn:x" → IsFormedTag t → ⊥

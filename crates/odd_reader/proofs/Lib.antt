@@ -13,6 +13,7 @@ pub mod Examples
 pub mod Faults
 pub mod Fits
 pub mod Formed
+pub mod FormedBindings
 pub mod FormedExamples
 pub mod FormedPlaces
 pub mod FormedTags

@@ -50,7 +50,7 @@ prefix_is n =
     rw (encoded_xmlns n.prefix, encoded_none n.prefix, encoded_xmlns n.local)
     (chosen (is_same n.prefix (codes "xmlns")) (is_same n.prefix [] && is_same n.local (codes "xmlns")) n.local)
 
-abbrev bind_of : Attribute → Option (List ℕ) → List Bind
+abbrev pub bind_of : Attribute → Option (List ℕ) → List Bind
 bind_of a None = []
 bind_of a (Some prefix) = record { prefix = encode_utf8_all prefix; ns = encode_utf8_all (value_read a.value) } ∷ []
 

@@ -1,11 +1,16 @@
 -- What holds of each tree that a file spells (XML 1.0, sections 2.2, 2.4 and 3.1; Namespaces in XML 1.0, sections 3 and 6.3).
-use Rattle.std.specs.Prelude.{◌≢◌, ◌≤◌, ℕ, suc, List, [], ◌∷◌, map, All}
+use Rattle.std.specs.Prelude.{◌≡◌, ◌≢◌, ◌≤◌, ◌⊎◌, ℕ, suc, List, [], ◌∷◌, map, All}
+use Rattle.odd_base.specs.declared.name.Bind.{Bind}
 use Rattle.odd_reader.specs.declared.tree.Attr.{Attr}
 use Rattle.odd_reader.specs.declared.tree.Tree.{Tree, out-Tree}
 use Rattle.odd_reader.specs.declared.tree.Node.{Node, Element, Text}
 use Rattle.odd_tokens.specs.Characters.{IsLegal, IsNCName}
 use Rattle.odd_reader.specs.Names.{IsBinding}
 use Rattle.odd_tokens.specs.Tokens.{NoneTwice}
+
+-- no prefix, or a name without colon
+abbrev pub IsPrefix : List ℕ → Type 0
+IsPrefix prefix = (prefix ≡ []) ⊎ IsNCName prefix
 
 -- the name of an element, its attributes and its bindings
 pub record IsFormedTag (t : Tree) : Type 0 where
@@ -14,6 +19,11 @@ pub record IsFormedTag (t : Tree) : Type 0 where
   pub valued : All (λ (a : Attr). IsLegal a.value) (out-Tree t).attrs
   pub once : NoneTwice (map (λ (a : Attr). a.name) (out-Tree t).attrs)
   pub bound : All IsBinding (out-Tree t).binds
+  pub within : IsLegal (out-Tree t).name.ns
+  pub attributes_within : All (λ (a : Attr). IsLegal a.name.ns) (out-Tree t).attrs
+  pub prefixed : All (λ (b : Bind). IsPrefix b.prefix) (out-Tree t).binds
+  pub bound_to : All (λ (b : Bind). IsLegal b.ns) (out-Tree t).binds
+  pub bound_once : NoneTwice (map (λ (b : Bind). b.prefix) (out-Tree t).binds)
 
 -- no text is empty, and none stands beside another
 abbrev pub AreApart : List Node → Type 0

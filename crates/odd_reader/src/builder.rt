@@ -10,7 +10,7 @@ use crate::bindings::Bindings;
 use crate::tree::{Attr, Attrs, Node, Nodes, Tree};
 use crate::xml::{XML, XmlNamespace};
 use odd_base::{Bind, Name, NoMemory, Scope, Text, TryCopy};
-use odd_tokens::{Token, WrittenAttr, WrittenAttrs, WrittenName, WrittenTag, is_space};
+use odd_tokens::{TextTable, Token, WrittenAttr, WrittenAttrs, WrittenName, WrittenTag, is_space};
 use std::alloc::{AllocError, AllocFailed, Global};
 
 /// The namespace to which nothing is bound.
@@ -90,6 +90,9 @@ pub struct Builder {
     text: String,
     last: Last,
     xml: XmlNamespace,
+    // the texts of white space alone, of which there are many that are alike
+    spaces: TextTable,
+    space: Text,
 }
 
 impl Builder {
@@ -103,6 +106,8 @@ impl Builder {
             text: String::new(alloc),
             last: Last::Other,
             xml: XmlNamespace::new(alloc)?,
+            spaces: TextTable::new(alloc),
+            space: Text::new(alloc),
         })
     }
 
@@ -135,6 +140,8 @@ impl Builder {
             text: _,
             last: _,
             xml: _,
+            spaces: _,
+            space: _,
         } = self;
         root
     }
@@ -224,10 +231,23 @@ impl Builder {
         if self.text.is_empty() {
             return Ok(());
         }
-        let text = Text::from_str(self.alloc, self.text.as_str())?;
+        let text = self.finished_text()?;
         self.text.clear();
         add_child(&mut self.open, Node::Text(text))?;
         Ok(())
+    }
+
+    // The text that was read. One of white space alone is kept once a file.
+    fn finished_text(&mut self) -> Result<Text, NoMemory>
+        ensures text { IfOk result (λ text. text ≡ (kept_of self.old).text) }
+        ensures same { kept_of self.new ≡ kept_of self.old }
+    {
+        if !self.text.chars().all(|c| is_space(c)) {
+            return Text::from_str(self.alloc, self.text.as_str());
+        }
+        self.space.clear();
+        self.space.push_str(self.text.as_str())?;
+        self.spaces.share(&self.space)
     }
 
     fn open_element(&mut self, tag: WrittenTag) -> Result<(), Misfit>

@@ -3,7 +3,7 @@ use Rattle.std.proofs.Common.{◌≡◌, ℕ, ◌<◌, ◌≤◌, true, ◌&&◌
 use Rattle.std.proofs.lemmas.Bool.{cases_order, eq-eqb, ne_eqb, le-leb, lt-leb, and_from, and_left, and_right}
 use Rattle.std.proofs.lemmas.Bool.Decides.{nat_tests}
 use Rattle.std.specs.Char.{IsScalar}
-use Rattle.odd_tokens.specs.Characters.{is_char, is_name_start, is_name_char}
+use Rattle.odd_tokens.specs.Characters.{last_character, is_char, is_name_start, is_name_char}
 
 -- a range of one character
 pub within_one : (k c : ℕ) → (nat_le k c && nat_le c k) ≡ (c == k)
@@ -23,7 +23,7 @@ pub char_scalar : (n : ℕ) → is_char n ≡ true → IsScalar n
 unfolding is_char
 char_scalar n h = grind (arith, nat_tests)
 
-pub char_is_small : (c : ℕ) → is_char c ≡ true → c ≤ 0x10FFFF
+pub char_is_small : (c : ℕ) → is_char c ≡ true → c ≤ last_character
 unfolding is_char
 char_is_small c h = grind (arith, nat_tests)
 

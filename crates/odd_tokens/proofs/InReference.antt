@@ -4,7 +4,7 @@ use Rattle.std.proofs.lemmas.Bool.{cond_both, cases_Bool, and_parts, eqb-true, l
 use Rattle.std.proofs.lemmas.Str.{encode_ascii}
 use Rattle.std.specs.Char.{digit_value}
 use Rattle.std.specs.Cmp.Lexicographic.{same_text}
-use Rattle.odd_tokens.specs.Characters.{is_char}
+use Rattle.odd_tokens.specs.Characters.{last_character, is_char}
 use Rattle.odd_tokens.specs.Same.{is_same}
 use Rattle.odd_tokens.specs.Lexing.{Lexed, Taken, go, referred, reference, letter, digit, base_of, entity_named, end_letters, end_digits}
 use Rattle.odd_tokens.specs.Tokens as written
@@ -42,7 +42,7 @@ reference_kept ref.Hexadecimal read l m t n h = subst (InHexadecimal read) n h
 
 -- a digit goes on
 digit_steps : (p : Place) (part : ReferencePart) (read : List ℕ) (l : Lexed) (c number : ℕ)
-    → (nat_lt (digit_value c) (base_of part) ≡ true → InReference part read (record l { number = if nat_le number 0x10FFFF then number * base_of part + digit_value c else number }))
+    → (nat_lt (digit_value c) (base_of part) ≡ true → InReference part read (record l { number = if nat_le number last_character then number * base_of part + digit_value c else number }))
     → ReferenceStep p read l (digit p part (record l { number = number }) c)
 digit_steps p part read l c number goes_on =
     cond_both (nat_lt (digit_value c) (base_of part)) _ None (ReferenceStep p read l) (λ h. goes part l.text _ refl (goes_on h)) (λ h. stops refl)

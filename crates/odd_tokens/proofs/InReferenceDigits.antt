@@ -4,7 +4,7 @@ use Rattle.std.proofs.lemmas.Bool.{cond_both, leb-true, leb-false}
 use Rattle.std.proofs.lemmas.Bool.Decides.{nat_tests}
 use Rattle.std.specs.Char.{digit_value}
 use Rattle.std.specs.List.{list_all}
-use Rattle.odd_tokens.specs.Characters.{is_char}
+use Rattle.odd_tokens.specs.Characters.{last_character, is_char}
 use Rattle.odd_tokens.specs.Tokens as written
 use Rattle.odd_tokens.proofs.Characters.{char_is_small}
 use Rattle.odd_tokens.proofs.LexedNumbers.{number_of, number_push, decimal_value, hexadecimal_value, decimal_number, hexadecimal_number}
@@ -12,7 +12,7 @@ use Rattle.odd_tokens.proofs.OneMore.{not_empty, list_all_more}
 
 -- a number stays as it is once it is past every character
 abbrev pub Counts : ℕ → ℕ → Type 0
-Counts value number = (number ≡ value) ⊎ ((0x10FFFF < number) × (0x10FFFF < value))
+Counts value number = (number ≡ value) ⊎ ((last_character < number) × (last_character < value))
 
 pub record InDecimal (read : List ℕ) (number : ℕ) : Type 0 where
   pub digits : List ℕ
@@ -36,16 +36,16 @@ decimal_tested c h = (grind (arith, nat_tests), grind (arith, nat_tests))
 hexadecimal_tested : (c : ℕ) → nat_lt (digit_value c) 16 ≡ true → (written.is_hexadecimal_digit c ≡ true) × (digit_value c ≡ hexadecimal_value c)
 hexadecimal_tested c h = (grind (arith, nat_tests), grind (arith, nat_tests))
 
-counts_more : (value number base d : ℕ) → 1 ≤ base → Counts value number → Counts (value * base + d) (if nat_le number 0x10FFFF then number * base + d else number)
+counts_more : (value number base d : ℕ) → 1 ≤ base → Counts value number → Counts (value * base + d) (if nat_le number last_character then number * base + d else number)
 counts_more value number base d b h =
-    cond_both (nat_le number 0x10FFFF) (number * base + d) number (λ n. Counts (value * base + d) n)
-    (λ e. ⊎_elim (λ f. inl (ap (λ n. n * base + d) f)) (λ f. absurd (omega (arith, leb-true number 0x10FFFF e))) h)
-    (λ e. inr (leb-false number 0x10FFFF e, ⊎_elim (λ f. large (leb-false number 0x10FFFF e) f) (λ f. grows f.1) h))
+    cond_both (nat_le number last_character) (number * base + d) number (λ n. Counts (value * base + d) n)
+    (λ e. ⊎_elim (λ f. inl (ap (λ n. n * base + d) f)) (λ f. absurd (omega (arith, leb-true number last_character e))) h)
+    (λ e. inr (leb-false number last_character e, ⊎_elim (λ f. large (leb-false number last_character e) f) (λ f. grows f.1) h))
   where
-    grows : 0x10FFFF < value → 0x10FFFF < value * base + d
+    grows : last_character < value → last_character < value * base + d
     grows h = omega (arith, mul-le-mul_left value b)
 
-    large : 0x10FFFF < number → number ≡ value → 0x10FFFF < value * base + d
+    large : last_character < number → number ≡ value → last_character < value * base + d
     large h e = grows (omega arith)
 
 pub counts_is : (value number : ℕ) → is_char number ≡ true → Counts value number → number ≡ value
@@ -54,15 +54,15 @@ counts_is value number h k = ⊎_elim (λ e. e) (λ e. absurd (omega (arith, cha
 -- digits
 
 counts_push : (base : ℕ) (value : ℕ → ℕ) (made : List ℕ → ℕ) → ((ds : List ℕ) → made ds ≡ number_of base value 0 ds) → (digits : List ℕ) (number c : ℕ) → 1 ≤ base
-    → Counts (made digits) number → digit_value c ≡ value c → Counts (made (digits ++ c ∷ [])) (if nat_le number 0x10FFFF then number * base + digit_value c else number)
+    → Counts (made digits) number → digit_value c ≡ value c → Counts (made (digits ++ c ∷ [])) (if nat_le number last_character then number * base + digit_value c else number)
 counts_push base value made is digits number c b h e =
     let pushed : made digits * base + digit_value c ≡ made (digits ++ c ∷ []) =
     ap (λ n. n * base + digit_value c) (is digits) ∙ ap (λ d. number_of base value 0 digits * base + d) e
     ∙ sym (number_push base value 0 c digits) ∙ sym (is (digits ++ c ∷ [])) in
-    subst (λ n. Counts n (if nat_le number 0x10FFFF then number * base + digit_value c else number)) pushed (counts_more (made digits) number base (digit_value c) b h)
+    subst (λ n. Counts n (if nat_le number last_character then number * base + digit_value c else number)) pushed (counts_more (made digits) number base (digit_value c) b h)
 
 pub decimal_more : (read : List ℕ) (number c : ℕ) → InDecimal read number → nat_lt (digit_value c) 10 ≡ true
-    → InDecimal (read ++ c ∷ []) (if nat_le number 0x10FFFF then number * 10 + digit_value c else number)
+    → InDecimal (read ++ c ∷ []) (if nat_le number last_character then number * 10 + digit_value c else number)
 decimal_more read number c h d = record {
   digits = h.digits ++ c ∷ [];
   is_read = ap (λ x. x ++ c ∷ []) h.is_read;
@@ -71,7 +71,7 @@ decimal_more read number c h d = record {
   counts = counts_push 10 decimal_value (λ ds. written.character_of (written.decimal ds)) decimal_number h.digits number c (omega arith) h.counts (decimal_tested c d).1;
 }
 
-pub decimal_first : (c : ℕ) → nat_lt (digit_value c) 10 ≡ true → InDecimal (codes "&#" ++ c ∷ []) (if nat_le 0 0x10FFFF then 0 * 10 + digit_value c else 0)
+pub decimal_first : (c : ℕ) → nat_lt (digit_value c) 10 ≡ true → InDecimal (codes "&#" ++ c ∷ []) (if nat_le 0 last_character then 0 * 10 + digit_value c else 0)
 decimal_first c d = record {
   digits = c ∷ [];
   is_read = refl;
@@ -81,7 +81,7 @@ decimal_first c d = record {
 }
 
 pub hexadecimal_more : (read : List ℕ) (number c : ℕ) → InHexadecimal read number → nat_lt (digit_value c) 16 ≡ true
-    → InHexadecimal (read ++ c ∷ []) (if nat_le number 0x10FFFF then number * 16 + digit_value c else number)
+    → InHexadecimal (read ++ c ∷ []) (if nat_le number last_character then number * 16 + digit_value c else number)
 hexadecimal_more read number c h d = record {
   digits = h.digits ++ c ∷ [];
   is_read = ap (λ x. x ++ c ∷ []) h.is_read;
@@ -90,7 +90,7 @@ hexadecimal_more read number c h d = record {
   counts = counts_push 16 hexadecimal_value (λ ds. written.character_of (written.hexadecimal ds)) hexadecimal_number h.digits number c (omega arith) h.counts (hexadecimal_tested c d).1;
 }
 
-pub hexadecimal_first : (c : ℕ) → nat_lt (digit_value c) 16 ≡ true → InHexadecimal (codes "&#x" ++ c ∷ []) (if nat_le 0 0x10FFFF then 0 * 16 + digit_value c else 0)
+pub hexadecimal_first : (c : ℕ) → nat_lt (digit_value c) 16 ≡ true → InHexadecimal (codes "&#x" ++ c ∷ []) (if nat_le 0 last_character then 0 * 16 + digit_value c else 0)
 hexadecimal_first c d = record {
   digits = c ∷ [];
   is_read = refl;

@@ -3,7 +3,7 @@ use Rattle.std.proofs.Common.{◌≡◌, ℕ, ◌+◌, ◌*◌, ◌≤◌, Bool,
 use Rattle.std.proofs.lemmas.Bool.{cond-true, cond-false, and_parts, le-leb}
 use Rattle.std.specs.List.{list_all}
 use Rattle.std.specs.Char.{digit_value, encode_utf8}
-use Rattle.odd_tokens.specs.Characters.{is_char}
+use Rattle.odd_tokens.specs.Characters.{last_character, is_char}
 use Rattle.odd_tokens.specs.Lexing.{Lexed, next, referred, digit, entity_named, reference}
 use Rattle.odd_tokens.specs.Tokens.{Reference, lt, gt, amp, apos, quot, decimal, hexadecimal, IsReference, character_of, reference_written, is_decimal_digit, is_hexadecimal_digit}
 use Rattle.odd_tokens.specs.declared.lexer.Place.{Place}
@@ -30,33 +30,33 @@ module _ (l : Lexed) (p : Place) (t : Token) where
   in_digits part n = record l { state = state.Reference p part; number = n }
 
   -- a digit adds to the number, which is no greater than that of a character
-  kept_number : (n base d : ℕ) → n ≤ 0x10FFFF → (if nat_le n 0x10FFFF then n * base + d else n) ≡ n * base + d
-  kept_number n base d h = cond-true _ _ _ (le-leb n 0x10FFFF h)
+  kept_number : (n base d : ℕ) → n ≤ last_character → (if nat_le n last_character then n * base + d else n) ≡ n * base + d
+  kept_number n base d h = cond-true _ _ _ (le-leb n last_character h)
 
-  decimal_digit : (s : State) (n d : ℕ) → n ≤ 0x10FFFF → is_decimal_digit d ≡ true
+  decimal_digit : (s : State) (n d : ℕ) → n ≤ last_character → is_decimal_digit d ≡ true
       → digit p ref.Decimal (record l { state = s; number = n }) d ≡ Some (in_digits ref.Decimal (n * 10 + decimal_value d), None)
   decimal_digit s n d small h =
       cond-true _ _ _ (decimal_below d h)
       ∙ ap (λ x. Some (in_digits ref.Decimal x, None)) (kept_number n 10 (digit_value d) small ∙ ap (λ x. n * 10 + x) (decimal_read d h))
 
-  hexadecimal_digit : (s : State) (n d : ℕ) → n ≤ 0x10FFFF → is_hexadecimal_digit d ≡ true
+  hexadecimal_digit : (s : State) (n d : ℕ) → n ≤ last_character → is_hexadecimal_digit d ≡ true
       → digit p ref.Hexadecimal (record l { state = s; number = n }) d ≡ Some (in_digits ref.Hexadecimal (n * 16 + hexadecimal_value d), None)
   hexadecimal_digit s n d small h =
       cond-true _ _ _ (hexadecimal_below d h)
       ∙ ap (λ x. Some (in_digits ref.Hexadecimal x, None)) (kept_number n 16 (digit_value d) small ∙ ap (λ x. n * 16 + x) (hexadecimal_read d h))
 
-  decimal_next : (n d at : ℕ) → n ≤ 0x10FFFF → is_decimal_digit d ≡ true → next (in_digits ref.Decimal n) at d ≡ Some (in_digits ref.Decimal (n * 10 + decimal_value d), None)
+  decimal_next : (n d at : ℕ) → n ≤ last_character → is_decimal_digit d ≡ true → next (in_digits ref.Decimal n) at d ≡ Some (in_digits ref.Decimal (n * 10 + decimal_value d), None)
   decimal_next n d at small h =
       let m = decimal_no_mark d h in cond-true _ _ _ m.2 ∙ cond-false _ _ _ m.0 ∙ decimal_digit (state.Reference p ref.Decimal) n d small h
 
-  hexadecimal_next : (n d at : ℕ) → n ≤ 0x10FFFF → is_hexadecimal_digit d ≡ true
+  hexadecimal_next : (n d at : ℕ) → n ≤ last_character → is_hexadecimal_digit d ≡ true
       → next (in_digits ref.Hexadecimal n) at d ≡ Some (in_digits ref.Hexadecimal (n * 16 + hexadecimal_value d), None)
   hexadecimal_next n d at small h =
       let m = hexadecimal_no_mark d h in cond-true _ _ _ m.1 ∙ cond-false _ _ _ m.0 ∙ hexadecimal_digit (state.Reference p ref.Hexadecimal) n d small h
 
   module _ (part : ReferencePart) (base : ℕ) (value : ℕ → ℕ) (test : ℕ → Bool) (grows : (n : ℕ) (ds : List ℕ) → n ≤ number_of base value n ds)
-      (step : (n d at : ℕ) → n ≤ 0x10FFFF → test d ≡ true → next (in_digits part n) at d ≡ Some (in_digits part (n * base + value d), None)) where
-    digits_read : (n : ℕ) (ds more : List ℕ) → list_all test ds ≡ true → number_of base value n ds ≤ 0x10FFFF → Yields (in_digits part (number_of base value n ds)) more t
+      (step : (n d at : ℕ) → n ≤ last_character → test d ≡ true → next (in_digits part n) at d ≡ Some (in_digits part (n * base + value d), None)) where
+    digits_read : (n : ℕ) (ds more : List ℕ) → list_all test ds ≡ true → number_of base value n ds ≤ last_character → Yields (in_digits part (number_of base value n ds)) more t
         → Yields (in_digits part n) (ds ++ more) t
     digits_read n [] more h small y = y
     digits_read n (d ∷ ds) more h small y =

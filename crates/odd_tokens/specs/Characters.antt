@@ -6,9 +6,13 @@ use Rattle.std.specs.List.{list_all}
 abbrev pub is_within : ℕ → ℕ → ℕ → Bool
 is_within low high c = nat_le low c && nat_le c high
 
+-- the last character of Unicode, and of XML
+abbrev pub last_character : ℕ
+last_character = 0x10FFFF
+
 -- XML 1.0, section 2.2: Char
 unfoldable pub is_char : ℕ → Bool
-is_char c = c == 0x9 || c == 0xA || c == 0xD || is_within 0x20 0xD7FF c || is_within 0xE000 0xFFFD c || is_within 0x10000 0x10FFFF c
+is_char c = c == 0x9 || c == 0xA || c == 0xD || is_within 0x20 0xD7FF c || is_within 0xE000 0xFFFD c || is_within 0x10000 last_character c
 
 -- XML 1.0, section 2.3: a character of S
 abbrev pub is_space : ℕ → Bool

@@ -2,7 +2,7 @@
 use Rattle.std.specs.Prelude.{◌≡◌, ℕ, ◌+◌, ◌*◌, Bool, true, false, ◌&&◌, ◌||◌, ◌==◌, not, if◌then◌else◌, List, [], ◌∷◌, ◌++◌, length, Option, Some, None, Result, MatchResult, codes, nat_le, nat_lt, encode_utf8, string_bytes}
 use Rattle.std.specs.Char.{digit_value}
 use Rattle.std.specs.Str.{str_eq_ignore_ascii_case}
-use Rattle.odd_tokens.specs.Characters.{is_char, is_space, is_name_start, is_name_char}
+use Rattle.odd_tokens.specs.Characters.{last_character, is_char, is_space, is_name_start, is_name_char}
 use Rattle.odd_tokens.specs.Declaring.{is_declaration_of}
 use Rattle.odd_tokens.specs.Same.{is_same}
 use Rattle.odd_tokens.specs.declared.lexer.Fault.{Fault}
@@ -213,7 +213,7 @@ base_of p = 10
 
 abbrev pub digit : Place → ReferencePart → Lexed → ℕ → Taken
 digit p part l c = if nat_lt (digit_value c) (base_of part)
-    then go (state.Reference p part) (record l { number = if nat_le l.number 0x10FFFF then l.number * base_of part + digit_value c else l.number })
+    then go (state.Reference p part) (record l { number = if nat_le l.number last_character then l.number * base_of part + digit_value c else l.number })
     else None
 
 abbrev pub end_digits : Place → Lexed → Taken

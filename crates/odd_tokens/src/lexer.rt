@@ -11,6 +11,9 @@ use odd_base::{NoMemory, Text};
 use std::alloc::{AllocError, Global};
 use std::mem;
 
+// The number of the last character of Unicode.
+const LAST_CHARACTER: u32 = 0x10FFFF;
+
 /// Why a token does not go on with a character.
 #[derive(Clone, Copy, Debug, PartialEq, Eq)]
 pub enum Fault {
@@ -691,7 +694,7 @@ impl Lexer {
             return Err(Fault::Malformed);
         };
         // a number past all characters stays as it is
-        if self.number <= 0x10FFFF {
+        if self.number <= LAST_CHARACTER {
             self.number = self.number * base + digit;
         }
         self.go(State::Reference(place, part))

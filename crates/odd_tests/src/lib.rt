@@ -1,0 +1,13 @@
+//! Calls that no run makes, each once with ample memory, and files and outputs in memory that fault at each call in turn.
+#![tactic(auto)]
+
+#[cfg(test)]
+mod escaping;
+#[cfg(test)]
+mod library;
+#[cfg(test)]
+mod making;
+#[cfg(test)]
+mod outside;
+#[cfg(test)]
+mod values;

@@ -1,0 +1,109 @@
+//! Libraries that no file gives, and the copies of what they hold.
+
+use crate::making::{key, many_words, text};
+use compile_core::{CompileRefusal, compile, print_rng};
+use odd_base::{Kind, NoMemory, Text, TryCopy, Who, Words};
+use odd_decls::{Component, Content, ElementPart, Library, Spec};
+use std::alloc::Global;
+use std::test::Fail;
+
+const TEI: &str = "http://www.tei-c.org/ns/1.0";
+
+// An element of TEI's namespace and of no module.
+fn element(alloc: Global, content: Content) -> Result<ElementPart, NoMemory> {
+    Ok(ElementPart {
+        module: Text::new(alloc),
+        ns: text(alloc, TEI)?,
+        content,
+    })
+}
+
+// The empty library with the elements of some idents.
+fn library_with(alloc: Global, idents: Words) -> Result<Library, NoMemory> {
+    let mut library = Library::empty(alloc)?;
+    for ident in idents.into_items() {
+        let key = key(alloc, Kind::Element, ident.as_str())?;
+        let part = Component::Element(element(alloc, Content::Text)?);
+        library.parts.put(key, part)?;
+    }
+    Ok(library)
+}
+
+fn words_of(alloc: Global, text: &str) -> Result<Words, NoMemory> {
+    let mut words = Words::new(alloc);
+    for word in text.split_ascii_whitespace() {
+        words.push(Text::from_str(alloc, word)?)?;
+    }
+    Ok(words)
+}
+
+// The schema of a library with these start words, or the start word that is refused.
+fn schema_from(alloc: Global, library: &Library, start: &Words) -> Result<Text, NoMemory> {
+    match compile(alloc, library, start) {
+        Ok(grammar) => print_rng(alloc, &grammar),
+        Err(CompileRefusal::Offence(offence)) => match offence.who {
+            Who::Start(word) => Ok(word),
+            _ => text(alloc, "another offence"),
+        },
+        Err(CompileRefusal::NoMemory) => Err(NoMemory),
+    }
+}
+
+#[test]
+fn a_library_compiles_with_any_number_of_start_words(rt: HostRuntime) -> Result<(), Fail> {
+    let library = library_with(rt.alloc(), words_of(rt.alloc(), "b a")?)?;
+    for (words, start) in [
+        (
+            "",
+            "<start>\n<notAllowed/>\n</start>\n<define name=\"e.a\">",
+        ),
+        ("b", "<start>\n<ref name=\"e.b\"/>\n</start>\n"),
+        (
+            "b a",
+            "<start>\n<choice>\n<ref name=\"e.b\"/>\n<ref name=\"e.a\"/>\n</choice>\n</start>\n",
+        ),
+    ] {
+        let schema = schema_from(rt.alloc(), &library, &words_of(rt.alloc(), words)?)?;
+        assert!(rt; schema.as_str().contains(start), "{words}");
+    }
+    let refused = schema_from(rt.alloc(), &library, &words_of(rt.alloc(), "a d c")?)?;
+    assert_eq!(rt; refused.as_str(), "c");
+    Ok(())
+}
+
+#[test]
+fn a_large_library_is_copied_and_compiles(rt: HostRuntime) -> Result<(), Fail> {
+    let words = many_words(rt.alloc(), 1000)?;
+    let mut library = library_with(rt.alloc(), words.copy(rt.alloc())?)?;
+    library.parts = library.parts.copy(rt.alloc())?;
+    let schema = schema_from(rt.alloc(), &library, &words)?;
+    assert_eq!(rt; schema.as_str().matches("<ref name=\"e.w1").count(), 1000);
+    assert_eq!(rt; schema.as_str().matches("<element name=\"w1").count(), 1000);
+    Ok(())
+}
+
+#[test]
+fn the_empty_library_has_a_start_word_alone(rt: HostRuntime) -> Result<(), Fail> {
+    let library = Library::empty(rt.alloc())?;
+    assert_eq!(rt; library.ident.as_str(), "bare");
+    assert_eq!(rt; library.start.len(), 1);
+    assert_eq!(rt; library.start.get(0).map(|word| word.as_str()), Some("TEI"));
+    assert!(rt; library.parts.is_empty());
+    Ok(())
+}
+
+#[test]
+fn components_and_specs_are_copied(rt: HostRuntime) -> Result<(), Fail> {
+    let component = Component::Element(element(rt.alloc(), Content::Text)?);
+    assert!(rt; component.copy(rt.alloc())? == component);
+    let spec = Spec {
+        key: key(rt.alloc(), Kind::Element, "a")?,
+        module: text(rt.alloc(), "m")?,
+        ns: Some(text(rt.alloc(), "n")?),
+        content: Some(Content::Text),
+    };
+    let copy = spec.copy(rt.alloc())?;
+    assert!(rt; copy.key == spec.key);
+    assert_eq!(rt; copy.module.as_str(), "m");
+    Ok(())
+}

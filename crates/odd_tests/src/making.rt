@@ -1,0 +1,30 @@
+//! What the tests begin with.
+
+use odd_base::{Calls, Key, Kind, NoMemory, Text, Words};
+use std::alloc::Global;
+
+pub fn text(alloc: Global, text: &str) -> Result<Text, NoMemory> {
+    Text::from_str(alloc, text)
+}
+
+pub fn key(alloc: Global, kind: Kind, ident: &str) -> Result<Key, NoMemory> {
+    let ident = text(alloc, ident)?;
+    Ok(Key { kind, ident })
+}
+
+// A list of one call. Calls are counted from 1, so 0 is none.
+pub fn calls(alloc: Global, number: u64) -> Result<Calls, NoMemory> {
+    let mut calls = Calls::new(alloc);
+    calls.push(number)?;
+    Ok(calls)
+}
+
+// So many words, `w1000` and so on.
+pub fn many_words(alloc: Global, count: u32) -> Result<Words, NoMemory> {
+    let mut words = Words::new(alloc);
+    for number in 0..count {
+        let word = format!(in alloc; "w{}", number.saturating_add(1000))?;
+        words.push(text(alloc, word.as_str())?)?;
+    }
+    Ok(words)
+}
