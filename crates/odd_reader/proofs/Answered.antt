@@ -1,29 +1,30 @@
 -- Each file has an answer: its tree, a level too many, or its fault.
-use Rattle.std.proofs.Common.{◌≡◌, ◌≢◌, ◌⊎◌, inl, inr, ⊎_elim, ℕ, zero, suc, ◌+◌, ◌≤◌, Bool, true, false, if◌then◌else◌, nat_le, List, [], ◌∷◌, ◌++◌, length, take, Option, Some, None, refl, sym, ap, ◌∙◌, subst, append_assoc, arith}
+use Rattle.std.proofs.Common.{◌≡◌, ◌≢◌, ◌⊎◌, inl, inr, ⊎_elim, ℕ, zero, suc, ◌≤◌, Bool, true, false, if◌then◌else◌, nat_le, List, [], ◌∷◌, ◌++◌, length, take, Option, Some, None, refl, sym, ap, ◌∙◌, subst, append_assoc, append-nil, arith}
 use Rattle.std.proofs.lemmas.Bool.{cases_Bool}
 use Rattle.std.proofs.lemmas.List.{take_all}
 use Rattle.std.proofs.lemmas.Str.{IsUtf8-nil, IsUtf8-from_is_utf8, is_utf8-from_IsUtf8}
 use Rattle.std.specs.Char.{IsScalar}
-use Rattle.std.specs.Prelude.{Result, Ok, Err, encode_utf8}
+use Rattle.std.specs.Prelude.{Ok, Err, encode_utf8}
 use Rattle.std.specs.Str.{encode_utf8_all, is_utf8, IsUtf8}
-use Rattle.odd_reader.specs.declared.builder.Misfit.{Misfit}
-use Rattle.odd_reader.specs.declared.builder.Misfit.TheVariants as misfit
-use Rattle.odd_reader.specs.declared.builder.Open.{Open}
-use Rattle.odd_tokens.specs.declared.lexer.State.{State}
-use Rattle.odd_tokens.specs.declared.lexer.State.TheVariants as state
+use Rattle.odd_tokens.specs.Characters.{is_space}
+use Rattle.odd_tokens.specs.Lexing.{Lexed, Taken, next, started}
+use Rattle.odd_tokens.specs.Tokens.{size_of}
+use Rattle.odd_tokens.specs.Unfinished.{Ends, HasRead as IsLexedTo}
 use Rattle.odd_tokens.specs.declared.token.Token.{Token}
 use Rattle.odd_tokens.specs.declared.token.Token.TheVariants as token
 use Rattle.odd_tokens.specs.declared.token.WrittenTag.{WrittenTag}
-use Rattle.odd_reader.specs.declared.tree.Tree.{Tree}
-use Rattle.odd_reader.specs.Building.{Kept, Built, misplaced, build, element_opened, ends_innermost, resolved, then_closed, then_other}
-use Rattle.odd_tokens.specs.Characters.{is_space}
-use Rattle.odd_tokens.specs.Lexing.{Lexed, Taken, next}
-use Rattle.odd_reader.specs.Reading.{Read, nothing_read, read_character, with_kept, with_lexed, with_token, place_of, IsFinished, IsLongestFront}
+use Rattle.odd_tokens.proofs.Unfinished.{makes}
+use Rattle.odd_reader.specs.Building.{Kept, Built, misplaced, begun, build, element_opened, ends_innermost, resolved, then_closed, then_other}
+use Rattle.odd_reader.specs.Reading.{is_fresh, place_of, IsLongestFront}
 use Rattle.odd_reader.specs.Spelled.{GivesTree, DepthPlace, IsNotXml, deepest}
-use Rattle.odd_reader.proofs.Faults.{misplaced_place, too_deep_place, not_utf8_place, ended_place}
+use Rattle.odd_reader.specs.declared.builder.Misfit.TheVariants as misfit
+use Rattle.odd_reader.specs.declared.builder.Open.{Open}
+use Rattle.odd_reader.specs.declared.tree.Tree.{Tree}
 use Rattle.odd_reader.proofs.LongestFront.{whole_front, valid_front}
-use Rattle.odd_reader.proofs.ReadTo.{IsReadTo, nothing_read_to, read_to_next, ends_so}
+use Rattle.odd_reader.proofs.Places.{parts_of}
+use Rattle.odd_reader.proofs.Running.{HasRun, run_begun}
 use Rattle.odd_reader.proofs.StandsOpening.{with_open}
+use Rattle.odd_reader.proofs.Taken.{place_between, goes_on, token_taken, malformed_place, misplaced_place, too_deep_place, cut_place, end_place, gives_tree}
 
 -- the definitions never answer that there is no memory
 
@@ -76,21 +77,6 @@ build_remembers os k (token.Start t) e = other_remembers _ (element_remembers (k
 build_remembers os k (token.Empty t) e = other_remembers _ (closed_remembers _ (element_remembers (kept os k) t)) e
 build_remembers os k (token.End name) e = kept_or_misplaced (ends_innermost (kept os k) name) _ e
 
-token_remembers : (k : Kept) (given : Option Token) → Remembers (with_token k given)
-token_remembers k None e = cc
-token_remembers k (Some t) e = build_remembers k.open_elements k t e
-
-kept_remembers : (l : Lexed) (size : ℕ) (b : Built) → Remembers b → with_kept l size b ≡ Err misfit.NoMemory → ⊥
-kept_remembers l size (Err f) h e = h (cc e)
-kept_remembers l size (Ok k) h e = cc
-
-lexed_remembers : (r : Read) (size : ℕ) (x : Taken) → with_lexed r size x ≡ Err misfit.NoMemory → ⊥
-lexed_remembers r size None e = cc
-lexed_remembers r size (Some (l, given)) e = kept_remembers l size (with_token r.kept given) (token_remembers r.kept given) e
-
-character_remembers : (r : Read) (c : ℕ) → read_character r c ≡ Err misfit.NoMemory → ⊥
-character_remembers r c e = lexed_remembers r (r.size + length (encode_utf8 c)) (next r.lexed r.size c) e
-
 -- the longest front that is UTF-8
 
 abbrev Front : List ℕ → Type 0
@@ -122,49 +108,52 @@ longest_front bytes = ⊎_elim (λ u. (bytes, u, whole_front bytes bytes refl))
 
 -- the end is reached
 
-between_or_not : (s : State) → (s ≡ state.Between) ⊎ (s ≡ state.Between → ⊥)
-between_or_not state.Between = inl refl
-between_or_not s = inr (λ e. cc)
-
-rooted_or_not : (root : Option Tree) → ((t : Tree) × (root ≡ Some t)) ⊎ ((t : Tree) → root ≡ Some t → ⊥)
-rooted_or_not None = inr (λ t e. cc)
-rooted_or_not (Some t) = inl (t, refl)
-
-finished_or_not : (r : Read) → ((t : Tree) × IsFinished r t) ⊎ ((t : Tree) → IsFinished r t → ⊥)
-finished_or_not r = ⊎_elim
-    (λ b. ⊎_elim (λ h. inl (h.0, record { between = b; rooted = h.1 })) (λ no. inr (λ t f. no t f.rooted)) (rooted_or_not r.kept.root))
-    (λ no. inr (λ t f. no f.between))
-    (between_or_not r.lexed.state)
-
 abbrev Answer : List ℕ → Type 0
 Answer bytes = ((t : Tree) × GivesTree bytes t) ⊎ (((p : ℕ) × DepthPlace bytes p) ⊎ ((p : ℕ) × IsNotXml bytes p))
 
 abbrev NoneBegins : List ℕ → Type 0
 NoneBegins rest = (c : ℕ) (left : List ℕ) → IsScalar c → rest ≢ encode_utf8 c ++ left
 
-front_answered : (bytes rest : List ℕ) (r : Read) → IsReadTo bytes rest r → NoneBegins rest → Answer bytes
-front_answered bytes [] r h none = ⊎_elim
-    (λ f. inl (f.0, ends_so bytes [] r f.0 h refl f.1)) (λ no. inr (inr (place_of r, ended_place bytes [] r h refl no))) (finished_or_not r)
-front_answered bytes (b ∷ bs) r h none = inr (inr (place_of r, not_utf8_place bytes (b ∷ bs) r h (λ e. cc) none))
+none_or_some : {A : Type 0} (xs : List A) → (xs ≡ []) ⊎ (xs ≢ [])
+none_or_some [] = inl refl
+none_or_some (x ∷ xs) = inr (λ e. cc e)
+
+end_answered : (l : Lexed) (k : Kept) (cs : List ℕ) (root : Option Tree) → k.root ≡ root → HasRun l k cs → Answer (encode_utf8_all cs)
+end_answered l k cs None e h = inr (inr (place_of h, end_place h (λ n t r. let apart : None ≡ Some t = sym e ∙ r in cc)))
+end_answered l k cs (Some t) e h =
+    ⊎_elim (λ n. inl (t, gives_tree h t n e)) (λ some. inr (inr (place_of h, end_place h (λ n. absurd (some n))))) (none_or_some h.unfinished)
+
+front_answered : (l : Lexed) (k : Kept) (cs rest : List ℕ) → NoneBegins rest → HasRun l k cs → Answer (encode_utf8_all cs ++ rest)
+front_answered l k cs [] none h = subst Answer (sym (append-nil (encode_utf8_all cs))) (end_answered l k cs k.root refl h)
+front_answered l k cs (b ∷ bs) none h = inr (inr (place_of h, cut_place h (b ∷ bs) (λ e. cc e) none))
 
 -- character by character
 
-character_answered : (bytes rest left : List ℕ) (r : Read) (c : ℕ) (x : Result Read Misfit) → IsReadTo bytes rest r → rest ≡ encode_utf8 c ++ left → read_character r c ≡ x
-    → ((s : Read) → IsReadTo bytes left s → Answer bytes) → Answer bytes
-character_answered bytes rest left r c (Ok s) h e f later = later s (read_to_next bytes rest left r s c h e f)
-character_answered bytes rest left r c (Err misfit.Misplaced) h e f later = inr (inr (place_of r, misplaced_place bytes rest left r c h e f))
-character_answered bytes rest left r c (Err misfit.TooDeep) h e f later = inr (inl (place_of r, too_deep_place bytes rest left r c h e f))
-character_answered bytes rest left r c (Err misfit.NoMemory) h e f later = absurd (character_remembers r c f)
+module _ (l : Lexed) (k : Kept) (cs : List ℕ) (c : ℕ) (rest : List ℕ) (h : HasRun l k cs)
+    (later : (m : Lexed) (n : Kept) → HasRun m n (cs ++ c ∷ []) → Answer (encode_utf8_all (cs ++ c ∷ []) ++ rest)) where
+  token_answered : (m : Lexed) (t : Token) (b : Built) → Ends (IsLexedTo m) t (is_fresh h.opening.declaration h.tokens) (place_of h) (h.unfinished ++ c ∷ []) → build k t ≡ b
+      → Answer (encode_utf8_all (cs ++ c ∷ []) ++ rest)
+  token_answered m t (Ok n) w e = later m n (token_taken h c t n w e)
+  token_answered m t (Err misfit.Misplaced) w e = inr (inr (place_of h, misplaced_place h c rest t w.0 w.1 e))
+  token_answered m t (Err misfit.TooDeep) w e = inr (inl (place_of h, too_deep_place h c rest t w.0 w.1 e))
+  token_answered m t (Err misfit.NoMemory) w e = absurd (build_remembers k.open_elements k t e)
 
-characters_answered : (bytes rest : List ℕ) (cs : List ℕ) (r : Read) → IsReadTo bytes (encode_utf8_all cs ++ rest) r → NoneBegins rest → Answer bytes
-characters_answered bytes rest [] r h none = front_answered bytes rest r h none
-characters_answered bytes rest (c ∷ cs) r h none =
-    character_answered bytes (encode_utf8_all (c ∷ cs) ++ rest) (encode_utf8_all cs ++ rest) r c (read_character r c) h
-    (append_assoc (encode_utf8 c) (encode_utf8_all cs) rest) refl (λ s g. characters_answered bytes rest cs s g none)
+  character_answered : (x : Taken) → next l (size_of cs) c ≡ x → Answer (encode_utf8_all (cs ++ c ∷ []) ++ rest)
+  character_answered None e = inr (inr (place_of h, malformed_place h c rest (makes (size_of cs) c h.unfinished None h.read (place_between h) e)))
+  character_answered (Some (m, None)) e = later m k (goes_on h c (makes (size_of cs) c h.unfinished (Some (m, None)) h.read (place_between h) e))
+  character_answered (Some (m, Some t)) e = token_answered m t (build k t) (makes (size_of cs) c h.unfinished (Some (m, Some t)) h.read (place_between h) e) refl
+
+characters_answered : (l : Lexed) (k : Kept) (cs ds rest : List ℕ) → NoneBegins rest → HasRun l k cs → Answer (encode_utf8_all (cs ++ ds) ++ rest)
+characters_answered l k cs [] rest none h = subst (λ xs. Answer (encode_utf8_all xs ++ rest)) (sym (append-nil cs)) (front_answered l k cs rest none h)
+characters_answered l k cs (d ∷ ds) rest none h =
+    let all : encode_utf8_all ((cs ++ d ∷ []) ++ ds) ++ rest ≡ encode_utf8_all (cs ++ d ∷ []) ++ (encode_utf8_all ds ++ rest) = parts_of (cs ++ d ∷ []) ds rest in
+    subst (λ xs. Answer (encode_utf8_all xs ++ rest)) (append_assoc cs (d ∷ []) ds)
+    (subst Answer (sym all) (character_answered l k cs d (encode_utf8_all ds ++ rest) h
+    (λ m n g. subst Answer all (characters_answered m n (cs ++ d ∷ []) ds rest none g)) (next l (size_of cs) d) refl))
 
 -- each file gives a tree, or has a level too many first, or has its fault first
 pub answered : (bytes : List ℕ) → ((t : Tree) × GivesTree bytes t) ⊎ (((p : ℕ) × DepthPlace bytes p) ⊎ ((p : ℕ) × IsNotXml bytes p))
 answered bytes =
     let front = longest_front bytes in
     let whole : bytes ≡ encode_utf8_all front.1.0 ++ front.2.rest = front.2.parts ∙ ap (λ bs. bs ++ front.2.rest) (sym front.1.1.1) in
-    characters_answered bytes front.2.rest front.1.0 nothing_read (subst (λ bs. IsReadTo bytes bs nothing_read) whole (nothing_read_to bytes nothing_read refl)) front.2.none_begins
+    subst Answer (sym whole) (characters_answered started begun [] front.1.0 front.2.rest front.2.none_begins run_begun)

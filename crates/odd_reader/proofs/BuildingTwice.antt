@@ -12,12 +12,13 @@ use Rattle.std.proofs.lemmas.Map.Keys.{IsDistinct-IsPermutation, IsDistinct-cons
 use Rattle.std.proofs.lemmas.Bool.{or_parts}
 use Rattle.odd_reader.specs.Building.{some_twice}
 use Rattle.odd_tokens.specs.Same.{is_same}
+use Rattle.odd_tokens.proofs.Distinct.{each_weaker}
 
-none_passes : {A : Type 0} (test : A → Bool) (xs : List A) → AllByRecursion (λ x. test x ≡ false) xs → list_any test xs ≡ false
+pub none_passes : {A : Type 0} (test : A → Bool) (xs : List A) → AllByRecursion (λ x. test x ≡ false) xs → list_any test xs ≡ false
 none_passes test [] h = refl
 none_passes test (x ∷ xs) h = rw h.0 (none_passes test xs h.1)
 
-each_fails : {A : Type 0} (test : A → Bool) (xs : List A) → list_any test xs ≡ false → AllByRecursion (λ x. test x ≡ false) xs
+pub each_fails : {A : Type 0} (test : A → Bool) (xs : List A) → list_any test xs ≡ false → AllByRecursion (λ x. test x ≡ false) xs
 each_fails test [] h = tt
 each_fails test (x ∷ xs) h = let e = or_parts (test x) (list_any test xs) h in (e.0, each_fails test xs e.1)
 
@@ -39,11 +40,6 @@ rises Greater Less e l n = cc
 rises Greater Equal e l n = cc
 rises Greater Greater e l n = cc
 
-all_above : {A : Type 0} {order : A → A → Ordering} → IsTotalOrder order → (x y : A) (ys : List A) → order x y ≡ Less → AllByRecursion (λ z. order y z ≡ Less) ys
-    → AllByRecursion (λ z. order x z ≡ Less) ys
-all_above o x y [] l h = tt
-all_above o x y (z ∷ zs) l h = (o.trans x y z l h.0, all_above o x y zs l h.1)
-
 strictly_sorted : {A : Type 0} {order : A → A → Ordering} → IsTotalOrder order → (xs : List A)
     → ((k : ℕ) (d : A) → k + 1 < length xs → order (get_or xs k d) (get_or xs (k + 1) d) ≡ Less) → IsStrictlySortedBy order xs
 unfolding IsStrictlySortedBy
@@ -52,7 +48,7 @@ strictly_sorted o (x ∷ []) h = (tt, tt)
 strictly_sorted {A} {order} o (x ∷ y ∷ ys) h =
     let rest = strictly_sorted o (y ∷ ys) (λ k d lt. let up : suc k + 1 ≡ suc (k + 1) = omega arith in let r = h (suc k) d (omega arith) in rw up at r) in
     let first : order x y ≡ Less = h 0 x (omega arith) in
-    ((first, all_above o x y ys first rest.0), rest)
+    ((first, each_weaker (λ z k. o.trans x y z first k) ys rest.0), rest)
 
 found : {A : Type 0} (same : A → A → Bool) (xs ys : List A) → (some_twice same xs ≡ false → IsDistinct same ys) → (k : ℕ) → k + 1 < length ys
     → ((d : A) → same (get_or ys k d) (get_or ys (k + 1) d) ≡ true) → (twice : Bool) → twice ≡ some_twice same xs → true ≡ twice

@@ -1,6 +1,6 @@
--- The opening of a file is read in one way: no token that fits first is taken for a part of it.
-use Rattle.std.proofs.Common.{◌≡◌, ◌≢◌, ℕ, Bool, true, false, not, ◌||◌, ◌==◌, if◌then◌else◌, List, [], ◌∷◌, ◌++◌, map, sym, refl, ap, ap₂, ◌∙◌, append_assoc, Option, Some, None, All, codes, drop, append-nil, ⊎_elim, arith}
-use Rattle.std.proofs.lemmas.Bool.{and_from, and_parts, or_cases, or_parts, ne_eqb}
+-- The opening of a file is read in one way: no token that fits first, and nothing behind it, is taken for a part of it.
+use Rattle.std.proofs.Common.{◌≡◌, ◌≢◌, ℕ, ◌+◌, ◌≤◌, Bool, true, false, not, ◌||◌, ◌==◌, if◌then◌else◌, List, [], ◌∷◌, ◌++◌, map, sym, refl, ap, ◌∙◌, append_assoc, Option, Some, None, All, codes, drop, append-nil, ⊎_elim, le_of_eq, arith}
+use Rattle.std.proofs.lemmas.Bool.{and_from, and_parts, or_cases, or_parts}
 use Rattle.std.proofs.lemmas.Bool.Decides.{nat_tests}
 use Rattle.std.proofs.lemmas.List.Elements.{All-nil, All-cons}
 use Rattle.std.proofs.lemmas.List.Folds.{list_all-append}
@@ -10,7 +10,9 @@ use Rattle.odd_tokens.specs.Characters.{is_space, is_name_char, is_name_start, i
 use Rattle.odd_reader.specs.Fitting.{AreOpen, none, more, Fits, FitsIn, AllFit}
 use Rattle.odd_tokens.specs.Same.{is_same}
 use Rattle.odd_tokens.specs.Openings.{Setting, setting_written, IsSetting, Declaration, declaration_written, IsDeclaration, Opening, opening_written, IsOpening}
-use Rattle.odd_tokens.specs.Tokens.{Tag, Token, character, instruction, start_tag, IsToken, token_written, tokens_written}
+use Rattle.odd_tokens.specs.Tokens.{Tag, Token, character, instruction, start_tag, IsToken, token_written, tokens_written, size_of}
+use Rattle.odd_reader.specs.Reading.{is_fresh}
+use Rattle.odd_reader.proofs.Sizes.{size_of_append}
 use Rattle.odd_tokens.proofs.Ascii.{lowered}
 use Rattle.odd_tokens.proofs.Fronts.{Stops, same_front, all_weaker}
 use Rattle.odd_tokens.proofs.NamesLexed.{at_space, ncname_chars, space_ends}
@@ -40,32 +42,12 @@ fits_first t h = rw (none_open h.open_tags [] h.are_open refl) at h.fits_in
 
 -- the byte order mark
 
-abbrev is_mark : ℕ → Bool
-is_mark c = c == 0xFEFF
-
 no_mark : (t : Token) (rest cs : List ℕ) → Fits [] t → token_written t ++ rest ≢ 0xFEFF ∷ cs
 no_mark t rest cs h e = go t h.token (fits_first t h) e
   where
     go : (u : Token) → IsToken u → FitsIn [] [] u → token_written u ++ rest ≢ 0xFEFF ∷ cs
     go (character c) a f k = let s : is_space 0xFEFF ≡ true = rw (same_at 0 k) at f in let s' : false ≡ true = s in cc
     go u a f k = omega (arith, sym (kind-written u rest a) ∙ ap kind_of k)
-
-unmarked : (cs : List ℕ) → ((ds : List ℕ) → cs ≢ 0xFEFF ∷ ds) → Stops is_mark cs
-unmarked [] h = tt
-unmarked (c ∷ cs) h = ne_eqb c 0xFEFF (λ e. h cs (ap (λ x. x ∷ cs) e))
-
-tokens_stop : (ts : List Token) → AllFit ts → Stops is_mark (tokens_written ts)
-tokens_stop [] h = tt
-tokens_stop (t ∷ ts) h = unmarked _ (λ ds. no_mark t (tokens_written ts) ds (h [] ts t refl))
-
-abbrev pub mark_written : Bool → List ℕ
-mark_written m = if m then 0xFEFF ∷ [] else []
-
-same_mark : (m n : Bool) (xs ys : List ℕ) → Stops is_mark xs → Stops is_mark ys → mark_written m ++ xs ≡ mark_written n ++ ys → (m ≡ n) × (xs ≡ ys)
-same_mark true true xs ys a b e = (refl, ap (drop 1) e)
-same_mark true false xs ys a b e = let s : true ≡ false = rw (← e) at b in cc
-same_mark false true xs ys a b e = let s : true ≡ false = rw e at a in cc
-same_mark false false xs ys a b e = (refl, e)
 
 -- an XML declaration holds no question mark but at its ends
 
@@ -181,33 +163,52 @@ no_declaration (instruction target tail) d ms rest a h e =
     no_xml target tail ms _ _ d.version _ a h.versioned (sym p ∙ ap (drop 2) (e ∙ declaration_inside d rest))
 no_declaration t d ms rest a h e = omega (arith, sym (kind-written t ms a) ∙ ap kind_of e)
 
-no_declared : (ts : List Token) (d : Declaration) (rest : List ℕ) → AllFit ts → IsDeclaration d → tokens_written ts ≢ declaration_written d ++ rest
-no_declared [] d rest a h e = cc
-no_declared (t ∷ ts) d rest a h e = no_declaration t d (tokens_written ts) rest (a [] ts t refl).token h e
+-- no opening of the file is longer, where none goes on with what stands behind an opening and tokens
 
--- the whole opening
+abbrev mark_written : Bool → List ℕ
+mark_written m = if m then 0xFEFF ∷ [] else []
 
-abbrev declared : Option Declaration → Opening
-declared d = record { mark = false; declaration = d }
+abbrev declared_written : Option Declaration → List ℕ
+declared_written d = opening_written (record { mark = false; declaration = d })
 
-declared_stops : (d : Option Declaration) (ts : List Token) → AllFit ts → Stops is_mark (opening_written (declared d) ++ tokens_written ts)
-declared_stops None ts h = tokens_stop ts h
-declared_stops (Some d) ts h = refl
+less_is_no_mark : (xs ys : List ℕ) → 0x3C ∷ xs ≢ 0xFEFF ∷ ys
+less_is_no_mark xs ys e = cc e
 
-one_declared : (d e : Option Declaration) (ts us : List Token) → IsOpening (declared d) → IsOpening (declared e) → AllFit ts → AllFit us
-    → opening_written (declared d) ++ tokens_written ts ≡ opening_written (declared e) ++ tokens_written us
-    → (opening_written (declared d) ≡ opening_written (declared e)) × (tokens_written ts ≡ tokens_written us)
-one_declared None None ts us h k a b p = (refl, p)
-one_declared None (Some e) ts us h k a b p = absurd (no_declared ts e (tokens_written us) a k p)
-one_declared (Some d) None ts us h k a b p = absurd (no_declared us d (tokens_written ts) b h (sym p))
-one_declared (Some d) (Some e) ts us h k a b p = one_declaration d e (tokens_written ts) (tokens_written us) h k p
+no_marked : (d : Option Declaration) (ts : List Token) (xs ys : List ℕ) → AllFit ts → (is_fresh d ts ≡ true → (zs : List ℕ) → xs ≢ 0xFEFF ∷ zs)
+    → declared_written d ++ (tokens_written ts ++ xs) ≢ 0xFEFF ∷ ys
+no_marked None [] xs ys fit h e = h refl ys e
+no_marked None (t ∷ ts) xs ys fit h e = no_mark t (tokens_written ts ++ xs) ys (fit [] ts t refl) (sym (append_assoc (token_written t) (tokens_written ts) xs) ∙ e)
+no_marked (Some d) ts xs ys fit h e = less_is_no_mark _ ys e
 
-pub one_opening : (o p : Opening) (ts us : List Token) → IsOpening o → IsOpening p → AllFit ts → AllFit us
-    → opening_written o ++ tokens_written ts ≡ opening_written p ++ tokens_written us → (opening_written o ≡ opening_written p) × (tokens_written ts ≡ tokens_written us)
-one_opening o p ts us h k a b e =
-    let d = opening_written (declared o.declaration) in
-    let c = opening_written (declared p.declaration) in
-    let f = same_mark o.mark p.mark (d ++ tokens_written ts) (c ++ tokens_written us) (declared_stops o.declaration ts a) (declared_stops p.declaration us b)
-    (sym (append_assoc (mark_written o.mark) d (tokens_written ts)) ∙ e ∙ append_assoc (mark_written p.mark) c (tokens_written us)) in
-    let g = one_declared o.declaration p.declaration ts us h k a b f.1 in
-    (ap₂ (λ (m : Bool) (l : List ℕ). mark_written m ++ l) f.0 g.0, g.1)
+declared_shorter : (d e : Option Declaration) (ts : List Token) (xs ys : List ℕ) → IsOpening (record { mark = false; declaration = d }) → IsOpening (record { mark = false; declaration = e })
+    → AllFit ts → (is_fresh d ts ≡ true → (f : Declaration) (zs : List ℕ) → IsDeclaration f → xs ≢ declaration_written f ++ zs)
+    → declared_written d ++ (tokens_written ts ++ xs) ≡ declared_written e ++ ys → size_of (declared_written e) ≤ size_of (declared_written d)
+declared_shorter d None ts xs ys i j fit h p = omega arith
+declared_shorter (Some d) (Some e) ts xs ys i j fit h p = le_of_eq (ap size_of (sym (one_declaration d e (tokens_written ts ++ xs) ys i j p).0))
+declared_shorter None (Some e) [] xs ys i j fit h p = absurd (h refl e ys j p)
+declared_shorter None (Some e) (t ∷ ts) xs ys i j fit h p =
+    absurd (no_declaration t e (tokens_written ts ++ xs) ys (fit [] ts t refl).token j (sym (append_assoc (token_written t) (tokens_written ts) xs) ∙ p))
+
+-- what stands behind is no byte order mark, where there was none before, and no declaration
+pub record OpensNone (mark : Bool) (xs : List ℕ) : Type 0 where
+  pub unmarked : mark ≡ false → (ys : List ℕ) → xs ≢ 0xFEFF ∷ ys
+  pub undeclared : (d : Declaration) (ys : List ℕ) → IsDeclaration d → xs ≢ declaration_written d ++ ys
+
+marks_shorter : (m n : Bool) (d e : Option Declaration) (ts : List Token) (xs ys : List ℕ) → IsOpening (record { mark = m; declaration = d }) → IsOpening (record { mark = n; declaration = e })
+    → AllFit ts → (is_fresh d ts ≡ true → OpensNone m xs) → mark_written m ++ (declared_written d ++ (tokens_written ts ++ xs)) ≡ mark_written n ++ (declared_written e ++ ys)
+    → size_of (mark_written n) + size_of (declared_written e) ≤ size_of (mark_written m) + size_of (declared_written d)
+marks_shorter true true d e ts xs ys i j fit h p =
+    let low = declared_shorter d e ts xs ys i j fit (λ f. (h f).undeclared) (ap (drop 1) p) in omega (arith, low)
+marks_shorter false false d e ts xs ys i j fit h p = let low = declared_shorter d e ts xs ys i j fit (λ f. (h f).undeclared) p in omega (arith, low)
+marks_shorter false true d e ts xs ys i j fit h p = absurd (no_marked d ts xs (declared_written e ++ ys) fit (λ f. (h f).unmarked refl) p)
+marks_shorter true false d None ts xs ys i j fit h p = omega arith
+marks_shorter true false d (Some e) ts xs ys i j fit h p = absurd (less_is_no_mark _ (declared_written d ++ (tokens_written ts ++ xs)) (sym p))
+
+pub shorter : (o p : Opening) (ts : List Token) (xs ys : List ℕ) → IsOpening o → IsOpening p → AllFit ts → (is_fresh o.declaration ts ≡ true → OpensNone o.mark xs)
+    → opening_written o ++ (tokens_written ts ++ xs) ≡ opening_written p ++ ys → size_of (opening_written p) ≤ size_of (opening_written o)
+shorter o p ts xs ys i j fit h e =
+    let d = declared_written o.declaration in
+    let c = declared_written p.declaration in
+    let low = marks_shorter o.mark p.mark o.declaration p.declaration ts xs ys i j fit h
+    (sym (append_assoc (mark_written o.mark) d (tokens_written ts ++ xs)) ∙ e ∙ append_assoc (mark_written p.mark) c ys) in
+    omega (arith, low, size_of_append (mark_written o.mark) d, size_of_append (mark_written p.mark) c)

@@ -1,5 +1,5 @@
 -- The place of a fault is one, and so is the place of a level too many. Two beginnings of a file are one up to where the shorter ends.
-use Rattle.std.proofs.Common.{◌≡◌, ◌≢◌, ◌⊎◌, inl, inr, ⊎_elim, ℕ, ◌+◌, ◌<◌, ◌≤◌, List, [], ◌∷◌, ◌++◌, length, length-append, sym, refl, ap, ap₂, ◌∙◌, append_assoc, append-nil, All, subst, arith}
+use Rattle.std.proofs.Common.{◌≡◌, ◌≢◌, ◌⊎◌, inl, inr, ⊎_elim, ℕ, ◌+◌, ◌<◌, ◌≤◌, List, [], ◌∷◌, ◌++◌, length, length-append, sym, refl, ap, ap₂, ◌∙◌, append_assoc, append-nil, All, subst, Bool, true, false, drop, arith}
 use Rattle.std.proofs.Math.Utf8.{encode}
 use Rattle.std.proofs.lemmas.List.{append_cancel_left}
 use Rattle.std.proofs.lemmas.List.Elements.{All-head, All-tail}
@@ -7,10 +7,11 @@ use Rattle.std.proofs.lemmas.Str.{encode_same, encodes-append, length-le-encodes
 use Rattle.std.specs.Str.{encode_utf8_all}
 use Rattle.odd_tokens.specs.Tokens.{Token, IsToken, token_written, tokens_written, size_of}
 use Rattle.odd_reader.specs.Fitting.{is_start_or_empty, Fits, AllFit}
-use Rattle.odd_tokens.specs.Openings.{opening_written}
-use Rattle.odd_reader.specs.Spelled.{Begins, IsWholeOpening, NoneFits, FaultPlace, DepthPlace, deepest}
+use Rattle.odd_tokens.specs.Openings.{Declaration, IsDeclaration, declaration_written, opening_written}
+use Rattle.odd_reader.specs.Reading.{is_fresh}
+use Rattle.odd_reader.specs.Spelled.{Begins, IsWholeOpening, NoneFits, NoneTooDeep, FaultPlace, DepthPlace, deepest}
 use Rattle.odd_tokens.proofs.Lexing.{one_token, something_written}
-use Rattle.odd_reader.proofs.Openings.{fitting_tokens}
+use Rattle.odd_reader.proofs.Openings.{OpensNone, fitting_tokens, shorter}
 use Rattle.odd_reader.proofs.Sizes.{bytes_of}
 
 -- characters, and bytes behind them: one goes on where the other ends
@@ -94,20 +95,75 @@ as_long xs ys l m e (z ∷ zs, p, q) =
     let t : length (z ∷ zs) ≤ size_of (z ∷ zs) = length-le-encodes (z ∷ zs) in
     absurd (omega arith)
 
+pub same_size : {bytes l m : List ℕ} (a : Begins bytes l) (b : Begins bytes m) → IsWholeOpening bytes a.opening → IsWholeOpening bytes b.opening
+    → size_of (opening_written a.opening) ≡ size_of (opening_written b.opening)
+same_size a b v w =
+    let longer : size_of (opening_written a.opening) ≤ size_of (opening_written b.opening) = w a.opening (behind a) a.is_opening (opening_first a) in
+    let shorter : size_of (opening_written b.opening) ≤ size_of (opening_written a.opening) = v b.opening (behind b) b.is_opening (opening_first b) in
+    omega arith
+
 pub same_behind : {bytes l m : List ℕ} (a : Begins bytes l) (b : Begins bytes m) → IsWholeOpening bytes a.opening → IsWholeOpening bytes b.opening → behind a ≡ behind b
 same_behind a b v w =
-    let p = opening_first a in
-    let q = opening_first b in
-    let longer : size_of (opening_written a.opening) ≤ size_of (opening_written b.opening) = w a.opening (behind a) a.is_opening p in
-    let shorter : size_of (opening_written b.opening) ≤ size_of (opening_written a.opening) = v b.opening (behind b) b.is_opening q in
-    let same : size_of (opening_written a.opening) ≡ size_of (opening_written b.opening) = omega arith in
+    let same = same_size a b v w in
     ⊎_elim (λ g. as_long (opening_written a.opening) (opening_written b.opening) (behind a) (behind b) same g)
     (λ g. sym (as_long (opening_written b.opening) (opening_written a.opening) (behind b) (behind a) (sym same) g))
-    (characters_part (opening_written a.opening) (opening_written b.opening) (behind a) (behind b) (sym p ∙ q))
+    (characters_part (opening_written a.opening) (opening_written b.opening) (behind a) (behind b) (sym (opening_first a) ∙ opening_first b))
 
 pub begin_alike : {bytes l m : List ℕ} (a : Begins bytes l) (b : Begins bytes m) → IsWholeOpening bytes a.opening → IsWholeOpening bytes b.opening
     → Longer a.tokens b.tokens l m ⊎ Longer b.tokens a.tokens m l
 begin_alike {l = l} {m = m} a b v w = tokens_part a.tokens b.tokens l m (fitting_tokens a.tokens a.all_fit) (fitting_tokens b.tokens b.all_fit) (same_behind a b v w)
+
+-- the whole opening
+
+pub nothing_begins : (c : ℕ) (cs more_bytes : List ℕ) → [] ≢ encode_utf8_all (c ∷ cs) ++ more_bytes
+nothing_begins c cs more_bytes e =
+    let long : length (c ∷ cs) ≤ length (encode_utf8_all (c ∷ cs)) = length-le-encodes (c ∷ cs) in
+    omega (arith, ap length e, length-append (encode_utf8_all (c ∷ cs)) more_bytes)
+
+pub parts_of : (xs ys more_bytes : List ℕ) → encode_utf8_all (xs ++ ys) ++ more_bytes ≡ encode_utf8_all xs ++ (encode_utf8_all ys ++ more_bytes)
+parts_of xs ys more_bytes = ap (λ bs. bs ++ more_bytes) (encodes-append xs ys) ∙ append_assoc (encode_utf8_all xs) (encode_utf8_all ys) more_bytes
+
+-- the bytes go on with no byte order mark, where there was none before, and with no declaration
+pub record NoneOpens (mark : Bool) (left : List ℕ) : Type 0 where
+  pub unmarked : mark ≡ false → (more_bytes : List ℕ) → left ≢ encode_utf8_all (0xFEFF ∷ []) ++ more_bytes
+  pub undeclared : (d : Declaration) (more_bytes : List ℕ) → IsDeclaration d → left ≢ encode_utf8_all (declaration_written d) ++ more_bytes
+
+pub nothing_opens : (mark : Bool) → NoneOpens mark []
+nothing_opens mark = record { unmarked = λ m more_bytes. nothing_begins 0xFEFF [] more_bytes; undeclared = λ d more_bytes i e. nothing_begins 0x3C (drop 1 (declaration_written d)) more_bytes e }
+
+opens_none : (mark : Bool) (xs left more_bytes : List ℕ) → NoneOpens mark left → left ≡ encode_utf8_all xs ++ more_bytes → OpensNone mark xs
+opens_none mark xs left more_bytes h e = record {
+  unmarked = λ m ys f. h.unmarked m (encode_utf8_all ys ++ more_bytes) (e ∙ ap (λ zs. encode_utf8_all zs ++ more_bytes) f ∙ parts_of (0xFEFF ∷ []) ys more_bytes);
+  undeclared = λ d ys i f.
+      h.undeclared d (encode_utf8_all ys ++ more_bytes) i (e ∙ ap (λ zs. encode_utf8_all zs ++ more_bytes) f ∙ parts_of (declaration_written d) ys more_bytes);
+}
+
+pub whole_opening : {bytes left : List ℕ} (b : Begins bytes left) → (is_fresh b.opening.declaration b.tokens ≡ true → NoneOpens b.opening.mark left) → IsWholeOpening bytes b.opening
+whole_opening {left = left} b h o behind_it i e =
+    let first = opening_written b.opening in
+    let ts = tokens_written b.tokens in
+    ⊎_elim
+    (λ (g : GoesOn (first ++ ts) (opening_written o) left behind_it). shorter b.opening o b.tokens g.0 [] b.is_opening i b.all_fit
+    (λ f. opens_none b.opening.mark g.0 left behind_it (h f) g.2) (sym (append_assoc first ts g.0) ∙ sym g.1 ∙ sym (append-nil (opening_written o))))
+    (λ (g : GoesOn (opening_written o) (first ++ ts) behind_it left). shorter b.opening o b.tokens [] g.0 b.is_opening i b.all_fit
+    (λ f. record { unmarked = λ m ys k. cc k; undeclared = λ d ys j k. cc k }) (ap (λ xs. first ++ xs) (append-nil ts) ∙ g.1))
+    (characters_part (first ++ ts) (opening_written o) left behind_it (sym b.written ∙ e))
+
+-- the beginning of a whole file is the one that goes on with no token
+pub same_end : {bytes left : List ℕ} (a : Begins bytes left) (b : Begins bytes []) → IsWholeOpening bytes a.opening → NoneFits a.tokens left
+    → (b.tokens ≡ a.tokens) × (left ≡ []) × (size_of (opening_written b.opening) ≡ size_of (opening_written a.opening))
+same_end {left = left} a b v n =
+    let w = whole_opening b (λ f. nothing_opens b.opening.mark) in
+    let same = ⊎_elim longer others (begin_alike a b v w) in
+    (same.0, same.1, same_size b a w v)
+  where
+    longer : Longer a.tokens b.tokens left [] → (b.tokens ≡ a.tokens) × (left ≡ [])
+    longer ([], g, k) = (g ∙ append-nil a.tokens, k)
+    longer (u ∷ us, g, k) = absurd (n u (bytes_of us ++ []) (b.all_fit a.tokens us u g) (k ∙ first_of_bytes u us []))
+
+    others : Longer b.tokens a.tokens [] left → (b.tokens ≡ a.tokens) × (left ≡ [])
+    others ([], g, k) = (sym (g ∙ append-nil b.tokens), sym k)
+    others (u ∷ us, g, k) = absurd (some_bytes u (bytes_of us ++ left) (a.all_fit b.tokens us u g).token (sym (k ∙ first_of_bytes u us left)))
 
 -- the place of a fault
 
@@ -147,15 +203,16 @@ fault_comes_later bytes left more place p b t w placed h e f = ⊎_elim longer s
 
 -- the place of a level too many: of two, the tag at one would stand among the tokens before the other
 
-first_deep : (bytes : List ℕ) (p q : ℕ) (a : DepthPlace bytes p) (b : DepthPlace bytes q) → Longer a.begins.tokens b.begins.tokens a.left b.left → a.left ≡ b.left
-first_deep bytes p q a b ([], g, h) = h
-first_deep bytes p q a b (v ∷ vs, g, h) =
-    let here = b.begins.all_fit a.begins.tokens vs v g in
-    let f = one_here v a.tag (bytes_of vs ++ b.left) a.more here.token a.fits.token (sym (first_of_bytes v vs b.left) ∙ sym h ∙ a.follows) in
-    let low : length a.open_tags < deepest = b.first a.begins.tokens vs v a.open_tags g (ap is_start_or_empty f.0 ∙ a.is_tag) a.are_open in
+pub first_deep : (bytes left : List ℕ) (p : ℕ) (a : DepthPlace bytes p) (us : List Token) → AllFit us → NoneTooDeep us → Longer a.begins.tokens us a.left left
+    → (us ≡ a.begins.tokens) × (a.left ≡ left)
+first_deep bytes left p a us fit shallow ([], g, h) = (g ∙ append-nil a.begins.tokens, h)
+first_deep bytes left p a us fit shallow (v ∷ vs, g, h) =
+    let f = one_here v a.tag (bytes_of vs ++ left) a.more (fit a.begins.tokens vs v g).token a.fits.token (sym (first_of_bytes v vs left) ∙ sym h ∙ a.follows) in
+    let low : length a.open_tags < deepest = shallow a.begins.tokens vs v a.open_tags g (ap is_start_or_empty f.0 ∙ a.is_tag) a.are_open in
     absurd (omega (arith, a.full))
 
 pub one_depth : (bytes : List ℕ) (p q : ℕ) → DepthPlace bytes p → DepthPlace bytes q → p ≡ q
 one_depth bytes p q a b =
     same_place p q bytes a.left b.left a.placed b.placed
-    (⊎_elim (λ g. first_deep bytes p q a b g) (λ g. sym (first_deep bytes q p b a g)) (begin_alike a.begins b.begins a.opened b.opened))
+    (⊎_elim (λ g. (first_deep bytes b.left p a b.begins.tokens b.begins.all_fit b.first g).1)
+    (λ g. sym (first_deep bytes a.left q b a.begins.tokens a.begins.all_fit a.first g).1) (begin_alike a.begins b.begins a.opened b.opened))

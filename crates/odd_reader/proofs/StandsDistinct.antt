@@ -12,30 +12,22 @@ use Rattle.odd_reader.specs.Building.{some_twice, is_written_same, is_same_name}
 use Rattle.odd_tokens.specs.Making.{name_made, attribute_made}
 use Rattle.odd_tokens.specs.Same.{is_same}
 use Rattle.odd_tokens.specs.Tokens.{QName, IsQName, Attribute, IsAttribute, NoneTwice, name_written}
-use Rattle.odd_tokens.proofs.Distinct.{Lacks, Distinct, distinct, none_twice, distinct_made}
+use Rattle.odd_tokens.proofs.Distinct.{Lacks, Distinct, each_weaker, distinct, none_twice, distinct_made}
 use Rattle.odd_tokens.proofs.NamesLexed.{one_name}
+use Rattle.odd_reader.proofs.BuildingTwice.{none_passes, each_fails, some_twice-map}
 use Rattle.odd_reader.proofs.StandsNames.{same_from}
 
 module _ {A : Type 0} (same : A → A → Bool) where
-  lacks_from : (from : (a b : A) → a ≡ b → same a b ≡ true) (x : A) (xs : List A) → list_any (same x) xs ≡ false → Lacks x xs
-  lacks_from from x [] h = tt
-  lacks_from from x (y ∷ ys) h =
-      let p = or_parts (same x y) (list_any (same x) ys) h in
-      (λ e. both_ways _ p.0 (from x y (sym e)), lacks_from from x ys p.1)
-
-  pub once_from : (from : (a b : A) → a ≡ b → same a b ≡ true) (xs : List A) → some_twice same xs ≡ false → Distinct xs
+  once_from : (from : (a b : A) → a ≡ b → same a b ≡ true) (xs : List A) → some_twice same xs ≡ false → Distinct xs
   once_from from [] h = tt
   once_from from (x ∷ xs) h =
       let p = or_parts (list_any (same x) xs) (some_twice same xs) h in
-      (lacks_from from x xs p.0, once_from from xs p.1)
+      (each_weaker (λ y n e. both_ways (same x y) n (from x y (sym e))) xs (each_fails (same x) xs p.0), once_from from xs p.1)
 
-  none_like : (to : (a b : A) → same a b ≡ true → a ≡ b) (x : A) (xs : List A) → Lacks x xs → list_any (same x) xs ≡ false
-  none_like to x [] l = refl
-  none_like to x (y ∷ ys) l = or_from _ _ (false_from_ne_true _ (λ e. l.0 (sym (to x y e)))) (none_like to x ys l.1)
-
-  pub not_twice : (to : (a b : A) → same a b ≡ true → a ≡ b) (xs : List A) → Distinct xs → some_twice same xs ≡ false
+  not_twice : (to : (a b : A) → same a b ≡ true → a ≡ b) (xs : List A) → Distinct xs → some_twice same xs ≡ false
   not_twice to [] d = refl
-  not_twice to (x ∷ xs) d = or_from _ _ (none_like to x xs d.0) (not_twice to xs d.1)
+  not_twice to (x ∷ xs) d =
+      or_from _ _ (none_passes (same x) xs (each_weaker (λ y n. false_from_ne_true (same x y) (λ e. n (sym (to x y e)))) xs d.0)) (not_twice to xs d.1)
 
 -- distinct items stay so
 module _ {A B : Type 0} (P : A → Type 0) (f : A → B) (apart : (x y : A) → P x → P y → f x ≡ f y → x ≡ y) where
@@ -64,14 +56,11 @@ names_are_names : (attributes : List Attribute) → All IsAttribute attributes �
 names_are_names [] h = All-nil IsQName
 names_are_names (a ∷ rest) h = All-cons IsQName a.name _ (All-head IsAttribute a rest h).named (names_are_names rest (All-tail IsAttribute a rest h))
 
-made_apart : (m n : QName) → Unit {0} → Unit {0} → name_made m ≡ name_made n → m ≡ n
-made_apart m n _ _ e =
+pub one_made : (m n : QName) → name_made m ≡ name_made n → m ≡ n
+one_made m n e =
     let p : m.prefix ≡ n.prefix = encodes_same _ _ (ap (λ (x : WrittenName). x.prefix) e) in
     let l : m.local ≡ n.local = encodes_same _ _ (ap (λ (x : WrittenName). x.local) e) in
     λ i. record { prefix = p i; local = l i }
-
-pub one_made : (m n : QName) → name_made m ≡ name_made n → m ≡ n
-one_made m n e = made_apart m n tt tt e
 
 written_apart : (m n : QName) → IsQName m → IsQName n → name_written m ≡ name_written n → m ≡ n
 written_apart m n a b e = (one_name m n [] [] a b tt tt (append-nil _ ∙ e ∙ sym (append-nil _))).0
@@ -99,8 +88,8 @@ pub once_written : (attributes : List Attribute) → NoneTwice (map (λ (a : Att
 once_written attributes n =
     let names = map (λ (a : Attribute). a.name) attributes in
     let written : Distinct (map name_written names) = subst Distinct (names_written attributes) (distinct _ n) in
-    not_twice is_written_same written_same _ (subst Distinct (sym (names_made attributes))
-    (distinct_mapped (λ m. Unit {0}) name_made made_apart names (all_any names) (distinct_made name_written names written)))
+    ap (some_twice is_written_same) (names_made attributes) ∙ some_twice-map name_made is_written_same names
+    ∙ not_twice (λ l m. is_written_same (name_made l) (name_made m)) (λ l m e. one_made l m (written_same _ _ e)) names (distinct_made name_written names written)
 
 -- expanded names
 

@@ -1,8 +1,9 @@
-ghost use Rattle.std.specs.Prelude.{◌≡◌, ◌+◌, length, encode_utf8, ℕ, IfOk, IfErr};
+ghost use Rattle.std.specs.Prelude.{◌≡◌, ◌∷◌, ◌++◌, length, ℕ, List, [], IfOk, IfErr, OnOk};
+ghost use Rattle.std.specs.Str.{encode_utf8_all};
+ghost use Rattle.odd_tokens.specs.Tokens.{size_of};
 ghost use Rattle.odd_reader.specs.Formed.{IsFormed};
-ghost use Rattle.odd_reader.specs.Reading.{Follows, IsFinished, IsLongestFront, nothing_read, place_of, read_character, read_of, refusal_of_fault, refusal_of_misfit};
+ghost use Rattle.odd_reader.specs.Reading.{HasRead, IsLongestFront, place_of, refusal_of_fault, refusal_of_misfit};
 ghost use Rattle.odd_reader.specs.Spelled.{DepthPlace, GivesTree, IsNotXml};
-ghost use Rattle.odd_reader.specs.declared.tree.Tree.{Tree as ATree};
 
 use crate::builder::{Builder, Misfit};
 use crate::tree::Tree;
@@ -53,7 +54,7 @@ struct Reader {
 
 impl Reader {
     fn new(alloc: Global) -> Result<Reader, NoMemory>
-        ensures { IfOk result (λ made. read_of made 0 ≡ nothing_read) }
+        ensures { IfOk result (λ made. HasRead made []) }
     {
         Ok(Reader {
             lexer: Lexer::new(alloc),
@@ -63,7 +64,7 @@ impl Reader {
 
     // The byte where the unfinished token begins; where none is unfinished, that of the next character.
     fn place(&self, next: u64) -> u64
-        ensures { result ≡ place_of (read_of self.now next) }
+        ensures { (cs : List ℕ) → next ≡ size_of cs → (h : HasRead self.now cs) → result ≡ place_of h }
     {
         if self.lexer.is_between() {
             next
@@ -72,9 +73,11 @@ impl Reader {
         }
     }
 
-    // Takes the character that begins at a byte.
+    // Takes the character that begins at a byte. A refusal is of each file that begins with these characters.
     fn take(&mut self, at: u64, c: char) -> Result<(), ReadRefusal>
-        ensures { Follows (read_character (read_of self.old at) c) (place_of (read_of self.old at)) result (read_of self.new (at + length (encode_utf8 c))) }
+        ensures ok { OnOk result ((cs : List ℕ) → at ≡ size_of cs → HasRead self.old cs → HasRead self.new (cs ++ c ∷ [])) }
+        ensures not_xml { IfErr result (λ e. (place : ℕ) → e ≡ ReadRefusal.NotXml place → (cs rest : List ℕ) → at ≡ size_of cs → HasRead self.old cs → IsNotXml (encode_utf8_all (cs ++ c ∷ []) ++ rest) place) }
+        ensures too_deep { IfErr result (λ e. (place : ℕ) → e ≡ ReadRefusal.TooDeep place → (cs rest : List ℕ) → at ≡ size_of cs → HasRead self.old cs → DepthPlace (encode_utf8_all (cs ++ c ∷ []) ++ rest) place) }
     {
         let place = self.place(at);
         let token = match self.lexer.take(at, c) {
@@ -90,9 +93,8 @@ impl Reader {
 
     // The tree, where no token and no element is unfinished at the end of the file.
     fn finish(self, end: u64) -> Result<Tree, ReadRefusal>
-        ensures ok { IfOk result (λ tree. IsFinished (read_of self end) tree) }
-        ensures place { IfErr result (λ e. e ≡ ReadRefusal.NotXml (place_of (read_of self end))) }
-        ensures err { IfErr result (λ e. (tree : ATree) → IsFinished (read_of self end) tree → ⊥) }
+        ensures ok { IfOk result (λ tree. (cs : List ℕ) → HasRead self cs → GivesTree (encode_utf8_all cs) tree) }
+        ensures err { IfErr result (λ e. (cs : List ℕ) → end ≡ size_of cs → HasRead self cs → (place : ℕ) × (e ≡ ReadRefusal.NotXml place) × IsNotXml (encode_utf8_all cs) place) }
     {
         let place = self.place(end);
         let Reader { lexer, builder } = self;

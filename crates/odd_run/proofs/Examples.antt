@@ -19,10 +19,7 @@ use Rattle.odd_tokens.specs.Characters.{is_char, is_name_char, is_name_start}
 use Rattle.odd_reader.specs.Spelled.{GivesTree}
 use Rattle.odd_reader.specs.declared.tree.Tree.{Tree, roll-Tree}
 use Rattle.odd_reader.specs.declared.tree.Node.{Element}
-use Rattle.odd_reader.specs.Reading.{nothing_read}
-use Rattle.odd_reader.proofs.Faults.{ended_place}
-use Rattle.odd_reader.proofs.ReadTo.{nothing_read_to}
-use Rattle.odd_reader.proofs.ReadTrees.{literal_gives}
+use Rattle.odd_reader.proofs.Running.{empty_not_xml, literal_gives}
 use Rattle.odd_decls.specs.Declares.{AreReadAs, Declares, IsReadAs}
 use Rattle.odd_decls.specs.Odd.{StandsIn, element_key, tei_namespace}
 use Rattle.odd_decls.specs.Offences.{HasOffence, IsNotBefore, IsRefusal, IsSpecOf, ItemFault, ItemOffends, Offends, StandsTwice}
@@ -200,7 +197,7 @@ longest_is_read bytes e (refused c p f) = elim f [ ]
 
 -- an empty file is not XML from its end on
 empty_reply : Reply compile_f (holding []) [] (status.NotXml 1 0)
-empty_reply = refused [] (f_reads [] (omega arith)) (not_xml 0 (ended_place [] [] nothing_read (nothing_read_to [] nothing_read refl) refl (λ t f. let no = f.rooted in cc)))
+empty_reply = refused [] (f_reads [] (omega arith)) (not_xml 0 empty_not_xml)
 
 -- The smallest file that declares an element, and the schema that is its reply.
 
@@ -237,7 +234,7 @@ root_tree = roll-Tree (record {
 -- the reader ends with this tree
 one_element_read : GivesTree one_element root_tree
 unfolding encode is_char is_name_char is_name_start
-one_element_read = literal_gives one_element _ root_tree refl refl (record { between = refl; rooted = refl })
+one_element_read = literal_gives one_element _ root_tree refl refl (refl, refl)
 
 abbrev a_key : Key
 a_key = element_key (codes "a")
@@ -328,7 +325,7 @@ empty_tree = roll-Tree (record {
 
 no_element_read : GivesTree no_element empty_tree
 unfolding encode is_char is_name_char is_name_start
-no_element_read = literal_gives no_element _ empty_tree refl refl (record { between = refl; rooted = refl })
+no_element_read = literal_gives no_element _ empty_tree refl refl (refl, refl)
 
 abbrev empty_doc : OddDoc
 empty_doc = record { ident = codes "s"; start = codes "a" ∷ []; entries = [] }
@@ -389,7 +386,7 @@ offending_tree = roll-Tree (record {
 
 one_p_read : GivesTree one_p offending_tree
 unfolding encode is_char is_name_char is_name_start
-one_p_read = literal_gives one_p _ offending_tree refl refl (record { between = refl; rooted = refl })
+one_p_read = literal_gives one_p _ offending_tree refl refl (refl, refl)
 
 p_child : children_of offending_tree ≡ p_tree ∷ []
 p_child = elements_are (p_tree ∷ [])

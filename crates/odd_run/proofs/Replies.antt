@@ -7,7 +7,7 @@ use Rattle.odd_base.specs.Shelf.{FileMap, Held, NotHeld}
 use Rattle.odd_base.specs.declared.offence.Offence.{Offence}
 use Rattle.odd_reader.specs.declared.tree.Tree.{Tree}
 use Rattle.odd_reader.specs.Spelled.{GivesTree, IsNotXml}
-use Rattle.odd_reader.proofs.Faults.{gives_not_deep}
+use Rattle.odd_reader.proofs.Refusing.{gives_not_deep}
 use Rattle.odd_reader.proofs.Places.{one_depth, one_fault}
 use Rattle.odd_reader.proofs.Spelling.{one_tree}
 use Rattle.odd_decls.specs.Declares.{Declares}

@@ -1,12 +1,16 @@
 -- Lists in which no item stands twice, by recursion on the list.
 use Rattle.std.proofs.Common.{◌≡◌, ◌≢◌, ℕ, Bool, true, false, List, [], ◌∷◌, ◌++◌, map, sym, ap, cond, subst, append_assoc}
+use Rattle.std.specs.List.{AllByRecursion}
 use Rattle.std.specs.Prelude.{filter}
 use Rattle.odd_tokens.specs.Tokens.{NoneTwice}
 
+pub each_weaker : {A : Type 0} {P Q : A → Type 0} → ((x : A) → P x → Q x) → (xs : List A) → AllByRecursion P xs → AllByRecursion Q xs
+each_weaker h [] k = tt
+each_weaker h (x ∷ xs) k = (h x k.0, each_weaker h xs k.1)
+
 -- the item is none of the list
 abbrev pub Lacks : {A : Type 0} → A → List A → Type 0
-Lacks x [] = Unit {0}
-Lacks x (y ∷ ys) = (y ≢ x) × Lacks x ys
+Lacks {A} x = AllByRecursion (λ (y : A). y ≢ x)
 
 abbrev pub Distinct : {A : Type 0} → List A → Type 0
 Distinct [] = Unit {0}

@@ -1,5 +1,5 @@
 -- What was read of a reference, and what the next character makes of it.
-use Rattle.std.proofs.Common.{◌≡◌, ℕ, ◌+◌, ◌*◌, ◌<◌, true, false, ◌==◌, ◌&&◌, nat_le, nat_lt, encode_utf8, if◌then◌else◌, List, [], ◌∷◌, ◌++◌, length, Some, None, codes, refl, sym, ap, ◌∙◌, arith, subst, ⊎_elim}
+use Rattle.std.proofs.Common.{◌≡◌, ℕ, ◌+◌, ◌*◌, ◌<◌, Bool, true, false, ◌==◌, ◌&&◌, nat_le, nat_lt, encode_utf8, if◌then◌else◌, List, [], ◌∷◌, ◌++◌, length, Some, None, codes, refl, sym, ap, ◌∙◌, arith, subst, ⊎_elim}
 use Rattle.std.proofs.lemmas.Bool.{cond_both, cases_Bool, and_parts, eqb-true, leb-true}
 use Rattle.std.proofs.lemmas.Str.{encode_ascii}
 use Rattle.std.specs.Char.{digit_value}
@@ -12,7 +12,8 @@ use Rattle.odd_tokens.specs.declared.lexer.Place.{Place}
 use Rattle.odd_tokens.specs.declared.lexer.ReferencePart.{ReferencePart}
 use Rattle.odd_tokens.specs.declared.lexer.ReferencePart.TheVariants as ref
 use Rattle.odd_tokens.specs.declared.lexer.State.TheVariants as state
-use Rattle.odd_tokens.proofs.InReferenceDigits.{InDecimal, InHexadecimal, counts_is, decimal_more, decimal_first, hexadecimal_more, hexadecimal_first}
+use Rattle.odd_tokens.proofs.InReferenceDigits.{InDigits, InDecimal, InHexadecimal, counts_is, digits_more, digits_first}
+use Rattle.odd_tokens.proofs.LexedNumbers.{number_of, decimal_base, hexadecimal_base}
 
 -- what was read of a reference, from its ampersand on
 abbrev pub InReference : ReferencePart → (read : List ℕ) → Lexed → Type 0
@@ -48,20 +49,16 @@ digit_steps p part read l c number goes_on =
     cond_both (nat_lt (digit_value c) (base_of part)) _ None (ReferenceStep p read l) (λ h. goes part l.text _ refl (goes_on h)) (λ h. stops refl)
 
 -- and a semicolon ends the digits
-digits_end : (p : Place) (read : List ℕ) (l : Lexed) (r : written.Reference) → (is_char l.number ≡ true → written.IsReference r) → written.reference_written r ≡ read
-    → (is_char l.number ≡ true → l.number ≡ written.character_of r) → ReferenceStep p read l (end_digits p l)
-digits_end p read l r is_reference is_written same =
-    cond_both (is_char l.number) (referred p l.number l) None (ReferenceStep p read l) (λ h. ends r (is_reference h) is_written (ap (λ n. referred p n l) (same h))) (λ h. stops refl)
-
-decimal_ends : (p : Place) (read : List ℕ) (l : Lexed) → InDecimal read l.number → ReferenceStep p (read ++ codes ";") l (end_digits p l)
-decimal_ends p read l h =
-    digits_end p (read ++ codes ";") l (written.decimal h.digits) (λ e. (h.some, h.all, ap is_char (sym (counts_is _ l.number e h.counts)) ∙ e))
-    (ap (λ x. x ++ codes ";") (sym h.is_read)) (λ e. counts_is _ l.number e h.counts)
-
-hexadecimal_ends : (p : Place) (read : List ℕ) (l : Lexed) → InHexadecimal read l.number → ReferenceStep p (read ++ codes ";") l (end_digits p l)
-hexadecimal_ends p read l h =
-    digits_end p (read ++ codes ";") l (written.hexadecimal h.digits) (λ e. (h.some, h.all, ap is_char (sym (counts_is _ l.number e h.counts)) ∙ e))
-    (ap (λ x. x ++ codes ";") (sym h.is_read)) (λ e. counts_is _ l.number e h.counts)
+digits_end : (p : Place) (read : List ℕ) (l : Lexed) (r : written.Reference) {mark : List ℕ} {base : ℕ} {test : ℕ → Bool} {value : ℕ → ℕ} (h : InDigits mark base test value read l.number)
+    → written.reference_written r ≡ mark ++ h.digits ++ codes ";" → (is_char (written.character_of r) ≡ true → written.IsReference r) → written.character_of r ≡ number_of base 0 value h.digits
+    → ReferenceStep p (read ++ codes ";") l (end_digits p l)
+digits_end p read l r h is_written is_reference made =
+    cond_both (is_char l.number) (referred p l.number l) None (ReferenceStep p (read ++ codes ";") l) ended (λ e. stops refl)
+  where
+    ended : is_char l.number ≡ true → ReferenceStep p (read ++ codes ";") l (referred p l.number l)
+    ended e =
+        let same : l.number ≡ written.character_of r = counts_is _ l.number e h.counts ∙ sym made in
+        ends r (is_reference (ap is_char (sym same) ∙ e)) (is_written ∙ ap (λ x. x ++ codes ";") (sym h.is_read)) (ap (λ n. referred p n l) same)
 
 -- a letter
 
@@ -121,11 +118,11 @@ reference_steps p ref.Begins read l c legal h =
 reference_steps p ref.Letters read l c legal h = at_character (λ r. ReferenceStep p r l) read c 0x3B _ _ (letters_end p read l h) (λ _. letter_steps p read l c l.text h)
 reference_steps p ref.Hash read l c legal h =
     at_character (λ r. ReferenceStep p r l) read c 0x78 _ _ (goes ref.HexBegins l.text l.number refl (ap (λ r. r ++ codes "x") h))
-    (λ _. digit_steps p ref.Decimal (read ++ c ∷ []) l c 0 (λ d. rw h (decimal_first c d)))
-reference_steps p ref.HexBegins read l c legal h = digit_steps p ref.Hexadecimal (read ++ c ∷ []) l c 0 (λ d. rw h (hexadecimal_first c d))
+    (λ _. digit_steps p ref.Decimal (read ++ c ∷ []) l c 0 (λ d. rw h (digits_first (codes "&#") decimal_base c d)))
+reference_steps p ref.HexBegins read l c legal h = digit_steps p ref.Hexadecimal (read ++ c ∷ []) l c 0 (λ d. rw h (digits_first (codes "&#x") hexadecimal_base c d))
 reference_steps p ref.Decimal read l c legal h =
-    at_character (λ r. ReferenceStep p r l) read c 0x3B _ _ (decimal_ends p read l h)
-    (λ _. digit_steps p ref.Decimal (read ++ c ∷ []) l c l.number (λ d. decimal_more read l.number c h d))
+    at_character (λ r. ReferenceStep p r l) read c 0x3B _ _ (digits_end p read l (written.decimal h.digits) h refl (λ e. (h.some, h.all, e)) refl)
+    (λ _. digit_steps p ref.Decimal (read ++ c ∷ []) l c l.number (λ d. digits_more (codes "&#") decimal_base read l.number c h d))
 reference_steps p ref.Hexadecimal read l c legal h =
-    at_character (λ r. ReferenceStep p r l) read c 0x3B _ _ (hexadecimal_ends p read l h)
-    (λ _. digit_steps p ref.Hexadecimal (read ++ c ∷ []) l c l.number (λ d. hexadecimal_more read l.number c h d))
+    at_character (λ r. ReferenceStep p r l) read c 0x3B _ _ (digits_end p read l (written.hexadecimal h.digits) h refl (λ e. (h.some, h.all, e)) refl)
+    (λ _. digit_steps p ref.Hexadecimal (read ++ c ∷ []) l c l.number (λ d. digits_more (codes "&#x") hexadecimal_base read l.number c h d))

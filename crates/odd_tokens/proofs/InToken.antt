@@ -11,7 +11,7 @@ use Rattle.odd_tokens.specs.declared.lexer.State.{State}
 use Rattle.odd_tokens.specs.declared.lexer.State.TheVariants as state
 use Rattle.odd_tokens.specs.declared.token.Token.{Token}
 use Rattle.odd_tokens.specs.declared.token.Token.TheVariants as token
-use Rattle.odd_tokens.proofs.Lexes.{IsIdle, IsRead, Ended}
+use Rattle.odd_tokens.proofs.Lexes.{IsIdle, IsRead, IsWhole}
 use Rattle.odd_tokens.proofs.InReference.{reference_begins, reference_kept, at_character}
 use Rattle.odd_tokens.proofs.InTag.{in_tag_goes_on, in_tag_ends, in_tag_unfinished}
 use Rattle.odd_tokens.proofs.InTokenSteps.{less_steps, exclamation_steps, comment_dash_steps, comment_steps, cdata_open_steps, cdata_steps}
@@ -54,7 +54,7 @@ token_goes_on opening at here c read l m (inr (inl h)) e = inr (inl (in_tag_goes
 token_goes_on opening at here c read l m (inr (inr h)) e = inr (inr (h.0, in_tag_goes_on true at here c read l m h.1 e))
 
 pub token_ends : (opening : Bool) (at here c : ℕ) (read : List ℕ) (l m : Lexed) (made : Token) → InToken opening at read l → next l here c ≡ Some (m, Some made)
-    → IsIdle m × (m.opening ≡ false) × Ended opening at (read ++ c ∷ []) made
+    → IsIdle m × (m.opening ≡ false) × IsWhole opening at (read ++ c ∷ []) made
 token_ends opening at here c read l m made (inl h) e = subst (Follows opening at (read ++ c ∷ [])) e (plain_steps l.state opening at here c read l h)
 token_ends opening at here c read l m made (inr (inl h)) e = let f = in_tag_ends false at here c read l m made h e in (f.0, f.1, inl f.2)
 token_ends opening at here c read l m made (inr (inr h)) e = let f = in_tag_ends true at here c read l m made h.1 e in (f.0, f.1, inr (h.0, f.2))

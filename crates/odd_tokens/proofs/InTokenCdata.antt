@@ -3,17 +3,15 @@ use Rattle.std.proofs.Common.{◌≡◌, ◌≢◌, ℕ, zero, suc, ◌≤◌, B
 use Rattle.std.proofs.lemmas.Bool.{eqb-false}
 use Rattle.std.proofs.lemmas.Str.{encodes-append}
 use Rattle.std.proofs.Math.Utf8.{encode}
-use Rattle.std.specs.List.{list_all}
 use Rattle.std.specs.Str.{encode_utf8_all}
 use Rattle.odd_tokens.specs.Characters.{is_char}
 use Rattle.odd_tokens.specs.Lexing.{brackets_before}
-use Rattle.odd_tokens.specs.Tokens.{LacksPart, cdata}
+use Rattle.odd_tokens.specs.Tokens.{cdata}
 use Rattle.odd_tokens.specs.declared.token.Token.TheVariants as token
 use Rattle.odd_tokens.proofs.Lexes.{IsRead}
-use Rattle.odd_tokens.proofs.InTokenTexts.{NotAtEnd, other_last, none_in_empty, lacks_push}
+use Rattle.odd_tokens.proofs.InTokenTexts.{NotAtEnd, Unended, other_last, nothing_last, none_yet, goes_on}
 use Rattle.std.proofs.lemmas.List.{same_from_push}
 use Rattle.odd_tokens.proofs.InTokenLines.{lines_seen, one_read, ends_in_return, seen_push, return_push, seen_lines, piece_kept, piece_encoded}
-use Rattle.odd_tokens.proofs.OneMore.{list_all_more}
 
 -- the opening mark
 
@@ -35,8 +33,7 @@ pub record InCdata (brackets : ℕ) (after_return : Bool) (read kept : List ℕ)
   pub text : List ℕ
   pub is_read : read ≡ codes "<![CDATA[" ++ text ++ brackets_before brackets
   pub is_kept : kept ≡ encode_utf8_all (lines_seen false text)
-  pub legal : list_all is_char text ≡ true
-  pub lacks : LacksPart (codes "]]>") text
+  pub unended : Unended (codes "]]") 0x3E text
   pub few : nat_lt brackets 2 ≡ true → NotAtEnd (codes "]") text
   pub returned : after_return ≡ ends_in_return false (text ++ brackets_before brackets)
 
@@ -45,9 +42,8 @@ cdata_begins read e = record {
   text = [];
   is_read = e;
   is_kept = refl;
-  legal = refl;
-  lacks = none_in_empty 0x5D (codes "]>");
-  few = λ _ front f. none_in_empty 0x5D [] front [] (f ∙ sym (append-nil (front ++ codes "]")));
+  unended = none_yet 0x5D (codes "]") 0x3E;
+  few = λ _. nothing_last 0x5D;
   returned = refl;
 }
 
@@ -65,8 +61,7 @@ cdata_bracket read kept r h = record {
   text = h.text;
   is_read = brackets_read 0 1 read h.text refl h.is_read;
   is_kept = h.is_kept;
-  legal = h.legal;
-  lacks = h.lacks;
+  unended = h.unended;
   few = λ _. h.few refl;
   returned = sym (return_push false h.text 0x5D);
 }
@@ -76,8 +71,7 @@ cdata_brackets read kept r h = record {
   text = h.text;
   is_read = brackets_read 1 2 read h.text refl h.is_read;
   is_kept = h.is_kept;
-  legal = h.legal;
-  lacks = h.lacks;
+  unended = h.unended;
   few = λ e. cc;
   returned = sym (no_return h.text);
 }
@@ -88,29 +82,30 @@ unfolding encode
 kept_bracket text kept e =
     ap (λ x. x ++ codes "]") e ∙ sym (encodes-append (lines_seen false text) (codes "]")) ∙ ap encode_utf8_all (sym (seen_push false text 0x5D))
 
-pub cdata_more_brackets : (read kept : List ℕ) (r : Bool) → InCdata 2 r read kept → InCdata 2 r (read ++ codes "]") (kept ++ codes "]")
+one_bracket : (text : List ℕ) → Unended (codes "]]") 0x3E text → Unended (codes "]]") 0x3E (text ++ codes "]")
 unfolding is_char
+one_bracket text h = goes_on (codes "]]") 0x3E text 0x5D h refl (λ e. cc)
+
+pub cdata_more_brackets : (read kept : List ℕ) (r : Bool) → InCdata 2 r read kept → InCdata 2 r (read ++ codes "]") (kept ++ codes "]")
 cdata_more_brackets read kept r h = record {
   text = h.text ++ codes "]";
   is_read = ap (λ x. x ++ codes "]") h.is_read ∙ simp append_assoc;
   is_kept = kept_bracket h.text kept h.is_kept;
-  legal = list_all_more is_char h.text 0x5D h.legal refl;
-  lacks = lacks_push (codes "]]") 0x3E h.text 0x5D h.lacks (λ e. cc);
+  unended = one_bracket h.text h.unended;
   few = λ e. cc;
   returned = h.returned ∙ no_return h.text ∙ sym (no_return (h.text ++ codes "]"));
 }
 
 -- another character
 
-goes_on : (text kept read : List ℕ) (r : Bool) (c : ℕ) → read ≡ codes "<![CDATA[" ++ text → kept ≡ encode_utf8_all (lines_seen false text) → r ≡ ends_in_return false text
-    → list_all is_char text ≡ true → LacksPart (codes "]]>") text → (c ≡ 0x3E → NotAtEnd (codes "]]") text) → is_char c ≡ true → (c == 0x5D) ≡ false
+another : (text kept read : List ℕ) (r : Bool) (c : ℕ) → read ≡ codes "<![CDATA[" ++ text → kept ≡ encode_utf8_all (lines_seen false text) → r ≡ ends_in_return false text
+    → Unended (codes "]]") 0x3E text → (c ≡ 0x3E → NotAtEnd (codes "]]") text) → is_char c ≡ true → (c == 0x5D) ≡ false
     → InCdata 0 (c == 0xD) (read ++ c ∷ []) (kept ++ piece_kept r c)
-goes_on text kept read r c is_read is_kept returned legal lacks apart h other = record {
+another text kept read r c is_read is_kept returned unended apart h other = record {
   text = text ++ c ∷ [];
   is_read = ap (λ x. x ++ c ∷ []) is_read ∙ simp append-nil;
   is_kept = kept_more;
-  legal = list_all_more is_char text c legal h;
-  lacks = lacks_push (codes "]]") 0x3E text c lacks apart;
+  unended = goes_on (codes "]]") 0x3E text c unended h apart;
   few = λ _. other_last text c 0x5D (eqb-false c 0x5D other);
   returned = sym (ap (ends_in_return false) (append-nil (text ++ c ∷ [])) ∙ return_push false text c);
 }
@@ -128,39 +123,32 @@ not_two text h front e = h (front ++ codes "]") (e ∙ sym (append_assoc front (
 not_two_after : (text : List ℕ) → NotAtEnd (codes "]") text → NotAtEnd (codes "]]") (text ++ codes "]")
 not_two_after text h front e = h front (same_from_push text (front ++ codes "]") 0x5D 0x5D (e ∙ sym (append_assoc front (codes "]") (codes "]")))).0
 
-bracket_legal : (text : List ℕ) → list_all is_char text ≡ true → list_all is_char (text ++ codes "]") ≡ true
-unfolding is_char
-bracket_legal text h = list_all_more is_char text 0x5D h refl
-
-bracket_lacks : (text : List ℕ) → LacksPart (codes "]]>") text → LacksPart (codes "]]>") (text ++ codes "]")
-bracket_lacks text h = lacks_push (codes "]]") 0x3E text 0x5D h (λ e. cc)
-
 pub cdata_goes_on : (read kept : List ℕ) (r : Bool) (c : ℕ) → is_char c ≡ true → (c == 0x5D) ≡ false → InCdata 0 r read kept
     → InCdata 0 (c == 0xD) (read ++ c ∷ []) ((kept ++ []) ++ piece_kept r c)
 cdata_goes_on read kept r c legal other h =
-    goes_on h.text (kept ++ []) read r c (h.is_read ∙ append-nil (codes "<![CDATA[" ++ h.text)) (append-nil kept ∙ h.is_kept) (h.returned ∙ ap (ends_in_return false) (append-nil h.text))
-    h.legal h.lacks (λ _. not_two h.text (h.few refl)) legal other
+    another h.text (kept ++ []) read r c (h.is_read ∙ append-nil (codes "<![CDATA[" ++ h.text)) (append-nil kept ∙ h.is_kept) (h.returned ∙ ap (ends_in_return false) (append-nil h.text))
+    h.unended (λ _. not_two h.text (h.few refl)) legal other
 
 pub cdata_goes_past_one : (read kept : List ℕ) (r : Bool) (c : ℕ) → is_char c ≡ true → (c == 0x5D) ≡ false → InCdata 1 r read kept
     → InCdata 0 (c == 0xD) (read ++ c ∷ []) ((kept ++ codes "]") ++ piece_kept r c)
 cdata_goes_past_one read kept r c legal other h =
-    goes_on (h.text ++ codes "]") (kept ++ codes "]") read r c h.is_read (kept_bracket h.text kept h.is_kept) h.returned
-    (bracket_legal h.text h.legal) (bracket_lacks h.text h.lacks) (λ _. not_two_after h.text (h.few refl)) legal other
+    another (h.text ++ codes "]") (kept ++ codes "]") read r c h.is_read (kept_bracket h.text kept h.is_kept) h.returned
+    (one_bracket h.text h.unended) (λ _. not_two_after h.text (h.few refl)) legal other
 
 pub cdata_goes_past_two : (read kept : List ℕ) (r : Bool) (c : ℕ) → is_char c ≡ true → (c == 0x5D) ≡ false → c ≢ 0x3E → InCdata 2 r read kept
     → InCdata 0 (c == 0xD) (read ++ c ∷ []) ((kept ++ codes "]]") ++ piece_kept r c)
 cdata_goes_past_two read kept r c legal other apart h =
     let text = (h.text ++ codes "]") ++ codes "]" in
     let whole : h.text ++ codes "]]" ≡ text = sym (append_assoc h.text (codes "]") (codes "]")) in
-    goes_on text (kept ++ codes "]]") read r c (h.is_read ∙ ap (λ x. codes "<![CDATA[" ++ x) whole)
+    another text (kept ++ codes "]]") read r c (h.is_read ∙ ap (λ x. codes "<![CDATA[" ++ x) whole)
     (sym (append_assoc kept (codes "]") (codes "]")) ∙ kept_bracket (h.text ++ codes "]") (kept ++ codes "]") (kept_bracket h.text kept h.is_kept))
-    (h.returned ∙ ap (ends_in_return false) whole) (bracket_legal _ (bracket_legal h.text h.legal)) (bracket_lacks _ (bracket_lacks h.text h.lacks))
+    (h.returned ∙ ap (ends_in_return false) whole) (one_bracket _ (one_bracket h.text h.unended))
     (λ e. absurd (apart e)) legal other
 
 pub cdata_ends : (at : ℕ) (read kept : List ℕ) (r : Bool) → InCdata 2 r read kept → IsRead at (read ++ codes ">") (token.Cdata kept)
 cdata_ends at read kept r h = record {
   token = cdata h.text;
-  is_lexed = (h.legal, h.lacks);
+  is_lexed = (h.unended.legal, h.unended.lacks);
   is_written = sym (ap (λ x. x ++ codes ">") h.is_read ∙ simp append_assoc);
   is_made = ap (λ x. token.Cdata x) (h.is_kept ∙ ap encode_utf8_all (seen_lines h.text).0);
 }

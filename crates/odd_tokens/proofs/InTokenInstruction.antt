@@ -1,7 +1,7 @@
 -- What was read of an instruction.
-use Rattle.std.proofs.Common.{◌≡◌, ◌≢◌, ◌⊎◌, ℕ, Bool, true, false, not, ◌&&◌, ◌||◌, ◌==◌, List, [], ◌∷◌, ◌++◌, length, sym, refl, ap, ◌∙◌, arith, append_assoc, append-nil, codes, subst, inl, inr, ⊎_elim, encode_utf8}
+use Rattle.std.proofs.Common.{◌≡◌, ◌≢◌, ◌⊎◌, ℕ, Bool, true, false, not, ◌&&◌, ◌||◌, ◌==◌, List, [], ◌∷◌, ◌++◌, sym, refl, ap, ◌∙◌, append_assoc, codes, subst, inl, inr, ⊎_elim, encode_utf8}
 use Rattle.std.proofs.lemmas.Bool.{eqb-false, eqb-true, both_ways, and_parts, and_from, or_cases, false_from_ne_true}
-use Rattle.std.proofs.lemmas.Str.{length-le-encodes, encodes_same}
+use Rattle.std.proofs.lemmas.Str.{encodes_same}
 use Rattle.std.proofs.lemmas.List.Folds.{list_all-append}
 use Rattle.std.proofs.Math.Utf8.{encode}
 use Rattle.std.specs.List.{list_all}
@@ -13,8 +13,8 @@ use Rattle.odd_tokens.specs.Same.{is_same}
 use Rattle.odd_tokens.specs.Tokens.{LacksPart, instruction, is_xml, is_set_off}
 use Rattle.odd_tokens.specs.declared.token.Token.TheVariants as token
 use Rattle.odd_tokens.proofs.Lexes.{IsRead}
-use Rattle.odd_tokens.proofs.InTokenTexts.{NotAtEnd, other_last, none_in_empty, lacks_push, lacks_front}
-use Rattle.odd_tokens.proofs.OneMore.{list_all_more, ncname_more, encoded_more, not_empty}
+use Rattle.odd_tokens.proofs.InTokenTexts.{NotAtEnd, Unended, other_last, nothing_last, none_yet, goes_on, lacks_front}
+use Rattle.odd_tokens.proofs.OneMore.{ncname_more, encoded_more, some_encoded, not_empty}
 
 -- the target
 
@@ -29,11 +29,7 @@ target_begins read e = record { target = []; is_read = e; is_kept = refl; named 
 
 none_encoded : (target : List ℕ) → is_empty (encode_utf8_all target) ≡ true → target ≡ []
 none_encoded [] h = refl
-none_encoded (c ∷ cs) h = absurd (omega (arith, length-le-encodes (c ∷ cs), ap length (none (encode_utf8_all (c ∷ cs)) h)))
-  where
-    none : (xs : List ℕ) → is_empty xs ≡ true → xs ≡ []
-    none [] h = refl
-    none (x ∷ xs) h = cc
+none_encoded (c ∷ cs) h = absurd (both_ways _ (some_encoded c cs) h)
 
 target_more : (read kept : List ℕ) (c : ℕ) → (h : InTarget read kept) → is_ncname (h.target ++ c ∷ []) ≡ true → InTarget (read ++ c ∷ []) (kept ++ encode_utf8 c)
 target_more read kept c h k = record {
@@ -115,7 +111,7 @@ target_asked read kept h t = record { target = h.target; is_target = t; is_read 
 pub target_ended : (at : ℕ) (read : List ℕ) → AfterTarget read → IsRead at (read ++ codes ">") token.Passed
 target_ended at read h = record {
   token = instruction h.target [];
-  is_lexed = (h.is_target.named, ap not h.is_target.other, refl, refl, none_in_empty 0x3F (codes ">"));
+  is_lexed = (h.is_target.named, ap not h.is_target.other, refl, refl, (none_yet 0x3F [] 0x3E).lacks);
   is_written = sym (ap (λ x. x ++ codes ">") h.is_read ∙ simp append_assoc);
   is_made = refl;
 }
@@ -129,8 +125,7 @@ pub record InInstruction (asked : Bool) (read : List ℕ) : Type 0 where
   pub is_read : read ≡ codes "<?" ++ target ++ rest
   pub set_off : is_set_off rest ≡ true
   pub some : rest ≢ []
-  pub legal : list_all is_char rest ≡ true
-  pub lacks : LacksPart (codes "?>") rest
+  pub unended : Unended (codes "?") 0x3E rest
   pub asks : asked ≡ true → (front : List ℕ) × (rest ≡ front ++ codes "?")
   pub tells : asked ≡ false → NotAtEnd (codes "?") rest
 
@@ -143,8 +138,7 @@ target_spaced read kept c legal space other h t = record {
   is_read = ap (λ x. x ++ c ∷ []) h.is_read;
   set_off = space;
   some = λ e. cc;
-  legal = list_all_more is_char [] c refl legal;
-  lacks = lacks_push (codes "?") 0x3E [] c (none_in_empty 0x3F (codes ">")) (λ _ front e. none_in_empty 0x3F [] front [] (e ∙ sym (append-nil (front ++ codes "?"))));
+  unended = goes_on (codes "?") 0x3E [] c (none_yet 0x3F [] 0x3E) legal (λ _. nothing_last 0x3F);
   asks = λ e. cc;
   tells = λ _. other_last [] c 0x3F (eqb-false c 0x3F other);
 }
@@ -166,8 +160,7 @@ instruction_goes_on asked read c legal other h = record {
   is_read = ap (λ x. x ++ c ∷ []) h.is_read ∙ simp append_assoc;
   set_off = set_off_more h.rest c h.some h.set_off;
   some = not_empty h.rest c;
-  legal = list_all_more is_char h.rest c h.legal legal;
-  lacks = lacks_push (codes "?") 0x3E h.rest c h.lacks (λ e. h.tells (told asked other e));
+  unended = goes_on (codes "?") 0x3E h.rest c h.unended legal (λ e. h.tells (told asked other e));
   asks = λ e. (h.rest, ap (λ x. h.rest ++ x ∷ []) (eqb-true c 0x3F e));
   tells = λ e. other_last h.rest c 0x3F (eqb-false c 0x3F e);
 }
@@ -179,7 +172,7 @@ instruction_goes_on asked read c legal other h = record {
 pub instruction_ends : (at : ℕ) (read : List ℕ) → InInstruction true read → IsRead at (read ++ codes ">") token.Passed
 instruction_ends at read h =
     let f : (front : List ℕ) × (h.rest ≡ front ++ codes "?") = h.asks refl in
-    let legal : (list_all is_char f.0 && list_all is_char (codes "?")) ≡ true = sym (list_all-append is_char f.0 (codes "?")) ∙ ap (list_all is_char) (sym f.1) ∙ h.legal in
+    let legal : (list_all is_char f.0 && list_all is_char (codes "?")) ≡ true = sym (list_all-append is_char f.0 (codes "?")) ∙ ap (list_all is_char) (sym f.1) ∙ h.unended.legal in
     record {
       token = instruction h.target f.0;
       is_lexed = (
@@ -187,7 +180,7 @@ instruction_ends at read h =
         ap not h.is_target.other,
         set_off_front f.0 (codes "?") (ap is_set_off (sym f.1) ∙ h.set_off),
         (and_parts _ _ legal).0,
-        lacks_front (codes "?>") f.0 (codes "?") (subst (LacksPart (codes "?>")) f.1 h.lacks),
+        lacks_front (codes "?>") f.0 (codes "?") (subst (LacksPart (codes "?>")) f.1 h.unended.lacks),
       );
       is_written = sym (ap (λ x. x ++ codes ">") (h.is_read ∙ ap (λ x. codes "<?" ++ h.target ++ x) f.1) ∙ simp append_assoc);
       is_made = refl;

@@ -5,7 +5,7 @@ use Rattle.odd_tokens.specs.declared.lexer.Named.TheVariants as named
 use Rattle.odd_tokens.specs.declared.lexer.Place.TheVariants as place
 use Rattle.odd_tokens.specs.declared.lexer.State.{State}
 use Rattle.odd_tokens.specs.declared.lexer.State.TheVariants as state
-use Rattle.odd_tokens.proofs.Lexes.{IsIdle, Ended}
+use Rattle.odd_tokens.proofs.Lexes.{IsIdle, IsWhole}
 use Rattle.odd_tokens.proofs.InReference.{InReference}
 use Rattle.odd_tokens.proofs.InTag.{InTag}
 use Rattle.odd_tokens.proofs.InTokenCdata.{InCdata, opened}
@@ -41,4 +41,4 @@ InToken opening at read l = InPlain l.state opening at read l ⊎ (InTag false a
 abbrev pub Follows : Bool → ℕ → List ℕ → Taken → Type 0
 Follows opening at read None = Unit {0}
 Follows opening at read (Some (m, None)) = InToken opening at read m
-Follows opening at read (Some (m, Some made)) = IsIdle m × (m.opening ≡ false) × Ended opening at read made
+Follows opening at read (Some (m, Some made)) = IsIdle m × (m.opening ≡ false) × IsWhole opening at read made

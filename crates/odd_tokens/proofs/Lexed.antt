@@ -5,12 +5,12 @@ use Rattle.odd_tokens.specs.Making.{token_made}
 use Rattle.odd_tokens.specs.Openings.{Declaration, IsDeclaration, declaration_written}
 use Rattle.odd_tokens.specs.Tokens as written
 use Rattle.odd_tokens.specs.declared.token.Token.TheVariants as token
-use Rattle.odd_tokens.proofs.Lexes.{IsIdle, Lexes}
+use Rattle.odd_tokens.proofs.Lexes.{IsIdle, IsLexed, Lexes}
 use Rattle.odd_tokens.proofs.LexedDeclaration.{by_settings}
 use Rattle.odd_tokens.proofs.LexedTokens.{Takes, is_idle, idle_takes, mark_takes}
 
 -- a byte order mark at the very beginning is not a character of a token
-pub token_lexed : (l : Lexed) (at : ℕ) (t : written.Token) → IsIdle l → written.IsToken t → (l.opening ≡ true → at ≡ 0 → t ≢ written.character 0xFEFF)
+pub token_lexed : (l : Lexed) (at : ℕ) (t : written.Token) → IsIdle l → IsLexed t → (l.opening ≡ true → at ≡ 0 → t ≢ written.character 0xFEFF)
     → (after : Lexed) × IsIdle after × (after.opening ≡ false) × Lexes l at (written.token_written t) after (token_made at t)
 token_lexed l at t i h mark = subst (λ k. Takes k at (written.token_written t) (token_made at t)) (is_idle l i) (idle_takes l at t h mark)
 

@@ -1,15 +1,15 @@
 -- The lexer takes a processing instruction: its target is xml in no case of its letters.
-use Rattle.std.proofs.Common.{◌≡◌, ℕ, ◌≤◌, suc, true, false, ◌==◌, ◌&&◌, ◌||◌, not, if◌then◌else◌, List, [], ◌∷◌, ◌++◌, length, Some, None, codes, refl, sym, ap, ◌∙◌, subst, arith, append_assoc, nat_lt}
+use Rattle.std.proofs.Common.{◌≡◌, ℕ, true, false, ◌==◌, ◌&&◌, ◌||◌, not, if◌then◌else◌, List, [], ◌∷◌, ◌++◌, Some, None, codes, refl, sym, ap, ◌∙◌, subst, arith, append_assoc, nat_lt}
 use Rattle.std.proofs.lemmas.Bool.{cond-true, cond-false, and_parts, and_from, and_left, and_right, or_parts, false_from_ne_true, both_ways, false≢true, not-true}
 use Rattle.std.proofs.lemmas.Bool.Decides.{nat_tests}
 use Rattle.std.proofs.lemmas.List.{append-nil}
-use Rattle.std.proofs.lemmas.Str.{encodes_same, length-le-encodes}
+use Rattle.std.proofs.lemmas.Str.{encodes_same}
 use Rattle.std.specs.Char.{to_ascii_lowercase}
 use Rattle.std.specs.Cmp.Lexicographic.{same_text}
 use Rattle.std.specs.List.{list_all}
 use Rattle.std.specs.Str.{encode_utf8_all, str_eq_ignore_ascii_case}
 use Rattle.odd_tokens.specs.Characters.{is_char, is_space, is_name_start, is_name_char, is_ncname}
-use Rattle.odd_tokens.specs.Lexing.{Lexed, next, is_empty, target_ends}
+use Rattle.odd_tokens.specs.Lexing.{Lexed, next, target_ends}
 use Rattle.odd_tokens.specs.Same.{is_same}
 use Rattle.odd_tokens.specs.Tokens.{IsText, LacksPart, is_xml, is_set_off}
 use Rattle.odd_tokens.specs.declared.lexer.State.TheVariants as state
@@ -20,7 +20,7 @@ use Rattle.odd_tokens.proofs.Characters.{start_is_legal, name_char_is_legal}
 use Rattle.odd_tokens.proofs.NamesLexed.{at_space, space_ends, question_ends}
 use Rattle.odd_tokens.proofs.LexedComments.{instruction_yields}
 use Rattle.odd_tokens.proofs.LexedSteps.{Yields, stepped, ended}
-use Rattle.odd_tokens.proofs.OneMore.{encoded_more}
+use Rattle.odd_tokens.proofs.OneMore.{encoded_more, some_encoded}
 use Rattle.odd_tokens.proofs.TextsLexed.{lacks_later}
 
 -- a target whose bytes are xml in some case is so itself
@@ -64,16 +64,6 @@ same_target : (cs : List ℕ) → not (is_xml cs) ≡ true → is_same (encode_u
 same_target cs h =
     false_from_ne_true _ (λ e. both_ways _ (other_target cs h) (ap (λ bytes. str_eq_ignore_ascii_case bytes (codes "xml")) (same_text (encode_utf8_all cs) (codes "xml") (sym e))))
 
-not_empty : (bytes : List ℕ) → 1 ≤ length bytes → is_empty bytes ≡ false
-not_empty [] h = absurd (omega arith)
-not_empty (b ∷ bytes) h = refl
-
-some_bytes : (c : ℕ) (cs : List ℕ) → is_empty (encode_utf8_all (c ∷ cs)) ≡ false
-some_bytes c cs = not_empty (encode_utf8_all (c ∷ cs)) (let h : length (c ∷ cs) ≤ length (encode_utf8_all (c ∷ cs)) = length-le-encodes (c ∷ cs) in one_of (length cs) _ h)
-  where
-    one_of : (n m : ℕ) → suc n ≤ m → 1 ≤ m
-    one_of n m h = omega arith
-
 module _ (l : Lexed) (plain : l.declares ≡ false) where
   -- in the target, with the characters that were read
   abbrev pub in_target : List ℕ → Lexed
@@ -84,13 +74,13 @@ module _ (l : Lexed) (plain : l.declares ≡ false) where
 
   target_next : (d : ℕ) (read : List ℕ) (c at : ℕ) → is_name_char c ≡ true → next (in_target (d ∷ read)) at c ≡ Some (in_target ((d ∷ read) ++ c ∷ []), None)
   target_next d read c at h =
-      cond-true _ _ _ (name_char_is_legal c h) ∙ cond-false _ _ _ (some_bytes d read) ∙ cond-true _ _ _ h
+      cond-true _ _ _ (name_char_is_legal c h) ∙ cond-false _ _ _ (some_encoded d read) ∙ cond-true _ _ _ h
       ∙ ap (λ x. Some (record l { state = state.Target; text = x }, None)) (sym (encoded_more (d ∷ read) c))
 
   -- the character after the target
   target_last : (d : ℕ) (read : List ℕ) (c at : ℕ) → is_char c ≡ true → is_name_char c ≡ false → (c == 0x3F || is_space c) ≡ true
       → next (in_target (d ∷ read)) at c ≡ target_ends (in_target (d ∷ read)) c
-  target_last d read c at h n m = cond-true _ _ _ h ∙ cond-false _ _ _ (some_bytes d read) ∙ cond-false _ _ _ n ∙ cond-true _ _ _ m
+  target_last d read c at h n m = cond-true _ _ _ h ∙ cond-false _ _ _ (some_encoded d read) ∙ cond-false _ _ _ n ∙ cond-true _ _ _ m
 
   gathered : (cs : List ℕ) (d : ℕ) (read more : List ℕ) (t : Token) → list_all is_name_char cs ≡ true → Yields (in_target ((d ∷ read) ++ cs)) more t → Yields (in_target (d ∷ read)) (cs ++ more) t
   gathered [] d read more t h y = subst (λ x. Yields (in_target x) more t) (append-nil (d ∷ read)) y

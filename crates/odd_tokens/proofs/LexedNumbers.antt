@@ -1,25 +1,33 @@
--- The number of a character reference, read from left to right.
-use Rattle.std.proofs.Common.{◌≡◌, ℕ, ◌+◌, ◌*◌, ◌-◌, ◌≤◌, true, false, ◌==◌, nat_lt, List, [], ◌∷◌, refl, ◌∙◌, arith, if◌then◌else◌, ◌++◌}
+-- The number of a character reference, read from left to right, in either base.
+use Rattle.std.proofs.Common.{◌≡◌, ℕ, ◌+◌, ◌*◌, ◌-◌, ◌≤◌, Bool, true, false, ◌==◌, nat_lt, List, [], ◌∷◌, ◌++◌, refl, arith, if◌then◌else◌, mul-le-mul_left}
 use Rattle.std.proofs.lemmas.Bool.Decides.{nat_tests}
 use Rattle.std.specs.Char.{digit_value}
 use Rattle.odd_tokens.specs.Characters.{is_within, is_char}
-use Rattle.odd_tokens.specs.Tokens.{decimal, hexadecimal, character_of, is_decimal_digit, is_hexadecimal_digit}
+use Rattle.odd_tokens.specs.Tokens.{is_decimal_digit, is_hexadecimal_digit}
 
 -- what the digits make of the number before them
-abbrev pub number_of : ℕ → (ℕ → ℕ) → ℕ → List ℕ → ℕ
-number_of base value n [] = n
-number_of base value n (d ∷ ds) = number_of base value (n * base + value d) ds
+abbrev pub number_of : ℕ → ℕ → (ℕ → ℕ) → List ℕ → ℕ
+number_of base so_far value [] = so_far
+number_of base so_far value (d ∷ ds) = number_of base (so_far * base + value d) value ds
 
 -- one more digit
-pub number_push : (base : ℕ) (value : ℕ → ℕ) (n d : ℕ) (ds : List ℕ) → number_of base value n (ds ++ d ∷ []) ≡ number_of base value n ds * base + value d
-number_push base value n d [] = refl
-number_push base value n d (e ∷ ds) = number_push base value (n * base + value e) d ds
+pub number_push : (base n : ℕ) (value : ℕ → ℕ) (d : ℕ) (ds : List ℕ) → number_of base n value (ds ++ d ∷ []) ≡ number_of base n value ds * base + value d
+number_push base n value d [] = refl
+number_push base n value d (e ∷ ds) = number_push base (n * base + value e) value d ds
 
--- a reading of the digits that goes on in this way is that number
-one_number : (base : ℕ) (value : ℕ → ℕ) (read : ℕ → List ℕ → ℕ) → ((n : ℕ) → read n [] ≡ n) → ((n d : ℕ) (ds : List ℕ) → read n (d ∷ ds) ≡ read (n * base + value d) ds)
-    → (n : ℕ) (ds : List ℕ) → read n ds ≡ number_of base value n ds
-one_number base value read none more n [] = none n
-one_number base value read none more n (d ∷ ds) = more n d ds ∙ one_number base value read none more (n * base + value d) ds
+-- digits make a number no smaller
+pub number_grows : (base n : ℕ) (value : ℕ → ℕ) (ds : List ℕ) → 1 ≤ base → n ≤ number_of base n value ds
+number_grows base n value [] b = omega arith
+number_grows base n value (d ∷ ds) b = omega (arith, number_grows base (n * base + value d) value ds b, mul-le-mul_left n b)
+
+-- the lexer reads the digits of a base, and no other characters, with the values that they have
+pub record IsBase (base : ℕ) (test : ℕ → Bool) (value : ℕ → ℕ) : Type 0 where
+  pub some : 1 ≤ base
+  pub tested : (d : ℕ) → nat_lt (digit_value d) base ≡ true → test d ≡ true
+  pub below : (d : ℕ) → test d ≡ true → nat_lt (digit_value d) base ≡ true
+  pub same : (d : ℕ) → test d ≡ true → digit_value d ≡ value d
+  pub no_mark : (d : ℕ) → test d ≡ true → (d == 0x3B) ≡ false
+  pub legal : (d : ℕ) → test d ≡ true → is_char d ≡ true
 
 abbrev pub decimal_value : ℕ → ℕ
 decimal_value d = d - 0x30
@@ -27,67 +35,28 @@ decimal_value d = d - 0x30
 abbrev pub hexadecimal_value : ℕ → ℕ
 hexadecimal_value d = if is_decimal_digit d then d - 0x30 else (if is_within 0x41 0x46 d then d - 0x37 else d - 0x57)
 
--- a first digit that is the number before the others
-from_decimal : ℕ → List ℕ → ℕ
-from_decimal n ds = character_of (decimal ((n + 0x30) ∷ ds))
-
-from_hexadecimal : ℕ → List ℕ → ℕ
-from_hexadecimal n ds = character_of (hexadecimal ((n + 0x57) ∷ ds))
-
-decimal_back : (n : ℕ) → 0 * 10 + decimal_value (n + 0x30) ≡ n
-decimal_back n = omega arith
-
-hexadecimal_back : (n : ℕ) → 0 * 16 + hexadecimal_value (n + 0x57) ≡ n
-hexadecimal_back n = grind (arith, nat_tests)
-
-decimal_more : (n d : ℕ) (ds : List ℕ) → from_decimal n (d ∷ ds) ≡ from_decimal (n * 10 + decimal_value d) ds
-unfolding from_decimal
-decimal_more n d ds = rw (decimal_back n, decimal_back (n * 10 + decimal_value d)) refl
-
-hexadecimal_more : (n d : ℕ) (ds : List ℕ) → from_hexadecimal n (d ∷ ds) ≡ from_hexadecimal (n * 16 + hexadecimal_value d) ds
-unfolding from_hexadecimal
-hexadecimal_more n d ds = rw (hexadecimal_back n, hexadecimal_back (n * 16 + hexadecimal_value d)) refl
-
-pub decimal_number : (ds : List ℕ) → character_of (decimal ds) ≡ number_of 10 decimal_value 0 ds
-unfolding from_decimal
-decimal_number [] = refl
-decimal_number (d ∷ ds) =
-    let n = 0 * 10 + decimal_value d in
-    rw (decimal_back n) at (one_number 10 decimal_value from_decimal decimal_back decimal_more n ds)
-
-pub hexadecimal_number : (ds : List ℕ) → character_of (hexadecimal ds) ≡ number_of 16 hexadecimal_value 0 ds
-unfolding from_hexadecimal
-hexadecimal_number [] = refl
-hexadecimal_number (d ∷ ds) =
-    let n = 0 * 16 + hexadecimal_value d in
-    rw (hexadecimal_back n) at (one_number 16 hexadecimal_value from_hexadecimal hexadecimal_back hexadecimal_more n ds)
-
--- digits make a number no smaller
-pub decimal_grows : (n : ℕ) (ds : List ℕ) → n ≤ number_of 10 decimal_value n ds
-decimal_grows n [] = omega arith
-decimal_grows n (d ∷ ds) = omega (arith, decimal_grows (n * 10 + decimal_value d) ds)
-
-pub hexadecimal_grows : (n : ℕ) (ds : List ℕ) → n ≤ number_of 16 hexadecimal_value n ds
-hexadecimal_grows n [] = omega arith
-hexadecimal_grows n (d ∷ ds) = omega (arith, hexadecimal_grows (n * 16 + hexadecimal_value d) ds)
-
--- the lexer reads the same digits
-pub decimal_read : (d : ℕ) → is_decimal_digit d ≡ true → digit_value d ≡ decimal_value d
-decimal_read d h = grind (arith, nat_tests)
-
-pub decimal_below : (d : ℕ) → is_decimal_digit d ≡ true → nat_lt (digit_value d) 10 ≡ true
-decimal_below d h = grind (arith, nat_tests)
-
-pub hexadecimal_read : (d : ℕ) → is_hexadecimal_digit d ≡ true → digit_value d ≡ hexadecimal_value d
-hexadecimal_read d h = grind (arith, nat_tests)
-
-pub hexadecimal_below : (d : ℕ) → is_hexadecimal_digit d ≡ true → nat_lt (digit_value d) 16 ≡ true
-hexadecimal_below d h = grind (arith, nat_tests)
-
-pub decimal_no_mark : (d : ℕ) → is_decimal_digit d ≡ true → ((d == 0x3B) ≡ false) × ((d == 0x78) ≡ false) × (is_char d ≡ true)
+pub decimal_base : IsBase 10 is_decimal_digit decimal_value
 unfolding is_char
-decimal_no_mark d h = (grind (arith, nat_tests), grind (arith, nat_tests), grind (arith, nat_tests))
+decimal_base = record {
+  some = omega arith;
+  tested = λ d h. grind (arith, nat_tests);
+  below = λ d h. grind (arith, nat_tests);
+  same = λ d h. grind (arith, nat_tests);
+  no_mark = λ d h. grind (arith, nat_tests);
+  legal = λ d h. grind (arith, nat_tests);
+}
 
-pub hexadecimal_no_mark : (d : ℕ) → is_hexadecimal_digit d ≡ true → ((d == 0x3B) ≡ false) × (is_char d ≡ true)
+pub hexadecimal_base : IsBase 16 is_hexadecimal_digit hexadecimal_value
 unfolding is_char
-hexadecimal_no_mark d h = (grind (arith, nat_tests), grind (arith, nat_tests))
+hexadecimal_base = record {
+  some = omega arith;
+  tested = λ d h. grind (arith, nat_tests);
+  below = λ d h. grind (arith, nat_tests);
+  same = λ d h. grind (arith, nat_tests);
+  no_mark = λ d h. grind (arith, nat_tests);
+  legal = λ d h. grind (arith, nat_tests);
+}
+
+-- which tells the two bases apart
+pub decimal_no_x : (d : ℕ) → is_decimal_digit d ≡ true → (d == 0x78) ≡ false
+decimal_no_x d h = grind (arith, nat_tests)

@@ -1,11 +1,11 @@
 -- The lexer takes a written reference.
-use Rattle.std.proofs.Common.{◌≡◌, ℕ, ◌+◌, ◌*◌, ◌≤◌, Bool, true, nat_le, List, [], ◌∷◌, ◌++◌, Some, None, refl, sym, ap, ◌∙◌, subst, arith, codes, append_assoc, if◌then◌else◌}
+use Rattle.std.proofs.Common.{◌≡◌, ◌≢◌, ℕ, ◌+◌, ◌*◌, ◌≤◌, Bool, true, ◌==◌, List, [], ◌∷◌, ◌++◌, Some, None, refl, sym, ap, ◌∙◌, subst, arith, codes, append_assoc, if◌then◌else◌}
 use Rattle.std.proofs.lemmas.Bool.{cond-true, cond-false, and_parts, le-leb}
 use Rattle.std.specs.List.{list_all}
-use Rattle.std.specs.Char.{digit_value, encode_utf8}
+use Rattle.std.specs.Char.{encode_utf8}
 use Rattle.odd_tokens.specs.Characters.{last_character, is_char}
-use Rattle.odd_tokens.specs.Lexing.{Lexed, next, referred, digit, entity_named, reference}
-use Rattle.odd_tokens.specs.Tokens.{Reference, lt, gt, amp, apos, quot, decimal, hexadecimal, IsReference, character_of, reference_written, is_decimal_digit, is_hexadecimal_digit}
+use Rattle.odd_tokens.specs.Lexing.{Lexed, next, referred, digit, base_of, end_digits, entity_named, reference}
+use Rattle.odd_tokens.specs.Tokens.{Reference, lt, gt, amp, apos, quot, decimal, hexadecimal, IsReference, character_of, reference_written}
 use Rattle.odd_tokens.specs.declared.lexer.Place.{Place}
 use Rattle.odd_tokens.specs.declared.lexer.ReferencePart.{ReferencePart}
 use Rattle.odd_tokens.specs.declared.lexer.ReferencePart.TheVariants as ref
@@ -13,7 +13,7 @@ use Rattle.odd_tokens.specs.declared.lexer.State.{State}
 use Rattle.odd_tokens.specs.declared.lexer.State.TheVariants as state
 use Rattle.odd_tokens.specs.declared.token.Token.{Token}
 use Rattle.odd_tokens.proofs.Characters.{char_is_small}
-use Rattle.odd_tokens.proofs.LexedNumbers.{number_of, decimal_value, hexadecimal_value, decimal_number, hexadecimal_number, decimal_grows, hexadecimal_grows, decimal_read, decimal_below, hexadecimal_read, hexadecimal_below, decimal_no_mark, hexadecimal_no_mark}
+use Rattle.odd_tokens.proofs.LexedNumbers.{number_of, number_grows, IsBase, decimal_base, hexadecimal_base, decimal_no_x}
 use Rattle.odd_tokens.proofs.LexedSteps.{Yields, Gives, stepped, reads}
 
 semicolon_legal : is_char 0x3B ≡ true
@@ -29,50 +29,34 @@ module _ (l : Lexed) (p : Place) (t : Token) where
   abbrev in_digits : ReferencePart → ℕ → Lexed
   in_digits part n = record l { state = state.Reference p part; number = n }
 
-  -- a digit adds to the number, which is no greater than that of a character
-  kept_number : (n base d : ℕ) → n ≤ last_character → (if nat_le n last_character then n * base + d else n) ≡ n * base + d
-  kept_number n base d h = cond-true _ _ _ (le-leb n last_character h)
+  module _ (part : ReferencePart) {test : ℕ → Bool} {value : ℕ → ℕ} (b : IsBase (base_of part) test value)
+      (in_part : (n c : ℕ) → reference p part (in_digits part n) c ≡ (if c == 0x3B then end_digits p (in_digits part n) else digit p part (in_digits part n) c)) where
+    -- a digit adds to the number, which is no greater than that of a character
+    digit_read : (s : State) (n d : ℕ) → n ≤ last_character → test d ≡ true
+        → digit p part (record l { state = s; number = n }) d ≡ Some (in_digits part (n * base_of part + value d), None)
+    digit_read s n d small h =
+        cond-true _ _ _ (b.below d h)
+        ∙ ap (λ x. Some (in_digits part x, None)) (cond-true _ _ _ (le-leb n last_character small) ∙ ap (λ x. n * base_of part + x) (b.same d h))
 
-  decimal_digit : (s : State) (n d : ℕ) → n ≤ last_character → is_decimal_digit d ≡ true
-      → digit p ref.Decimal (record l { state = s; number = n }) d ≡ Some (in_digits ref.Decimal (n * 10 + decimal_value d), None)
-  decimal_digit s n d small h =
-      cond-true _ _ _ (decimal_below d h)
-      ∙ ap (λ x. Some (in_digits ref.Decimal x, None)) (kept_number n 10 (digit_value d) small ∙ ap (λ x. n * 10 + x) (decimal_read d h))
-
-  hexadecimal_digit : (s : State) (n d : ℕ) → n ≤ last_character → is_hexadecimal_digit d ≡ true
-      → digit p ref.Hexadecimal (record l { state = s; number = n }) d ≡ Some (in_digits ref.Hexadecimal (n * 16 + hexadecimal_value d), None)
-  hexadecimal_digit s n d small h =
-      cond-true _ _ _ (hexadecimal_below d h)
-      ∙ ap (λ x. Some (in_digits ref.Hexadecimal x, None)) (kept_number n 16 (digit_value d) small ∙ ap (λ x. n * 16 + x) (hexadecimal_read d h))
-
-  decimal_next : (n d at : ℕ) → n ≤ last_character → is_decimal_digit d ≡ true → next (in_digits ref.Decimal n) at d ≡ Some (in_digits ref.Decimal (n * 10 + decimal_value d), None)
-  decimal_next n d at small h =
-      let m = decimal_no_mark d h in cond-true _ _ _ m.2 ∙ cond-false _ _ _ m.0 ∙ decimal_digit (state.Reference p ref.Decimal) n d small h
-
-  hexadecimal_next : (n d at : ℕ) → n ≤ last_character → is_hexadecimal_digit d ≡ true
-      → next (in_digits ref.Hexadecimal n) at d ≡ Some (in_digits ref.Hexadecimal (n * 16 + hexadecimal_value d), None)
-  hexadecimal_next n d at small h =
-      let m = hexadecimal_no_mark d h in cond-true _ _ _ m.1 ∙ cond-false _ _ _ m.0 ∙ hexadecimal_digit (state.Reference p ref.Hexadecimal) n d small h
-
-  module _ (part : ReferencePart) (base : ℕ) (value : ℕ → ℕ) (test : ℕ → Bool) (grows : (n : ℕ) (ds : List ℕ) → n ≤ number_of base value n ds)
-      (step : (n d at : ℕ) → n ≤ last_character → test d ≡ true → next (in_digits part n) at d ≡ Some (in_digits part (n * base + value d), None)) where
-    digits_read : (n : ℕ) (ds more : List ℕ) → list_all test ds ≡ true → number_of base value n ds ≤ last_character → Yields (in_digits part (number_of base value n ds)) more t
-        → Yields (in_digits part n) (ds ++ more) t
-    digits_read n [] more h small y = y
-    digits_read n (d ∷ ds) more h small y =
+    digits_read : (n : ℕ) (ds more : List ℕ) → list_all test ds ≡ true → is_char (number_of (base_of part) n value ds) ≡ true → After (number_of (base_of part) n value ds) more
+        → Yields (in_digits part n) (ds ++ 0x3B ∷ more) t
+    digits_read n [] more h legal a =
+        reads (λ c. reference p part (in_digits part n) c) (λ at c h. cond-true _ _ _ h)
+        (semicolon_legal, subst (λ o. Gives o more t) (sym (in_part n 0x3B ∙ cond-true _ _ _ legal)) (a (state.Reference p part) l.text n))
+    digits_read n (d ∷ ds) more h legal a =
         let both = and_parts (test d) (list_all test ds) h in
-        stepped (λ at. step n d at (omega (arith, grows n (d ∷ ds))) both.0) (digits_read (n * base + value d) ds more both.1 small y)
+        let small : n ≤ last_character = omega (arith, number_grows (base_of part) n value (d ∷ ds) b.some, char_is_small (number_of (base_of part) n value (d ∷ ds)) legal) in
+        stepped (λ at. cond-true _ _ _ (b.legal d both.0) ∙ in_part n d ∙ cond-false _ _ _ (b.no_mark d both.0) ∙ digit_read (state.Reference p part) n d small both.0)
+        (digits_read (n * base_of part + value d) ds more both.1 legal a)
 
-  -- the mark at the end of the digits
-  decimal_ends : (n : ℕ) (more : List ℕ) → is_char n ≡ true → After n more → Yields (in_digits ref.Decimal n) (0x3B ∷ more) t
-  decimal_ends n more h a =
-      reads (λ c. reference p ref.Decimal (in_digits ref.Decimal n) c) (λ at c h. cond-true _ _ _ h)
-      (semicolon_legal, subst (λ o. Gives o more t) (sym (cond-true _ _ _ h)) (a (state.Reference p ref.Decimal) l.text n))
-
-  hexadecimal_ends : (n : ℕ) (more : List ℕ) → is_char n ≡ true → After n more → Yields (in_digits ref.Hexadecimal n) (0x3B ∷ more) t
-  hexadecimal_ends n more h a =
-      reads (λ c. reference p ref.Hexadecimal (in_digits ref.Hexadecimal n) c) (λ at c h. cond-true _ _ _ h)
-      (semicolon_legal, subst (λ o. Gives o more t) (sym (cond-true _ _ _ h)) (a (state.Reference p ref.Hexadecimal) l.text n))
+    -- the digits after `&#` and `&#x`
+    digits_read_from : (s : State) → ((d at : ℕ) → test d ≡ true → next (record l { state = s }) at d ≡ digit p part (record l { state = s; number = 0 }) d) → (ds more : List ℕ)
+        → ds ≢ [] → list_all test ds ≡ true → is_char (number_of (base_of part) 0 value ds) ≡ true → After (number_of (base_of part) 0 value ds) more
+        → Yields (record l { state = s }) (ds ++ 0x3B ∷ more) t
+    digits_read_from s first [] more some h legal a = absurd (some refl)
+    digits_read_from s first (d ∷ ds) more some h legal a =
+        let both = and_parts (test d) (list_all test ds) h in
+        stepped (λ at. first d at both.0 ∙ digit_read s 0 d (omega arith) both.0) (digits_read (0 * base_of part + value d) ds more both.1 legal a)
 
   -- the letters of an entity's name
 
@@ -84,31 +68,15 @@ module _ (l : Lexed) (p : Place) (t : Token) where
       reads (λ d. reference p ref.Letters (in_letters name) d) (λ at d h. cond-true _ _ _ h)
       (semicolon_legal, rw e (a (state.Reference p ref.Letters) name l.number))
 
-  -- the digits after `&#` and `&#x`
-  decimal_read_from : (ds more : List ℕ) → IsReference (decimal ds) → After (character_of (decimal ds)) more → Yields (record l { state = state.Reference p ref.Hash }) (ds ++ 0x3B ∷ more) t
-  decimal_read_from [] more h a = absurd (h.0 refl)
-  decimal_read_from (d ∷ ds) more h a =
-      let both = and_parts (is_decimal_digit d) (list_all is_decimal_digit ds) h.1 in
-      let m = decimal_no_mark d both.0 in
-      let n = number_of 10 decimal_value 0 (d ∷ ds) in
-      let e : character_of (decimal (d ∷ ds)) ≡ n = decimal_number (d ∷ ds) in
-      let legal : is_char n ≡ true = subst (λ x. is_char x ≡ true) e h.2 in
-      stepped (λ at. cond-true _ _ _ m.2 ∙ cond-false _ _ _ m.1 ∙ decimal_digit (state.Reference p ref.Hash) 0 d (omega arith) both.0)
-      (digits_read ref.Decimal 10 decimal_value is_decimal_digit decimal_grows decimal_next (0 * 10 + decimal_value d) ds (0x3B ∷ more) both.1 (char_is_small n legal)
-      (decimal_ends n more legal (subst (λ x. After x more) e a)))
+  decimal_read : (ds more : List ℕ) → IsReference (decimal ds) → After (character_of (decimal ds)) more → Yields (record l { state = state.Reference p ref.Hash }) (ds ++ 0x3B ∷ more) t
+  decimal_read ds more h a =
+      digits_read_from ref.Decimal decimal_base (λ n c. refl) (state.Reference p ref.Hash)
+      (λ d at k. cond-true _ _ _ (decimal_base.legal d k) ∙ cond-false _ _ _ (decimal_no_x d k)) ds more h.0 h.1 h.2 a
 
-  hexadecimal_read_from : (ds more : List ℕ) → IsReference (hexadecimal ds) → After (character_of (hexadecimal ds)) more
+  hexadecimal_read : (ds more : List ℕ) → IsReference (hexadecimal ds) → After (character_of (hexadecimal ds)) more
       → Yields (record l { state = state.Reference p ref.HexBegins }) (ds ++ 0x3B ∷ more) t
-  hexadecimal_read_from [] more h a = absurd (h.0 refl)
-  hexadecimal_read_from (d ∷ ds) more h a =
-      let both = and_parts (is_hexadecimal_digit d) (list_all is_hexadecimal_digit ds) h.1 in
-      let m = hexadecimal_no_mark d both.0 in
-      let n = number_of 16 hexadecimal_value 0 (d ∷ ds) in
-      let e : character_of (hexadecimal (d ∷ ds)) ≡ n = hexadecimal_number (d ∷ ds) in
-      let legal : is_char n ≡ true = subst (λ x. is_char x ≡ true) e h.2 in
-      stepped (λ at. cond-true _ _ _ m.1 ∙ hexadecimal_digit (state.Reference p ref.HexBegins) 0 d (omega arith) both.0)
-      (digits_read ref.Hexadecimal 16 hexadecimal_value is_hexadecimal_digit hexadecimal_grows hexadecimal_next (0 * 16 + hexadecimal_value d) ds (0x3B ∷ more) both.1 (char_is_small n legal)
-      (hexadecimal_ends n more legal (subst (λ x. After x more) e a)))
+  hexadecimal_read ds more h a =
+      digits_read_from ref.Hexadecimal hexadecimal_base (λ n c. refl) (state.Reference p ref.HexBegins) (λ d at k. cond-true _ _ _ (hexadecimal_base.legal d k)) ds more h.0 h.1 h.2 a
 
   -- what follows the first character of a reference
   abbrev Continues : Reference → List ℕ → Type 0
@@ -125,10 +93,10 @@ module _ (l : Lexed) (p : Place) (t : Token) where
       (_, refl, stepped (λ at. refl) (stepped (λ at. refl) (stepped (λ at. refl) (stepped (λ at. refl) (letters_end (codes "quot") 0x22 more refl a)))))
   reference_continues (decimal digits) more h a =
       let joined : 0x26 ∷ 0x23 ∷ (digits ++ 0x3B ∷ more) ≡ reference_written (decimal digits) ++ more = simp append_assoc in
-      (0x23 ∷ (digits ++ 0x3B ∷ more), joined, stepped (λ at. refl) (decimal_read_from digits more h a))
+      (0x23 ∷ (digits ++ 0x3B ∷ more), joined, stepped (λ at. refl) (decimal_read digits more h a))
   reference_continues (hexadecimal digits) more h a =
       let joined : 0x26 ∷ 0x23 ∷ 0x78 ∷ (digits ++ 0x3B ∷ more) ≡ reference_written (hexadecimal digits) ++ more = simp append_assoc in
-      (0x23 ∷ 0x78 ∷ (digits ++ 0x3B ∷ more), joined, stepped (λ at. refl) (stepped (λ at. refl) (hexadecimal_read_from digits more h a)))
+      (0x23 ∷ 0x78 ∷ (digits ++ 0x3B ∷ more), joined, stepped (λ at. refl) (stepped (λ at. refl) (hexadecimal_read digits more h a)))
 
   -- a reference, from its first character
   pub reference_read : (from : Lexed) → ((at : ℕ) → next from at 0x26 ≡ Some (record l { state = state.Reference p ref.Begins }, None))

@@ -5,7 +5,8 @@ use Rattle.std.proofs.lemmas.List.Elements.{All-nil, All-cons}
 use Rattle.odd_tokens.specs.Characters.{is_char, is_space, is_name_start, is_white}
 use Rattle.odd_tokens.specs.Lexing.{Lexed, no_name, fresh_tag, end_space, less, name_begins, tag_goes_on}
 use Rattle.odd_tokens.specs.Making.{name_made, tag_made, attribute_made}
-use Rattle.odd_tokens.specs.Tokens.{QName, Piece, itself, reference, Attribute, Tag, IsQName, IsTag, name_written, tag_written}
+use Rattle.odd_tokens.specs.Tokens.{QName, Piece, itself, reference, Attribute, Tag, IsQName, name_written, tag_written}
+use Rattle.odd_tokens.specs.Whole.{IsLexedTag}
 use Rattle.odd_tokens.specs.declared.lexer.NamePart.TheVariants as part
 use Rattle.odd_tokens.specs.declared.lexer.Named.TheVariants as named
 use Rattle.odd_tokens.specs.declared.lexer.State.TheVariants as state
@@ -64,7 +65,7 @@ module _ (l : Lexed) (at : ℕ) (t : Token) where
   abbrev named_tag : QName → Lexed
   named_tag q = record l { state = state.TagSpace; opening = false; begin = at; declares = false; tag = record { at = at; name = name_made q; attrs = [] }; name = no_name }
 
-  tag_read : (tag : Tag) (close : List ℕ) → IsTag tag → Closes close
+  tag_read : (tag : Tag) (close : List ℕ) → IsLexedTag tag → Closes close
       → ((v text : List ℕ) (n : ℕ) → Reads (tag_goes_on (in_tag (named_tag tag.name) t (map attribute_made tag.attributes) v text n)) (tag.space ++ close) t)
       → Yields (after_less l at) (tag_written tag ++ close) t
   tag_read tag close h closes r =
@@ -75,14 +76,14 @@ module _ (l : Lexed) (at : ℕ) (t : Token) where
       (name_read k named.Element t tag.name _ h.named (attributes_stop tag.attributes tag.space close h.attributed h.ended closes)
       (λ p. attributes_read (named_tag tag.name) t tag.attributes [] l.value l.text l.number (tag.space ++ close) h.attributed (all_allowed tag.attributes) r))))
 
-pub start_yields : (l : Lexed) (at : ℕ) (tag : Tag) → IsTag tag → Yields (after_less l at) (tag_written tag ++ codes ">") (token.Start (tag_made at tag))
+pub start_yields : (l : Lexed) (at : ℕ) (tag : Tag) → IsLexedTag tag → Yields (after_less l at) (tag_written tag ++ codes ">") (token.Start (tag_made at tag))
 start_yields l at tag h =
     let t = token.Start (tag_made at tag) in
     tag_read l at t tag (codes ">") h refl
     (λ v text n. close_read (in_tag (named_tag l at t tag.name) t (map attribute_made tag.attributes) v text n) t tag.space 0x3E [] h.ended greater_legal greater_apart
     (refl, refl, record { between = refl; plain = refl }, refl))
 
-pub empty_yields : (l : Lexed) (at : ℕ) (tag : Tag) → IsTag tag → Yields (after_less l at) (tag_written tag ++ codes "/>") (token.Empty (tag_made at tag))
+pub empty_yields : (l : Lexed) (at : ℕ) (tag : Tag) → IsLexedTag tag → Yields (after_less l at) (tag_written tag ++ codes "/>") (token.Empty (tag_made at tag))
 empty_yields l at tag h =
     let t = token.Empty (tag_made at tag) in
     tag_read l at t tag (codes "/>") h refl

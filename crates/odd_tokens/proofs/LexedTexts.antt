@@ -7,7 +7,7 @@ use Rattle.std.specs.Char.{encode_utf8}
 use Rattle.std.specs.List.{list_all}
 use Rattle.std.specs.Str.{encode_utf8_all}
 use Rattle.odd_tokens.specs.Characters.{is_char}
-use Rattle.odd_tokens.specs.Lexing.{Lexed, brackets_before}
+use Rattle.odd_tokens.specs.Lexing.{Lexed, next, brackets_before}
 use Rattle.odd_tokens.specs.Tokens.{IsText, LacksPart}
 use Rattle.odd_tokens.specs.Lines.{lines_read}
 use Rattle.odd_tokens.specs.declared.lexer.State.TheVariants as state
@@ -58,26 +58,15 @@ module _ (l : Lexed) (plain : l.declares ≡ false) (opened : l.opening ≡ fals
 
   -- one more bracket
 
-  first_bracket : (b : Bool) (v : List ℕ) (c : ℕ) (cs : List ℕ) → c ≡ 0x5D → Ends 1 false v cs → Ends 0 b v (c ∷ cs)
-  unfolding is_char encode_utf8
-  first_bracket b v c cs same y =
+  bracket : (k j : ℕ) (b : Bool) (v w : List ℕ) (c : ℕ) (cs : List ℕ) → (c == 0x5D) ≡ true → ((at : ℕ) → next (in_cdata k b v) at c ≡ Some (in_cdata j false w, None))
+      → w ++ brackets_before j ≡ (v ++ brackets_before k) ++ codes "]" → Ends j false w cs → Ends k b v (c ∷ cs)
+  unfolding encode_utf8
+  bracket k j b v w c cs is step e y =
       let x = encode_utf8_all (lines_seen false cs) in
-      let e : (v ++ codes "]") ++ x ≡ (v ++ []) ++ (0x5D ∷ x) = simp (append-nil, append_assoc) in
-      subst (λ d. Ends 0 b v (d ∷ cs)) (sym same) (subst (λ w. Yields (in_cdata 0 b v) (0x5D ∷ (cs ++ codes "]]>")) (token.Cdata w)) e (stepped (λ at. refl) y))
-
-  second_bracket : (v : List ℕ) (c : ℕ) (cs : List ℕ) → c ≡ 0x5D → Ends 2 false v cs → Ends 1 false v (c ∷ cs)
-  unfolding is_char encode_utf8
-  second_bracket v c cs same y =
-      let x = encode_utf8_all (lines_seen false cs) in
-      let e : (v ++ codes "]]") ++ x ≡ (v ++ codes "]") ++ (0x5D ∷ x) = simp append_assoc in
-      subst (λ d. Ends 1 false v (d ∷ cs)) (sym same) (subst (λ w. Yields (in_cdata 1 false v) (0x5D ∷ (cs ++ codes "]]>")) (token.Cdata w)) e (stepped (λ at. refl) y))
-
-  third_bracket : (v : List ℕ) (c : ℕ) (cs : List ℕ) → c ≡ 0x5D → Ends 2 false (v ++ 0x5D ∷ []) cs → Ends 2 false v (c ∷ cs)
-  unfolding is_char encode_utf8
-  third_bracket v c cs same y =
-      let x = encode_utf8_all (lines_seen false cs) in
-      let e : ((v ++ codes "]") ++ codes "]]") ++ x ≡ (v ++ codes "]]") ++ (0x5D ∷ x) = simp append_assoc in
-      subst (λ d. Ends 2 false v (d ∷ cs)) (sym same) (subst (λ w. Yields (in_cdata 2 false v) (0x5D ∷ (cs ++ codes "]]>")) (token.Cdata w)) e (stepped (λ at. refl) y))
+      let joined : (w ++ brackets_before j) ++ x ≡ (v ++ brackets_before k) ++ (0x5D ∷ x) = ap (λ z. z ++ x) e ∙ append_assoc (v ++ brackets_before k) (codes "]") x in
+      let seen : (v ++ brackets_before k) ++ (0x5D ∷ x) ≡ (v ++ brackets_before k) ++ encode_utf8_all (lines_seen b (c ∷ cs)) =
+      ap (λ d. (v ++ brackets_before k) ++ encode_utf8_all (lines_seen b (d ∷ cs))) (sym (eqb-true c 0x5D is)) in
+      subst (λ z. Yields (in_cdata k b v) (c ∷ (cs ++ codes "]]>")) (token.Cdata z)) (joined ∙ seen) (stepped step y)
 
   abbrev Lacks : List ℕ → Type 0
   Lacks cs = LacksPart (codes "]]>") cs
@@ -88,7 +77,7 @@ module _ (l : Lexed) (plain : l.declares ≡ false) (opened : l.opening ≡ fals
     none_kept (c ∷ cs) b v h i =
         let both = and_parts (is_char c) (list_all is_char cs) h in
         decide (c == 0x5D)
-        (λ e. let same : c ≡ 0x5D = eqb-true c 0x5D e in first_bracket b v c cs same (one_kept cs v both.1 (subst Lacks (with_first c 0x5D cs same) i)))
+        (λ e. bracket 0 1 b v v c cs e (λ at. cond-true _ _ _ both.0 ∙ cond-true _ _ _ e) (simp append-nil) (one_kept cs v both.1 (subst Lacks (with_first c 0x5D cs (eqb-true c 0x5D e)) i)))
         (λ e. kept_then 0 b v c cs both.0 e (and_right (c == 0x3E) false refl) (none_kept cs (c == 0xD) _ both.1 (lacks_later (codes "]]>") c cs i)))
 
     one_kept : (cs : List ℕ) (v : List ℕ) → IsText cs → Lacks (0x5D ∷ cs) → Ends 1 false v cs
@@ -96,7 +85,7 @@ module _ (l : Lexed) (plain : l.declares ≡ false) (opened : l.opening ≡ fals
     one_kept (c ∷ cs) v h i =
         let both = and_parts (is_char c) (list_all is_char cs) h in
         decide (c == 0x5D)
-        (λ e. let same : c ≡ 0x5D = eqb-true c 0x5D e in second_bracket v c cs same (two_kept cs v both.1 (subst (λ x. Lacks (0x5D ∷ x)) (with_first c 0x5D cs same) i)))
+        (λ e. bracket 1 2 false v v c cs e (λ at. cond-true _ _ _ both.0 ∙ cond-true _ _ _ e) (simp append_assoc) (two_kept cs v both.1 (subst (λ x. Lacks (0x5D ∷ x)) (with_first c 0x5D cs (eqb-true c 0x5D e)) i)))
         (λ e. kept_then 1 false v c cs both.0 e (and_right (c == 0x3E) false refl)
         (none_kept cs (c == 0xD) _ both.1 (lacks_later (codes "]]>") c cs (lacks_later (codes "]]>") 0x5D (c ∷ cs) i))))
 
@@ -107,7 +96,8 @@ module _ (l : Lexed) (plain : l.declares ≡ false) (opened : l.opening ≡ fals
         let later : Lacks (0x5D ∷ c ∷ cs) = lacks_later (codes "]]>") 0x5D (0x5D ∷ c ∷ cs) i in
         let apart : (c == 0x3E) ≡ false = false_from_ne_true _ (λ e. i [] cs (ap (λ x. 0x5D ∷ 0x5D ∷ x) (with_first c 0x3E cs (eqb-true c 0x3E e)))) in
         decide (c == 0x5D)
-        (λ e. let same : c ≡ 0x5D = eqb-true c 0x5D e in third_bracket v c cs same (two_kept cs (v ++ 0x5D ∷ []) both.1 (subst (λ x. Lacks (0x5D ∷ x)) (with_first c 0x5D cs same) later)))
+        (λ e. bracket 2 2 false v (v ++ 0x5D ∷ []) c cs e (λ at. cond-true _ _ _ both.0 ∙ cond-true _ _ _ e) (simp append_assoc)
+        (two_kept cs (v ++ 0x5D ∷ []) both.1 (subst (λ x. Lacks (0x5D ∷ x)) (with_first c 0x5D cs (eqb-true c 0x5D e)) later)))
         (λ e. kept_then 2 false v c cs both.0 e (and_left (c == 0x3E) true apart) (none_kept cs (c == 0xD) _ both.1 (lacks_later (codes "]]>") c cs (lacks_later (codes "]]>") 0x5D (c ∷ cs) later))))
 
   pub cdata_yields : (cs : List ℕ) → IsText cs → LacksPart (codes "]]>") cs → Yields (in_cdata 0 false []) (cs ++ codes "]]>") (token.Cdata (encode_utf8_all (lines_read cs)))

@@ -11,7 +11,7 @@ use Rattle.odd_tokens.specs.declared.lexer.ReferencePart.TheVariants as ref
 use Rattle.odd_tokens.specs.declared.lexer.State.TheVariants as state
 use Rattle.odd_tokens.specs.declared.token.Token.{Token}
 use Rattle.odd_tokens.specs.declared.token.Token.TheVariants as token
-use Rattle.odd_tokens.proofs.Lexes.{IsIdle, Lexes}
+use Rattle.odd_tokens.proofs.Lexes.{IsIdle, IsLexed, Lexes}
 use Rattle.odd_tokens.proofs.Lexes.Lexes.{last, more}
 use Rattle.odd_tokens.proofs.LexedComments.{comment_yields}
 use Rattle.odd_tokens.proofs.LexedInstructions.{instruction_read}
@@ -91,7 +91,7 @@ end_takes l at name space h =
     let e : written.name_written name ++ (space ++ codes ">") ≡ (written.name_written name ++ space) ++ codes ">" = sym (append_assoc (written.name_written name) space (codes ">")) in
     less_takes l at _ _ (subst (λ cs. Yields (after_less l at) (0x2F ∷ cs) (token_made at (written.end_tag name space))) e (end_yields l at name space h.0 h.1))
 
-pub idle_takes : (l : Lexed) (at : ℕ) (t : written.Token) → written.IsToken t → (l.opening ≡ true → at ≡ 0 → t ≢ written.character 0xFEFF)
+pub idle_takes : (l : Lexed) (at : ℕ) (t : written.Token) → IsLexed t → (l.opening ≡ true → at ≡ 0 → t ≢ written.character 0xFEFF)
     → Takes (idle l) at (written.token_written t) (token_made at t)
 idle_takes l at (written.character c) h mark = character_takes l at c h mark
 idle_takes l at (written.referred r) h mark = reference_takes l at r h

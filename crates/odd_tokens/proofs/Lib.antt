@@ -51,3 +51,4 @@ pub mod OneMore
 pub mod ReferencesLexed
 pub mod TagsLexed
 pub mod TextsLexed
+pub mod Unfinished

@@ -1,11 +1,12 @@
 -- One more character of a text.
-use Rattle.std.proofs.Common.{◌≡◌, ◌≢◌, ℕ, Bool, true, List, [], ◌∷◌, ◌++◌, refl, ap, ◌∙◌, append-nil}
+use Rattle.std.proofs.Common.{◌≡◌, ◌≢◌, ℕ, ◌≤◌, Bool, true, false, List, [], ◌∷◌, ◌++◌, length, arith, refl, ap, ◌∙◌, append-nil}
 use Rattle.std.proofs.lemmas.Bool.{and_parts, and_from}
-use Rattle.std.proofs.lemmas.Str.{encodes-append}
+use Rattle.std.proofs.lemmas.Str.{encodes-append, length-le-encodes}
 use Rattle.std.specs.List.{list_all}
 use Rattle.std.specs.Prelude.{encode_utf8}
 use Rattle.std.specs.Str.{encode_utf8_all}
 use Rattle.odd_tokens.specs.Characters.{is_name_char, is_ncname}
+use Rattle.odd_tokens.specs.Lexing.{is_empty}
 
 pub not_empty : (cs : List ℕ) (c : ℕ) → cs ++ c ∷ [] ≢ []
 not_empty [] c e = cc
@@ -21,3 +22,11 @@ ncname_more (x ∷ xs) c a b = and_from _ _ (and_parts _ _ a).0 (list_all_more i
 
 pub encoded_more : (cs : List ℕ) (c : ℕ) → encode_utf8_all (cs ++ c ∷ []) ≡ encode_utf8_all cs ++ encode_utf8 c
 encoded_more cs c = encodes-append cs (c ∷ []) ∙ ap (λ bs. encode_utf8_all cs ++ bs) (append-nil (encode_utf8 c))
+
+-- a text with a character has a byte
+pub some_encoded : (c : ℕ) (cs : List ℕ) → is_empty (encode_utf8_all (c ∷ cs)) ≡ false
+some_encoded c cs = some (encode_utf8_all (c ∷ cs)) (omega (arith, length-le-encodes (c ∷ cs)))
+  where
+    some : (bytes : List ℕ) → 1 ≤ length bytes → is_empty bytes ≡ false
+    some [] h = absurd (omega arith)
+    some (b ∷ bytes) h = refl

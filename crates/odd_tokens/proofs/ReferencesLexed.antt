@@ -1,11 +1,11 @@
 -- A written reference ends at its first semicolon, and its inside tells which it is.
-use Rattle.std.proofs.Common.{◌≡◌, ℕ, Bool, true, false, not, ◌==◌, if◌then◌else◌, List, [], ◌∷◌, ◌++◌, sym, refl, ap, ◌∙◌, append_assoc, codes, arith}
+use Rattle.std.proofs.Common.{◌≡◌, ℕ, Bool, true, not, ◌==◌, if◌then◌else◌, List, [], ◌∷◌, ◌++◌, sym, refl, ap, ◌∙◌, append_assoc, codes}
 use Rattle.std.proofs.lemmas.Bool.{and_parts}
-use Rattle.std.proofs.lemmas.Bool.Decides.{nat_tests}
 use Rattle.std.specs.List.{list_all}
 use Rattle.odd_tokens.specs.Same.{is_same}
 use Rattle.odd_tokens.specs.Tokens.{Reference, lt, gt, amp, apos, quot, decimal, hexadecimal, IsReference, is_decimal_digit, is_hexadecimal_digit, reference_written}
 use Rattle.odd_tokens.proofs.Fronts.{same_front, all_weaker}
+use Rattle.odd_tokens.proofs.LexedNumbers.{decimal_base, hexadecimal_base, decimal_no_x}
 
 -- what stands between `&` and `;`
 abbrev inside : Reference → List ℕ
@@ -29,20 +29,14 @@ written_inside (hexadecimal digits) more = simp append_assoc
 abbrev is_no_semicolon : ℕ → Bool
 is_no_semicolon c = not (c == 0x3B)
 
-decimal_no_semicolon : (d : ℕ) → is_decimal_digit d ≡ true → is_no_semicolon d ≡ true
-decimal_no_semicolon d h = grind (arith, nat_tests)
-
-hexadecimal_no_semicolon : (d : ℕ) → is_hexadecimal_digit d ≡ true → is_no_semicolon d ≡ true
-hexadecimal_no_semicolon d h = grind (arith, nat_tests)
-
 no_semicolon : (r : Reference) → IsReference r → list_all is_no_semicolon (inside r) ≡ true
 no_semicolon lt h = refl
 no_semicolon gt h = refl
 no_semicolon amp h = refl
 no_semicolon apos h = refl
 no_semicolon quot h = refl
-no_semicolon (decimal digits) h = all_weaker is_decimal_digit is_no_semicolon decimal_no_semicolon digits h.1
-no_semicolon (hexadecimal digits) h = all_weaker is_hexadecimal_digit is_no_semicolon hexadecimal_no_semicolon digits h.1
+no_semicolon (decimal digits) h = all_weaker is_decimal_digit is_no_semicolon (λ d k. ap not (decimal_base.no_mark d k)) digits h.1
+no_semicolon (hexadecimal digits) h = all_weaker is_hexadecimal_digit is_no_semicolon (λ d k. ap not (hexadecimal_base.no_mark d k)) digits h.1
 
 -- the reference that has this inside
 abbrev numbered : List ℕ → Reference
@@ -53,9 +47,6 @@ numbered (c ∷ d ∷ ds) = if d == 0x78 then hexadecimal ds else decimal (d ∷
 abbrev decoded : List ℕ → Reference
 decoded cs = if is_same cs (codes "lt") then lt else (if is_same cs (codes "gt") then gt else (if is_same cs (codes "amp") then amp
     else (if is_same cs (codes "apos") then apos else (if is_same cs (codes "quot") then quot else numbered cs))))
-
-decimal_no_x : (d : ℕ) → is_decimal_digit d ≡ true → (d == 0x78) ≡ false
-decimal_no_x d h = grind (arith, nat_tests)
 
 decoded-inside : (r : Reference) → IsReference r → decoded (inside r) ≡ r
 decoded-inside lt h = refl

@@ -1,4 +1,4 @@
--- How the lexer goes from character to character: what the lexer's functions say. The contract of `read_tree` is in other words.
+-- How the lexer goes from character to character: what its private functions say. Its contract is in other words (specs/Unfinished.antt).
 use Rattle.std.specs.Prelude.{◌≡◌, ℕ, ◌+◌, ◌*◌, Bool, true, false, ◌&&◌, ◌||◌, ◌==◌, not, if◌then◌else◌, List, [], ◌∷◌, ◌++◌, length, Option, Some, None, Result, MatchResult, codes, nat_le, nat_lt, encode_utf8, string_bytes}
 use Rattle.std.specs.Char.{digit_value}
 use Rattle.std.specs.Str.{str_eq_ignore_ascii_case}

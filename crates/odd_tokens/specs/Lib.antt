@@ -6,4 +6,6 @@ pub mod Making
 pub mod Openings
 pub mod Same
 pub mod Tokens
+pub mod Unfinished
 pub mod Values
+pub mod Whole

@@ -1,4 +1,4 @@
--- What each token of a file gives to the tree: what the proofs say of the lexer. The contract of `read_tree` is in other words.
+-- What each token of a file gives to the tree.
 use Rattle.std.specs.Prelude.{ℕ, map}
 use Rattle.std.specs.Str.{encode_utf8_all}
 use Rattle.odd_tokens.specs.Values.{value_read}

@@ -1,6 +1,7 @@
-ghost use Rattle.std.specs.Prelude.{◌≡◌, ◌↔◌, ℕ, ◌<◌, ◌≤◌, IsTrue, IfOk, OnOk};
-ghost use Rattle.odd_tokens.specs.Lexing.{Follows, base_of as a_base_of, before_equals as a_before_equals, before_quote as a_before_quote, between as a_between, cdata as a_cdata, cdata_letter as a_cdata_letter, cdata_open as a_cdata_open, cdata_text as a_cdata_text, entity_named, comment as a_comment, comment_dash as a_comment_dash, digit as a_digit, done as a_done, end_attribute as an_end_attribute, end_digits as an_end_digits, end_letters as an_end_letters, end_space as an_end_space, exclamation as an_exclamation, fresh_tag, go as a_go, instruction as an_instruction, less as a_less, letter as a_letter, lexed, name_begins as a_name_begins, name_goes_on as a_name_goes_on, named_in, next, no_name, question as a_question, reference as a_reference, referred as a_referred, slash as a_slash, started, tag_goes_on as a_tag_goes_on, tag_space as a_tag_space, target as a_target, target_question as a_target_question, value as a_value};
-ghost use Rattle.odd_tokens.specs.declared.lexer.State.TheVariants as state;
+ghost use Rattle.std.specs.Prelude.{◌≡◌, ◌≢◌, ◌↔◌, ℕ, ◌<◌, ◌≤◌, Bool, true, List, [], IsTrue, IfOk, IfErr, IfSome, IfNone, OnOk};
+ghost use Rattle.odd_tokens.specs.Lexing.{Follows, base_of as a_base_of, before_equals as a_before_equals, before_quote as a_before_quote, between as a_between, cdata as a_cdata, cdata_letter as a_cdata_letter, cdata_open as a_cdata_open, cdata_text as a_cdata_text, entity_named, comment as a_comment, comment_dash as a_comment_dash, digit as a_digit, done as a_done, end_attribute as an_end_attribute, end_digits as an_end_digits, end_letters as an_end_letters, end_space as an_end_space, exclamation as an_exclamation, fresh_tag, go as a_go, instruction as an_instruction, less as a_less, letter as a_letter, lexed, name_begins as a_name_begins, name_goes_on as a_name_goes_on, named_in, next_in, no_name, question as a_question, reference as a_reference, referred as a_referred, slash as a_slash, tag_goes_on as a_tag_goes_on, tag_space as a_tag_space, target as a_target, target_question as a_target_question, value as a_value};
+ghost use Rattle.odd_tokens.specs.Unfinished.{Ends, GoesOn, NoneBegins, Reads, With};
+ghost use Rattle.odd_tokens.specs.declared.lexer.Fault.TheVariants as fault;
 
 use crate::character::{is_char, is_space};
 use crate::declaration::is_declaration;
@@ -205,7 +206,7 @@ fn cdata_letter(letters: u8) -> char
 impl Lexer {
     /// A lexer that stands at the beginning of a file.
     pub fn new(alloc: Global) -> Lexer
-        ensures { lexed result ≡ started }
+        ensures { (at : ℕ) → Reads result true at [] }
     {
         Lexer {
             alloc,
@@ -224,27 +225,36 @@ impl Lexer {
 
     /// Whether no token is unfinished.
     pub fn is_between(&self) -> bool
-        ensures { IsTrue result ↔ (self.now.state ≡ state.Between) }
+        ensures { (fresh : Bool) (at : ℕ) (read : List ℕ) → Reads self.now fresh at read → IsTrue result ↔ (read ≡ []) }
     {
         self.state == State::Between
     }
 
     /// The byte where the unfinished token begins, or the last one began.
     pub fn begin(&self) -> u64
-        ensures { result ≡ self.now.begin }
+        ensures { (fresh : Bool) (at : ℕ) (read : List ℕ) → Reads self.now fresh at read → read ≢ [] → result ≡ at }
     {
         self.begin
     }
 
     /// Takes the character that begins at a byte, and gives the token that it ends.
     pub fn take(&mut self, at: u64, c: char) -> Taken
-        ensures { Follows (next (lexed self.old) at c) result (lexed self.new) }
+        ensures unfinished { IfOk result (λ given. IfNone given (With self.old at c (GoesOn (Reads self.new)))) }
+        ensures ended { IfOk result (λ given. IfSome given (λ made. With self.old at c (Ends (Reads self.new) made))) }
+        ensures malformed { IfErr result (λ e. e ≡ fault.Malformed → With self.old at c NoneBegins) }
+    {
+        if !is_char(c) {
+            return Err(Fault::Malformed);
+        }
+        self.take_legal(at, c)
+    }
+
+    // Takes a character of XML.
+    fn take_legal(&mut self, at: u64, c: char) -> Taken
+        ensures { Follows (next_in (lexed self.old).state (lexed self.old) at c) result (lexed self.new) }
     {
         if self.state == State::Between {
             self.begin = at;
-        }
-        if !is_char(c) {
-            return Err(Fault::Malformed);
         }
         match self.state {
             State::Between => self.between(at, c),

@@ -17,10 +17,10 @@ add_pattern-returns-in_ok-add_attribute-in-Ref t c =
     let o = c.args.out.now in
     let name = c.in-Ref.name in
     on_ok_weaker c.end_empty_tag.result
-    (λ e. empty_tag o (codes "ref") ((codes "name", name) ∷ []) c.begin_tag.new.out c.add_attribute.new.out c.end_empty_tag.new.out c.in_ok-begin_tag-in-Ref.ensures
-    (one_attribute c.begin_tag.new.out (codes "name") name c.add_attribute.new.out (c.in_ok-add_attribute-in-Ref.ensures ∙ ap (λ v. c.begin_tag.new.out ++ attribute (codes "name") v) c.as_str.ensures)) e
+    (λ e. empty_tag o (codes "ref") ((codes "name", name) ∷ []) c.begin_tag.new.out c.add_attribute.new.out c.end_empty_tag.new.out c.in_ok-begin_tag-in-Ref.ensures.ok
+    (one_attribute c.begin_tag.new.out (codes "name") name c.add_attribute.new.out (c.in_ok-add_attribute-in-Ref.ensures.ok ∙ ap (λ v. c.begin_tag.new.out ++ attribute (codes "name") v) c.as_str.ensures)) e
     ∙ ap (λ m. o ++ printed m) (sym (ap pattern_markup c.in-Ref.is ∙ ref_is name)))
-    c.end_empty_tag.ensures
+    c.end_empty_tag.ensures.ok
 
 pub add_pattern-returns-in_ok-add_patterns-in-Choice : goal.add_pattern-returns-in_ok-add_patterns-in-Choice
 add_pattern-returns-in_ok-add_patterns-in-Choice t c =
@@ -30,9 +30,9 @@ add_pattern-returns-in_ok-add_patterns-in-Choice t c =
     let some : parts ≡ [] → ⊥ = λ p. let h = c.is_empty.ensures.1 p in let f = c.if-is_empty.false in cc in
     on_ok_weaker c.add_end_tag.result
     (λ e. full o (codes "choice") [] (map pattern_markup parts) (λ p. some (none_of pattern_markup parts p)) o1 o1 c.end_start_tag.new.out c.add_patterns.new.out c.add_end_tag.new.out
-    c.in_ok-begin_tag-in-Choice.ensures (sym (append-nil o1)) c.in_ok-end_start_tag-in-Choice.ensures c.in_ok-add_patterns-in-Choice.ensures e
+    c.in_ok-begin_tag-in-Choice.ensures.ok (sym (append-nil o1)) c.in_ok-end_start_tag-in-Choice.ensures.ok c.in_ok-add_patterns-in-Choice.ensures e
     ∙ ap (λ m. o ++ printed m) (sym (ap pattern_markup c.in-Choice.is ∙ choice_is parts)))
-    c.add_end_tag.ensures
+    c.add_end_tag.ensures.ok
 
 pub add_patterns-loop-pattern-preserved : goal.add_patterns-loop-pattern-preserved
 add_patterns-loop-pattern-preserved t c =

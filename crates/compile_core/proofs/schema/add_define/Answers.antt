@@ -12,7 +12,7 @@ returns c =
     let name = c.args.define.now.name in
     on_ok_weaker c.add_end_tag.result
     (full_of_one o (codes "define") ((codes "name", name) ∷ []) (body_markup c.args.define.now.body) o1 o2 c.end_start_tag.new.out c.add_body.new.out c.add_end_tag.new.out
-    c.in_ok-begin_tag.ensures
-    (one_attribute o1 (codes "name") name o2 (c.in_ok-add_attribute.ensures ∙ ap (λ v. o1 ++ attribute (codes "name") v) c.as_str.ensures))
-    c.in_ok-end_start_tag.ensures c.in_ok-add_body.ensures)
-    c.add_end_tag.ensures
+    c.in_ok-begin_tag.ensures.ok
+    (one_attribute o1 (codes "name") name o2 (c.in_ok-add_attribute.ensures.ok ∙ ap (λ v. o1 ++ attribute (codes "name") v) c.as_str.ensures))
+    c.in_ok-end_start_tag.ensures.ok c.in_ok-add_body.ensures)
+    c.add_end_tag.ensures.ok

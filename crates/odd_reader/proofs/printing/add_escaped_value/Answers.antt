@@ -1,14 +1,18 @@
-use Rattle.std.proofs.Common.{◌++◌, ◌∙◌, ap, arith}
-use Rattle.std.proofs.lemmas.Iterator.{YieldsList-from_chars}
-use Rattle.std.proofs.lemmas.Iterator.Consumers.{YieldsList-end}
+use Rattle.std.proofs.Common.{rules, encode_utf8}
+use Rattle.std.specs.Str.Iter.{chars_rest}
 use Rattle.odd_reader.specs.Markup.{escaped_value_char}
-use Rattle.odd_reader.proofs.Escapes.{one_more, all_of}
+use Rattle.odd_reader.proofs.PutsFront.{none_put, more_put, front_put, all_put}
 use Rattle.odd_reader.proofs.printing.add_escaped_value.Goals as goal
 
-pub loop-c-preserved : goal.loop-c-preserved
-loop-c-preserved c = grind (arith, one_more escaped_value_char c.args.out.now c.loop-c.yielded c.in-Some.c)
+pub loop-c-init : goal.loop-c-init
+loop-c-init c = none_put escaped_value_char cc
 
-pub returns : goal.returns
-returns c =
-    let t = YieldsList-end (YieldsList-from_chars c.args.value.now c.utf8.value cc) c.loop-c.yielded _ c.loop-c.yielded_by _ _ c.in-None.is c.next.ensures.steps in
-    c.loop-c.invariant ∙ ap (λ x. c.args.out.now ++ x) (all_of escaped_value_char c.loop-c.yielded c.args.value.now c.utf8.value t.0)
+pub loop-c-preserved : goal.loop-c-preserved
+loop-c-preserved c = more_put escaped_value_char (encode_utf8 c.in-Some.c) c.loop-c.invariant c.in-Some.ensures.steps.0 c.in_ok-add_value_character.ensures.ok
+
+pub returns-clause-ok : goal.returns-clause-ok
+returns-clause-ok c = all_put escaped_value_char c.loop-c.invariant c.in-None.ensures.steps.0.0
+
+pub returns-in_err-add_value_character-clause-err : goal.returns-in_err-add_value_character-clause-err
+returns-in_err-add_value_character-clause-err c =
+    let front = front_put escaped_value_char (encode_utf8 c.in-Some.c) (chars_rest c.next.new.self) c.loop-c.invariant c.in-Some.ensures.steps.0 c.in_err-add_value_character.ensures.err in search rules

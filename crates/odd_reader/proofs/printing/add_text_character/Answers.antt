@@ -4,5 +4,5 @@ use Rattle.std.proofs.lemmas.Str.{encode_ascii}
 use Rattle.odd_reader.proofs.Escapes.{kept_in_text}
 use Rattle.odd_reader.proofs.printing.add_text_character.Goals as goal
 
-pub returns-in_default : goal.returns-in_default
-returns-in_default c = grind (arith, nat_tests, encode_ascii c.args.c, kept_in_text c.args.c)
+pub returns-in_default-clause-ok : goal.returns-in_default-clause-ok
+returns-in_default-clause-ok c = grind (arith, nat_tests, encode_ascii c.args.c, kept_in_text c.args.c)
