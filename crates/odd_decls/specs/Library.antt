@@ -1,6 +1,7 @@
 -- The library of one ODD file.
-use Rattle.std.specs.Prelude.{◌≡◌, List, [], ◌∷◌, Option, Some, None, if◌then◌else◌, codes, unwrap_or, IsTrue}
+use Rattle.std.specs.Prelude.{◌≡◌, ℕ, ◌-◌, List, [], ◌∷◌, ◌++◌, length, replicate, take, Option, Some, None, if◌then◌else◌, codes, unwrap_or, IsTrue}
 use Rattle.std.specs.Ordering.{eq_by_cmp}
+use Rattle.std.specs.Int.{w64, from_be_bytes}
 use Rattle.std.specs.FinMap.{find, is_sorted}
 use Rattle.odd_base.specs.Key.{key_cmp}
 use Rattle.odd_base.specs.declared.key.Key.{Key}
@@ -42,3 +43,7 @@ pub record IsEmptyLibrary (library : Library) : Type 0 where
   pub ident : library.ident ≡ codes "bare"
   pub start : library.start ≡ codes "TEI" ∷ []
   pub holds : library.parts ≡ []
+
+-- the first eight bytes of a text as a number, the first of them the highest, and zeros after a shorter text
+unfoldable pub front_of : List ℕ → ℕ
+front_of text = from_be_bytes w64 (take 8 text ++ replicate (8 - length text) 0)

@@ -3,7 +3,7 @@ ghost use Rattle.std.specs.Option.{option_copied};
 ghost use Rattle.std.specs.FinMap.{find, is_sorted};
 ghost use Rattle.odd_base.specs.Key.{key_cmp};
 ghost use Rattle.odd_base.specs.declared.key.Key.{Key as AKey};
-ghost use Rattle.odd_decls.specs.Library.{IsEmptyLibrary, IsLibraryOf, entry_at, last_of};
+ghost use Rattle.odd_decls.specs.Library.{IsEmptyLibrary, IsLibraryOf, entry_at, front_of, last_of};
 ghost use Rattle.odd_decls.specs.Odd.{key_of as the_key_of};
 ghost use Rattle.odd_decls.specs.Reading.{DeclareTheSame};
 
@@ -100,17 +100,31 @@ pub fn library_of(alloc: Global, doc: &OddDoc) -> Result<Library, NoMemory>
     })
 }
 
-// The entries in the order of their idents, each beside its ident, which a comparison then reads at once. All are of
-// one kind so far, and so each is put at the end.
-fn by_ident<'a>(alloc: Global, entries: &'a [Entry]) -> Result<Vec<(&'a str, &'a Entry)>, NoMemory>
+// The entries in the order of their idents, each beside the front of its ident, by which most comparisons are decided
+// with no look at the texts. All are of one kind so far, and so each is put at the end.
+fn by_ident<'a>(alloc: Global, entries: &'a [Entry]) -> Result<Vec<(u64, &'a Entry)>, NoMemory>
     ensures { IfOk result (λ sorted. DeclareTheSame entries.entry.now (map (λ p. p.1.now) sorted.items)) }
 {
     let mut sorted = Vec::new(alloc);
     for entry in entries {
-        sorted.push((key_of(entry).ident.as_str(), entry))?;
+        sorted.push((front(key_of(entry).ident.as_str()), entry))?;
     }
-    sorted.sort_by(|one, other| one.0.cmp(other.0))?;
+    sorted.sort_by(|one, other| {
+        (one.0, &key_of(one.1).ident).cmp(&(other.0, &key_of(other.1).ident))
+    })?;
     Ok(sorted)
+}
+
+// The first eight bytes of a text as a number: of two texts with other fronts the lesser has the lesser front.
+#[tactic(auto, unfolding(crate::specs::Library::front_of))]
+fn front(text: &str) -> u64
+    ensures { result ≡ front_of text.now }
+{
+    let bytes = text.as_bytes();
+    let shown = bytes.len().min(8);
+    let mut front = [0; 8];
+    front[..shown].copy_from_slice(&bytes[..shown]);
+    u64::from_be_bytes(front)
 }
 
 // The key of what an entry declares.
