@@ -10,4 +10,6 @@ mod making;
 #[cfg(test)]
 mod outside;
 #[cfg(test)]
+mod typed;
+#[cfg(test)]
 mod values;
