@@ -12,12 +12,16 @@ writes files into FOLDER (a new one under /tmp where none is given):
 - a root with 200,000 attributes.
 
 Then it runs `PROGRAM compile FILE` and `xmllint --noout FILE` in turn, five times each, and prints the least processor time
-(user and system) in seconds, and the greatest memory in MB. The program compiles the first and the declarations, and
-answers the others with code 10 or 2. The last file goes to PROGRAM alone: xmllint compares its attributes in pairs, for
-many minutes.
+(user and system) in seconds, the greatest memory in MB, how many times the file that is, and how many times xmllint's time
+and memory the program takes. The program compiles the first and the declarations, and answers the others with code 10 or
+2. The last file goes to PROGRAM alone: xmllint compares its attributes in pairs, for many minutes.
+
+GNU time (Debian's package `time`) starts each run and tells its memory: the peak of a program that this interpreter starts
+counts what the interpreter held.
 """
 import os
 import random
+import shutil
 import sys
 import tempfile
 
@@ -81,26 +85,18 @@ def wide_file():
     return f"<wide{attributes}/>\n"
 
 
-def write(path, make):
-    """Writes a file in a process of its own: the peak of a run counts what its parent holds."""
-    child = os.fork()
-    if child == 0:
-        with open(path, "wb") as out:
-            out.write(make().encode("utf-8"))
-        os._exit(0)
-    os.waitpid(child, 0)
-
-
 def run(words):
     """The processor time in seconds, the peak memory in MB and the exit code of one run."""
-    child = os.fork()
-    if child == 0:
-        null = os.open(os.devnull, os.O_RDWR)
-        for stream in (0, 1, 2):
-            os.dup2(null, stream)
-        os.execvp(words[0], words)
-    _, status, usage = os.wait4(child, 0)
-    return usage.ru_utime + usage.ru_stime, usage.ru_maxrss / 1024, os.waitstatus_to_exitcode(status)
+    with tempfile.NamedTemporaryFile("r") as told:
+        child = os.fork()
+        if child == 0:
+            null = os.open(os.devnull, os.O_RDWR)
+            for stream in (0, 1, 2):
+                os.dup2(null, stream)
+            os.execvp("time", ["time", "-f", "%M", "-o", told.name, *words])
+        _, status, usage = os.wait4(child, 0)
+        memory = int(told.read().split()[-1])
+    return usage.ru_utime + usage.ru_stime, memory / 1024, os.waitstatus_to_exitcode(status)
 
 
 FILES = (
@@ -117,12 +113,16 @@ FILES = (
 def main():
     if len(sys.argv) not in (2, 3):
         sys.exit(__doc__)
+    for needed in ("time", "xmllint"):
+        if not shutil.which(needed):
+            sys.exit(f"{needed} is needed")
     program = sys.argv[1]
     folder = sys.argv[2] if len(sys.argv) == 3 else tempfile.mkdtemp(prefix="odd-bench-")
     os.makedirs(folder, exist_ok=True)
     for name, make, beside in FILES:
         path = os.path.join(folder, name)
-        write(path, make)
+        with open(path, "w", encoding="utf-8", newline="") as file:
+            file.write(make())
         size = os.path.getsize(path)
         print(f"{name}: {size} bytes")
         readers = [[program, "compile", path]]
@@ -132,11 +132,14 @@ def main():
         for _ in range(RUNS):
             for which, words in enumerate(readers):
                 runs[which].append(run(words))
-        for which, words in enumerate(readers):
-            seconds = min(r[0] for r in runs[which])
-            memory = max(r[1] for r in runs[which])
-            codes = sorted({r[2] for r in runs[which]})
-            print(f"  {os.path.basename(words[0])}: {seconds:.3f} s, {memory:.0f} MB, {memory * 1048576 / size:.1f} times the file, codes {codes}", flush=True)
+        least = [min(r[0] for r in each) for each in runs]
+        most = [max(r[1] for r in each) for each in runs]
+        for words, each, seconds, memory in zip(readers, runs, least, most):
+            codes = sorted({r[2] for r in each})
+            print(f"  {os.path.basename(words[0])}: {seconds:.3f} s, {memory:.0f} MB, {memory * 1048576 / size:.1f} times the file, codes {codes}")
+        if beside:
+            print(f"  against xmllint: {least[0] / least[1]:.2f} times the time, {most[0] / most[1]:.2f} times the memory")
+        sys.stdout.flush()
 
 
 if __name__ == "__main__":
