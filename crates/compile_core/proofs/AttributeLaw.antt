@@ -2,14 +2,23 @@
 use Rattle.std.proofs.Common.{◌≡◌, ◌↔◌, ℕ, List, [], ◌∷◌, refl, subst, sym}
 use Rattle.std.proofs.lemmas.List.Elements.{All-nil, All-head}
 use Rattle.odd_reader.specs.declared.tree.Attr.{Attr}
+use Rattle.odd_reader.proofs.InList.{nothing_stands}
 use Rattle.odd_decls.specs.declared.library.Library.{Library}
-use Rattle.odd_decls.proofs.Standing.{nothing_stands}
+use Rattle.odd_meaning.specs.Admission.{offers_of}
+use Rattle.odd_meaning.specs.Offers.{AreOffered, IsOffered}
 use Rattle.compile_core.specs.Acceptance.{AreMatched, HasRule}
-use Rattle.compile_core.specs.Admission.{AreOffered}
+
+-- without offers, and without rules, no attribute is there
+none_offered : (attrs : List Attr) → AreOffered [] attrs → attrs ≡ []
+none_offered [] o = refl
+none_offered (a ∷ rest) o = let h = All-head (IsOffered []) a rest o.offered in absurd (nothing_stands h.0 h.1)
 
 none_ruled : (attrs : List Attr) → AreMatched [] attrs → attrs ≡ []
 none_ruled [] m = refl
 none_ruled (a ∷ rest) m = let h = All-head (HasRule []) a rest m.ruled in absurd (nothing_stands h.0 h.1)
 
-pub attribute_law : (library : Library) (ident : List ℕ) (attrs : List Attr) → AreOffered library ident attrs ↔ AreMatched [] attrs
-attribute_law library ident attrs = (λ e. subst (AreMatched []) (sym e) (record { ruled = All-nil _; complete = All-nil _ }), none_ruled attrs)
+pub attribute_law : (library : Library) (ident : List ℕ) (attrs : List Attr) → AreOffered (offers_of library ident) attrs ↔ AreMatched [] attrs
+attribute_law library ident attrs = (
+  λ o. subst (AreMatched []) (sym (none_offered attrs o)) (record { ruled = All-nil _; complete = All-nil _ }),
+  λ m. subst (AreOffered []) (sym (none_ruled attrs m)) (record { offered = All-nil _; complete = All-nil _ }),
+)

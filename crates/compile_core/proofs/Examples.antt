@@ -1,5 +1,5 @@
 -- Small documents, libraries, grammars and schemas: what the definitions say of them, where they hold and where they don't.
-use Rattle.std.proofs.Common.{◌≡◌, ℕ, suc, Bool, true, false, not, ◌||◌, List, [], ◌∷◌, ◌++◌, filter, map, Some, None, ◌⊎◌, inl, inr, refl, sym, ap, subst, ◌∙◌, codes, rules}
+use Rattle.std.proofs.Common.{◌≡◌, ℕ, suc, Bool, true, false, not, ◌||◌, List, [], ◌∷◌, ◌++◌, filter, map, Some, None, ◌⊎◌, inl, inr, ⊎_elim, refl, sym, ap, subst, ◌∙◌, codes, rules}
 use Rattle.std.specs.Prelude.{All, IsTrue}
 use Rattle.std.specs.FinMap.{find}
 use Rattle.std.specs.List.{list_all, list_any}
@@ -15,26 +15,29 @@ use Rattle.odd_reader.specs.declared.tree.Node as N
 use Rattle.odd_reader.specs.declared.tree.Tree.{Tree, out-Tree, roll-Tree}
 use Rattle.odd_reader.specs.declared.tree.Tree as T
 use Rattle.odd_tokens.proofs.Distinct.{none_twice}
-use Rattle.odd_decls.specs.declared.content.Content.{Content}
-use Rattle.odd_decls.specs.declared.content.Content.TheVariants as content
+use Rattle.odd_content.specs.declared.content.Content.{Content}
+use Rattle.odd_content.specs.declared.content.Content.TheVariants as content
 use Rattle.odd_decls.specs.declared.library.Component.{Component}
 use Rattle.odd_decls.specs.declared.library.Component.TheVariants as component
 use Rattle.odd_decls.specs.declared.library.ElementPart.{ElementPart}
 use Rattle.odd_decls.specs.declared.library.Library.{Library}
-use Rattle.odd_decls.specs.Odd.{StandsIn, element_key, elements_of, tei, tei_namespace}
-use Rattle.odd_decls.proofs.Elements.{element_shown}
-use Rattle.odd_decls.proofs.Examples.{attribute}
-use Rattle.odd_decls.proofs.Named.{is_name}
-use Rattle.odd_decls.proofs.Standing.{first_or_later, nothing_stands}
+use Rattle.odd_decls.specs.Odd.{element_key}
+use Rattle.odd_forms.specs.Names.{tei, tei_namespace}
+use Rattle.odd_reader.specs.Elements.{StandsIn, elements_of, given}
+use Rattle.odd_reader.proofs.AmongChildren.{element_shown}
+use Rattle.odd_forms.proofs.Named.{is_name}
+use Rattle.odd_reader.proofs.InList.{first_or_later, nothing_stands}
 use Rattle.compile_core.specs.Acceptance.{Accepts, AreMatched, HasRule, IsAcceptedWithin, IsMatched, IsThere}
 use Rattle.compile_core.specs.Acceptance as acceptance
-use Rattle.compile_core.specs.Admission.{Admits, IsAdmitted, IsValid, IsValidBy, IsValidWithin, name_in_documents}
-use Rattle.compile_core.specs.Admission as admission
-use Rattle.compile_core.specs.Children.{IsSignificant, Marking, beside_elements, blank, depth, is_blank, is_element, whole}
+use Rattle.odd_meaning.specs.Admission.{Admits, IsValid, IsValidBy, IsValidWithin, counting, name_in_documents}
+use Rattle.odd_meaning.specs.Contents as contents
+use Rattle.odd_meaning.specs.Labels.{Label}
+use Rattle.odd_meaning.specs.Offers.{AreOffered, IsOffered}
+use Rattle.odd_reader.specs.Significant.{IsSignificant, Marking, beside_elements, blank, depth, is_blank, is_element, whole}
 use Rattle.compile_core.specs.Denoting.{IsElementOf, IsLinked, RefersTo, StandsFor, here, inside, relax_ng}
 use Rattle.compile_core.specs.Denoting as denoting
 use Rattle.compile_core.specs.Grammar.{plain}
-use Rattle.compile_core.specs.Schema.{choice_of, component_define, reference_to}
+use Rattle.compile_core.specs.Schema.{IsWritten, choice_of, component_define, reference_to}
 use Rattle.compile_core.specs.declared.grammar.AttrPart.TheVariants as attributes
 use Rattle.compile_core.specs.declared.grammar.AttrRule.{AttrRule}
 use Rattle.compile_core.specs.declared.grammar.Body.TheVariants as body
@@ -52,6 +55,10 @@ words = Text (codes "some words")
 
 abbrev space : Node
 space = Text (codes " \n")
+
+-- an attribute without a namespace
+abbrev attribute : List ℕ → List ℕ → Attr
+attribute local value = record { name = record { ns = []; local = local }; value = value }
 
 -- an element of TEI's
 abbrev element : List ℕ → List Attr → List Node → Tree
@@ -158,90 +165,97 @@ holding_part ident part = record { ident = codes "s"; start = ident ∷ []; part
 abbrev holding : List ℕ → Content → Library
 holding ident k = holding_part ident (part_in tei_namespace k)
 
+-- nothing is offered, and no attribute is there
+none_there : AreOffered [] []
+none_there = record { offered = All-nil _; complete = All-nil _ }
+
 -- what an element `a` with these children needs to be valid for the held `a`
 valid : (k : Content) (children kept : List Node) (levels : ℕ) → depth (element (codes "a") [] children) ≡ suc levels → IsSignificant children kept
-    → IsAdmitted (IsValidWithin levels (holding (codes "a") k)) k kept → IsValid (holding (codes "a") k) (element (codes "a") [] children) (codes "a")
+    → contents.Admits (counting (IsValidWithin levels (holding (codes "a") k))) k kept → IsValid (holding (codes "a") k) (element (codes "a") [] children) (codes "a")
 valid k children kept levels e s m =
     subst (λ n. IsValidWithin n (holding (codes "a") k) (element (codes "a") [] children) (codes "a")) (sym e)
-    (record { part = part_in tei_namespace k; held = refl; named = refl; attributed = refl; children = kept; significant = s; admitted = m })
+    (record { part = part_in tei_namespace k; held = refl; named = refl; attributed = none_there; children = kept; significant = s; admitted = m })
 
 -- and what it tells where it is
-opened : (library : Library) (t : Tree) (ident : List ℕ) (levels : ℕ) → depth t ≡ suc levels → IsValid library t ident → IsValidBy (IsValidWithin levels library) library t ident
+opened : (library : Library) (t : Tree) (ident : List ℕ) (levels : ℕ) → depth t ≡ suc levels → IsValid library t ident → IsValidBy (counting (IsValidWithin levels library)) library t ident
 opened library t ident levels e v = subst (λ n. IsValidWithin n library t ident) e v
 
 -- the held `a`, and its content
 abbrev part_of : Component → ElementPart
 part_of (component.Element part) = part
 
-the_part : (part : ElementPart) (t : Tree) (counts : Marking) (v : IsValidBy counts (holding_part (codes "a") part) t (codes "a")) → part ≡ v.part
+the_part : (part : ElementPart) (t : Tree) (counts : Marking Label) (v : IsValidBy counts (holding_part (codes "a") part) t (codes "a")) → part ≡ v.part
 the_part part t counts v =
     let e : Some (component.Element part) ≡ Some (component.Element v.part) = v.held in
     ap part_of (same_Some _ _ e)
 
-the_content : (k : Content) (t : Tree) (counts : Marking) (v : IsValidBy counts (holding (codes "a") k) t (codes "a")) → k ≡ v.part.content
+the_content : (k : Content) (t : Tree) (counts : Marking Label) (v : IsValidBy counts (holding (codes "a") k) t (codes "a")) → k ≡ v.part.content
 the_content k t counts v = ap (λ (p : ElementPart). p.content) (the_part (part_in tei_namespace k) t counts v)
+
+-- so its content admits the significant children
+kept_admitted : (k : Content) (t : Tree) (counts : Marking Label) (v : IsValidBy counts (holding (codes "a") k) t (codes "a")) → contents.Admits counts k v.children
+kept_admitted k t counts v = subst (λ c. contents.Admits counts c v.children) (sym (the_content k t counts v)) v.admitted
 
 -- empty content: no child and white space, no words, no element
 empty_without_children : IsValid (holding (codes "a") content.Empty) (element (codes "a") [] []) (codes "a")
-empty_without_children = valid content.Empty [] [] 0 (childless_depth (codes "a") []) none_counts admission.empty
+empty_without_children = valid content.Empty [] [] 0 (childless_depth (codes "a") []) none_counts refl
 
 empty_with_space : IsValid (holding (codes "a") content.Empty) (element (codes "a") [] (space ∷ [])) (codes "a")
-empty_with_space = valid content.Empty (space ∷ []) [] 0 (space_depth (codes "a") []) space_is_passed admission.empty
-
-empty_admits_none : (counts : Marking) (k : Content) (kept : List Node) → k ≡ content.Empty → IsAdmitted counts k kept → kept ≡ []
-empty_admits_none counts k kept e admission.empty = refl
-empty_admits_none counts k kept e (admission.text h) = cc
+empty_with_space = valid content.Empty (space ∷ []) [] 0 (space_depth (codes "a") []) space_is_passed refl
 
 empty_with_words : IsValid (holding (codes "a") content.Empty) (element (codes "a") [] (words ∷ [])) (codes "a") → ⊥
 empty_with_words v =
     let o = opened _ _ _ 0 (words_depth (codes "a") []) v in
-    let none = empty_admits_none _ o.part.content o.children (sym (the_content content.Empty _ _ o)) o.admitted in
+    let none : o.children ≡ [] = kept_admitted content.Empty _ _ o in
     let one = words_count _ o.children refl o.significant in
     cc
 
 empty_with_element : IsValid (holding (codes "a") content.Empty) branch (codes "a") → ⊥
 empty_with_element v =
     let o = opened _ _ _ 1 branch_depth v in
-    let none = empty_admits_none _ o.part.content o.children (sym (the_content content.Empty _ _ o)) o.admitted in
+    let none : o.children ≡ [] = kept_admitted content.Empty _ _ o in
     let one = leaf_alone_counts _ o.children refl o.significant in
     cc
 
 -- texts: no child, white space and words, and no element
 text_without_children : IsValid (holding (codes "a") content.Text) (element (codes "a") [] []) (codes "a")
-text_without_children = valid content.Text [] [] 0 (childless_depth (codes "a") []) none_counts (admission.text refl)
+text_without_children = valid content.Text [] [] 0 (childless_depth (codes "a") []) none_counts refl
 
 text_with_space : IsValid (holding (codes "a") content.Text) (element (codes "a") [] (space ∷ [])) (codes "a")
-text_with_space = valid content.Text (space ∷ []) (space ∷ []) 0 (space_depth (codes "a") []) space_counts (admission.text space_alone)
+text_with_space = valid content.Text (space ∷ []) (space ∷ []) 0 (space_depth (codes "a") []) space_counts space_alone
 
 text_with_words : IsValid (holding (codes "a") content.Text) (element (codes "a") [] (words ∷ [])) (codes "a")
-text_with_words = valid content.Text (words ∷ []) (words ∷ []) 0 (words_depth (codes "a") []) (whole words_alone) (admission.text words_alone)
-
-texts_admit_no_element : (counts : Marking) (k : Content) (kept : List Node) → kept ≡ Element leaf ∷ [] → IsAdmitted counts k kept → ⊥
-texts_admit_no_element counts k kept e admission.empty = cc
-texts_admit_no_element counts k kept e (admission.text h) = false≢true (sym h ∙ ap (list_any is_element) e ∙ ap (λ b. b || false) leaf_element)
+text_with_words = valid content.Text (words ∷ []) (words ∷ []) 0 (words_depth (codes "a") []) (whole words_alone) words_alone
 
 text_with_element : IsValid (holding (codes "a") content.Text) branch (codes "a") → ⊥
 text_with_element v =
     let o = opened _ _ _ 1 branch_depth v in
-    texts_admit_no_element _ o.part.content o.children (leaf_alone_counts _ o.children refl o.significant) o.admitted
+    let none : list_any is_element o.children ≡ false = kept_admitted content.Text _ _ o in
+    let one = leaf_alone_counts _ o.children refl o.significant in
+    false≢true (sym none ∙ ap (list_any is_element) one ∙ ap (λ b. b || false) leaf_element)
 
 -- for no content an attribute, or another name
 with_attribute : (k : Content) → IsValid (holding (codes "a") k) (element (codes "a") (attribute (codes "n") [] ∷ []) []) (codes "a") → ⊥
-with_attribute k v = let e : attribute (codes "n") [] ∷ [] ≡ [] = (opened _ _ _ 0 (childless_depth (codes "a") (attribute (codes "n") [] ∷ [])) v).attributed in cc
+with_attribute k v =
+    let o = opened _ _ _ 0 (childless_depth (codes "a") (attribute (codes "n") [] ∷ [])) v in
+    let h = All-head (IsOffered []) (attribute (codes "n") []) [] o.attributed.offered in
+    nothing_stands h.0 h.1
 
 with_another_name : (k : Content) → IsValid (holding (codes "a") k) leaf (codes "a") → ⊥
 with_another_name k v = let e : codes "b" ≡ codes "a" = ap (λ n. n.local) (opened _ _ _ 0 (childless_depth (codes "b") []) v).named in false≢true (ap (λ name. is_same name (codes "a")) e)
 
--- each content admits no child
-no_child_admitted : (counts : Marking) (k : Content) → IsAdmitted counts k []
-no_child_admitted counts content.Empty = admission.empty
-no_child_admitted counts content.Text = admission.text refl
+-- each content that is written admits no child
+no_child_admitted : (counts : Marking Label) (k : Content) → IsWritten k → contents.Admits counts k []
+no_child_admitted counts k w = ⊎_elim (λ e. subst Childless (sym e) refl) (λ e. subst Childless (sym e) refl) w
+  where
+    Childless : Content → Type 0
+    Childless c = contents.Admits counts c []
 
 -- in the namespace of its part, whichever that is, an element is valid, and in another one it is not
-in_its_namespace : (ns : List ℕ) (k : Content) → IsValid (holding_part (codes "a") (part_in ns k)) (bare ns (codes "a")) (codes "a")
-in_its_namespace ns k =
+in_its_namespace : (ns : List ℕ) (k : Content) → IsWritten k → IsValid (holding_part (codes "a") (part_in ns k)) (bare ns (codes "a")) (codes "a")
+in_its_namespace ns k w =
     subst (λ n. IsValidWithin n (holding_part (codes "a") (part_in ns k)) (bare ns (codes "a")) (codes "a")) (sym (bare_depth ns (codes "a")))
-    (record { part = part_in ns k; held = refl; named = refl; attributed = refl; children = []; significant = none_counts; admitted = no_child_admitted _ k })
+    (record { part = part_in ns k; held = refl; named = refl; attributed = none_there; children = []; significant = none_counts; admitted = no_child_admitted _ k w })
 
 in_another_namespace : (ns other : List ℕ) (k : Content) → (other ≡ ns → ⊥) → IsValid (holding_part (codes "a") (part_in ns k)) (bare other (codes "a")) (codes "a") → ⊥
 in_another_namespace ns other k apart v =
@@ -281,7 +295,7 @@ first_of_two = record {
   word = codes "a";
   among = ([], codes "b" ∷ [], refl);
   valid = subst (λ n. IsValidWithin n of_two (bare (codes "urn:x") (codes "a")) (codes "a")) (sym (bare_depth (codes "urn:x") (codes "a")))
-      (record { part = part_in (codes "urn:x") content.Empty; held = refl; named = refl; attributed = refl; children = []; significant = none_counts; admitted = admission.empty });
+      (record { part = part_in (codes "urn:x") content.Empty; held = refl; named = refl; attributed = none_there; children = []; significant = none_counts; admitted = refl });
 }
 
 second_of_two : Admits of_two of_two.start leaf
@@ -289,11 +303,11 @@ second_of_two = record {
   word = codes "b";
   among = (codes "a" ∷ [], [], refl);
   valid = subst (λ n. IsValidWithin n of_two leaf (codes "b")) (sym (childless_depth (codes "b") []))
-      (record { part = part_in tei_namespace content.Empty; held = refl; named = refl; attributed = refl; children = []; significant = none_counts; admitted = admission.empty });
+      (record { part = part_in tei_namespace content.Empty; held = refl; named = refl; attributed = none_there; children = []; significant = none_counts; admitted = refl });
 }
 
 -- what is valid for one of the two has its ident and its part's namespace
-named_as_held : (part : ElementPart) (ident word : List ℕ) (t : Tree) (counts : Marking) → word ≡ ident → find key_cmp (element_key ident) of_two.parts ≡ Some (component.Element part)
+named_as_held : (part : ElementPart) (ident word : List ℕ) (t : Tree) (counts : Marking Label) → word ≡ ident → find key_cmp (element_key ident) of_two.parts ≡ Some (component.Element part)
     → IsValidBy counts of_two t word → (out-Tree t).name ≡ name_in_documents ident part
 named_as_held part ident word t counts e held v =
     let o : IsValidBy counts of_two t ident = subst (IsValidBy counts of_two t) e v in
@@ -361,21 +375,21 @@ branch_accepted = acceptance.reference refl (subst (λ n. IsAcceptedWithin n nes
 }))
 
 -- a reference matches one element and nothing else
-matched_one : (counts : Marking) (p : Expr) (name : List ℕ) (children : List Node) → p ≡ expr.Ref name → IsMatched counts p children → (t : Tree) × (children ≡ Element t ∷ []) × counts t name
+matched_one : (counts : Marking (List ℕ)) (p : Expr) (name : List ℕ) (children : List Node) → p ≡ expr.Ref name → IsMatched counts p children → (t : Tree) × (children ≡ Element t ∷ []) × counts t name
 matched_one counts p name children e acceptance.empty = cc
 matched_one counts p name children e (acceptance.text h) = cc
 matched_one counts p name children e (acceptance.reference {name = other} {t = t} h m) = let same : other ≡ name = cc in (t, h, subst (counts t) same m)
 matched_one counts p name children e (acceptance.choice f s m) = cc
 
 -- `notAllowed` matches nothing
-nothing_matched : (counts : Marking) (p : Expr) (children : List Node) → p ≡ expr.NotAllowed → IsMatched counts p children → ⊥
+nothing_matched : (counts : Marking (List ℕ)) (p : Expr) (children : List Node) → p ≡ expr.NotAllowed → IsMatched counts p children → ⊥
 nothing_matched counts p children e acceptance.empty = cc
 nothing_matched counts p children e (acceptance.text h) = cc
 nothing_matched counts p children e (acceptance.reference h m) = cc
 nothing_matched counts p children e (acceptance.choice f s m) = cc
 
 -- a choice of nothing and texts matches words
-words_chosen : (counts : Marking) → IsMatched counts (expr.Choice (expr.NotAllowed ∷ expr.Text ∷ [])) (words ∷ [])
+words_chosen : (counts : Marking (List ℕ)) → IsMatched counts (expr.Choice (expr.NotAllowed ∷ expr.Text ∷ [])) (words ∷ [])
 words_chosen counts = acceptance.choice refl (expr.NotAllowed ∷ [], [], refl) (acceptance.text words_alone)
 
 -- attributes: one that is needed is there, and each has a rule
@@ -572,7 +586,7 @@ schema_stands = record {
   linked = linked;
 }
   where
-    no_datatypes : (value : List ℕ) → denoting.given schema (codes "datatypeLibrary") ≡ Some value → ⊥
+    no_datatypes : (value : List ℕ) → given schema (codes "datatypeLibrary") ≡ Some value → ⊥
     no_datatypes value e = let n : None ≡ Some value = e in cc
 
 -- a `grammar` without `start` stands for nothing

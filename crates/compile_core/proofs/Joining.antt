@@ -5,32 +5,29 @@ use Rattle.odd_base.specs.Key.{key_cmp}
 use Rattle.odd_base.specs.KeyOrder.{key_total, key_exact}
 use Rattle.odd_base.specs.declared.key.Key.{Key}
 use Rattle.odd_reader.specs.declared.tree.Tree.{Tree, out-Tree}
-use Rattle.odd_reader.specs.declared.tree.Node.{Node}
-use Rattle.odd_decls.specs.Odd.{StandsIn, element_key}
+use Rattle.odd_decls.specs.Odd.{element_key}
+use Rattle.odd_reader.specs.Elements.{StandsIn}
+use Rattle.odd_reader.specs.Significant.{Marking}
 use Rattle.odd_decls.specs.declared.library.Component.{Component}
 use Rattle.odd_decls.specs.declared.library.Component.TheVariants as component
 use Rattle.odd_decls.specs.declared.library.ElementPart.{ElementPart}
 use Rattle.odd_decls.specs.declared.library.Library.{Library}
-use Rattle.compile_core.specs.Acceptance.{AreMatched, IsAcceptedBy, IsAcceptedWithin, IsInClass, IsMatched, empty, text, reference, choice}
-use Rattle.compile_core.specs.Admission.{IsValidBy, IsValidWithin, name_in_documents}
-use Rattle.compile_core.specs.Children.{Marking}
+use Rattle.odd_meaning.specs.Admission.{IsValidBy, IsValidWithin, counting, name_in_documents}
+use Rattle.odd_meaning.specs.Labels.{Label}
+use Rattle.compile_core.specs.Acceptance.{AreMatched, IsAcceptedBy, IsAcceptedWithin, IsInClass, IsMatched}
 use Rattle.compile_core.specs.Compiled.{content_pattern, definition_of, element_definition, grammar_of}
-use Rattle.compile_core.specs.Schema.{IsFormed, define_name}
+use Rattle.compile_core.specs.Schema.{AreWritten, IsFormed, define_name}
 use Rattle.compile_core.specs.declared.grammar.AttrPart.TheVariants as attributes
 use Rattle.compile_core.specs.declared.grammar.Body.TheVariants as body
 use Rattle.compile_core.specs.declared.grammar.Define.{Define}
-use Rattle.compile_core.specs.declared.grammar.Expr.{Expr}
 use Rattle.compile_core.specs.declared.grammar.NameClass.TheVariants as class
 use Rattle.compile_core.proofs.AttributeLaw.{attribute_law}
-use Rattle.compile_core.proofs.ContentLaw.{ByDefine, content_law}
+use Rattle.compile_core.proofs.ContentLaw.{content_law, held_written}
 use Rattle.compile_core.proofs.Standing.{found, held_stands, map_stands, stands_map}
 
--- what is matched under a marking is matched under one that marks more
-pub matched_under : {a b : Marking} → ((t : Tree) (name : List ℕ) → a t name → b t name) → {p : Expr} {children : List Node} → IsMatched a p children → IsMatched b p children
-matched_under more empty = empty
-matched_under more (text h) = text h
-matched_under more (reference {name = name} {t = t} e m) = reference e (more t name m)
-matched_under more (choice e s m) = choice e s (matched_under more m)
+-- an element counts for the define of each held element that it counts for
+abbrev pub ByDefine : Marking (List ℕ) → Marking (List ℕ)
+ByDefine valid t name = (ident : List ℕ) × (name ≡ define_name ident) × valid t ident
 
 -- defines of two idents have two names
 pub one_name : (a b : List ℕ) → define_name b ≡ define_name a → a ≡ b
@@ -57,10 +54,10 @@ held_defined : (library : Library) (ident : List ℕ) (part : ElementPart) → f
 held_defined library ident part e =
     map_stands definition_of library.parts (element_key ident, component.Element part) (held_stands key_cmp key_total key_exact (element_key ident) _ library.parts e)
 
-module _ (library : Library) (start : List (List ℕ)) (f : IsFormed library) where
-  -- a step of the induction, from markings that agree on the children
-  module _ (valid accepted : Marking) (to : (t : Tree) (name : List ℕ) → ByDefine valid t name → accepted t name) (from : (t : Tree) (name : List ℕ) → accepted t name → ByDefine valid t name) where
-    valid_accepted : (t : Tree) (ident : List ℕ) → IsValidBy valid library t ident → IsAcceptedBy accepted (grammar_of library start) t (define_name ident)
+module _ (library : Library) (start : List (List ℕ)) (f : IsFormed library) (w : AreWritten library) where
+  -- a step of the induction, from any two markings of the children
+  module _ (counts : Marking Label) (accepted : Marking (List ℕ)) where
+    valid_accepted : (t : Tree) (ident : List ℕ) → IsValidBy counts library t ident → IsAcceptedBy accepted (grammar_of library start) t (define_name ident)
     valid_accepted t ident v = record {
       names = class.One (name_in_documents ident v.part);
       rules = [];
@@ -70,10 +67,10 @@ module _ (library : Library) (start : List (List ℕ)) (f : IsFormed library) wh
       attributed = (attribute_law library ident (out-Tree t).attrs).0 v.attributed;
       children = v.children;
       significant = v.significant;
-      matched = matched_under to ((content_law valid v.part.content v.children).0 v.admitted);
+      matched = (content_law counts accepted v.part.content v.children (held_written library ident v.part w v.held)).0 v.admitted;
     }
 
-    accepted_valid : (t : Tree) (name : List ℕ) → IsAcceptedBy accepted (grammar_of library start) t name → ByDefine (IsValidBy valid library) t name
+    accepted_valid : (t : Tree) (name : List ℕ) → IsAcceptedBy accepted (grammar_of library start) t name → ByDefine (IsValidBy counts library) t name
     accepted_valid t name a =
         let d = defines_held library _ f a.defined in
         let named : name ≡ define_name d.ident = ap (λ (x : Define). x.name) d.is in
@@ -90,14 +87,13 @@ module _ (library : Library) (start : List (List ℕ)) (f : IsFormed library) wh
             attributed = (attribute_law library d.ident (out-Tree t).attrs).1 (subst (λ r. AreMatched r (out-Tree t).attrs) rules a.attributed);
             children = a.children;
             significant = a.significant;
-            admitted = (content_law valid d.part.content a.children).1 (matched_under from (subst (λ p. IsMatched accepted p a.children) content a.matched));
+            admitted = (content_law counts accepted d.part.content a.children (held_written library d.ident d.part w d.held)).1 (subst (λ p. IsMatched accepted p a.children) content a.matched);
           },
         )
 
   pub joined : (levels : ℕ) (t : Tree) (name : List ℕ) → ByDefine (IsValidWithin levels library) t name ↔ IsAcceptedWithin levels (grammar_of library start) t name
   joined zero t name = (λ v. v.2, λ a. absurd a)
   joined (suc levels) t name = (
-    λ v. subst (IsAcceptedWithin (suc levels) (grammar_of library start) t) (sym v.1)
-        (valid_accepted (IsValidWithin levels library) (IsAcceptedWithin levels (grammar_of library start)) (λ u n. (joined levels u n).0) (λ u n. (joined levels u n).1) t v.0 v.2),
-    accepted_valid (IsValidWithin levels library) (IsAcceptedWithin levels (grammar_of library start)) (λ u n. (joined levels u n).0) (λ u n. (joined levels u n).1) t name,
+    λ v. subst (IsAcceptedWithin (suc levels) (grammar_of library start) t) (sym v.1) (valid_accepted (counting (IsValidWithin levels library)) (IsAcceptedWithin levels (grammar_of library start)) t v.0 v.2),
+    accepted_valid (counting (IsValidWithin levels library)) (IsAcceptedWithin levels (grammar_of library start)) t name,
   )

@@ -1,20 +1,20 @@
 -- The depth of a tree is levels enough: within more levels an element is accepted, or valid, for the same names. So a child counts for what it is valid for.
-use Rattle.std.proofs.Common.{◌≡◌, ◌↔◌, ℕ, zero, suc, max, ◌<◌, ◌≤◌, fold, Bool, true, false, cond, List, [], ◌∷◌, filter, map, inl, inr, sym, subst, arith, rules}
+use Rattle.std.proofs.Common.{◌≡◌, ◌↔◌, ℕ, zero, suc, max, ◌<◌, ◌≤◌, fold, List, [], ◌∷◌, map, inl, inr, sym, subst, arith, rules}
 use Rattle.odd_reader.specs.declared.tree.Node.{Node, Element, fold-Node}
 use Rattle.odd_reader.specs.declared.tree.Node as N
 use Rattle.odd_reader.specs.declared.tree.Tree.{Tree, out-Tree}
 use Rattle.odd_reader.specs.declared.tree.Tree as T
-use Rattle.odd_decls.specs.Odd.{StandsIn}
-use Rattle.odd_decls.specs.declared.content.Content.{Content}
+use Rattle.odd_reader.specs.Elements.{StandsIn}
+use Rattle.odd_reader.specs.Significant.{IsSignificant, Marking, beside_elements, blank, depth, node_depth, tree_depth, whole}
 use Rattle.odd_decls.specs.declared.library.Library.{Library}
-use Rattle.odd_decls.proofs.Standing.{first_or_later, nothing_stands, stands_first, stands_later}
+use Rattle.odd_meaning.specs.Admission.{IsValid, IsValidWithin, counting}
+use Rattle.odd_reader.proofs.InList.{first_or_later, nothing_stands, stands_first}
 use Rattle.compile_core.specs.Acceptance.{IsAcceptedWithin, IsMatched, empty, text, reference, choice}
-use Rattle.compile_core.specs.Admission.{IsAdmitted, IsValid, IsValidWithin}
-use Rattle.compile_core.specs.Admission as admission
-use Rattle.compile_core.specs.Children.{IsSignificant, Marking, beside_elements, blank, depth, node_depth, tree_depth, whole}
+use Rattle.compile_core.specs.Schema.{AreWritten}
 use Rattle.compile_core.specs.declared.grammar.Expr.{Expr}
 use Rattle.compile_core.specs.declared.grammar.Grammar.{Grammar}
-use Rattle.compile_core.proofs.Standing.{map_stands}
+use Rattle.compile_core.proofs.ContentLaw.{content_law, held_written}
+use Rattle.compile_core.proofs.Standing.{filter_stands, map_stands}
 
 -- the greatest of some numbers is none less
 from_start : (start : ℕ) (ns : List ℕ) → start ≤ fold max start ns
@@ -47,32 +47,17 @@ child_less t u s =
     omega arith
 
 -- significant children are children
-filter_stands : (test : Node → Bool) (ns : List Node) (n : Node) → StandsIn (filter test ns) n → StandsIn ns n
-filter_stands test [] n s = s
-filter_stands test (x ∷ ns) n s = by (test x) (filter_stands test ns n) s
-  where
-    by : (b : Bool) → (StandsIn (filter test ns) n → StandsIn ns n) → StandsIn (cond b (x ∷ filter test ns) (filter test ns)) n → StandsIn (x ∷ ns) n
-    by true rest h = elim (first_or_later x n (filter test ns) h) [
-      | inl e ↦ subst (StandsIn (x ∷ ns)) (sym e) (stands_first x ns)
-      | inr later ↦ stands_later x n ns (rest later)
-    ]
-    by false rest h = stands_later x n ns (rest h)
-
 kept_stands : (all kept : List Node) (n : Node) → IsSignificant all kept → StandsIn kept n → StandsIn all n
 kept_stands all kept n (beside_elements h) s = filter_stands _ all n s
 kept_stands all kept n (blank b) s = absurd (nothing_stands n s)
 kept_stands all kept n (whole h) s = s
 
 -- what matches looks at the children alone
-matched_on : (a b : Marking) (p : Expr) (children : List Node) → ((u : Tree) (name : List ℕ) → StandsIn children (Element u) → a u name → b u name) → IsMatched a p children → IsMatched b p children
+matched_on : (a b : Marking (List ℕ)) (p : Expr) (children : List Node) → ((u : Tree) (name : List ℕ) → StandsIn children (Element u) → a u name → b u name) → IsMatched a p children → IsMatched b p children
 matched_on a b p children more empty = empty
 matched_on a b p children more (text h) = text h
 matched_on a b p children more (reference {name = name} {t = u} e m) = reference e (more u name (subst (λ ns. StandsIn ns (Element u)) (sym e) (stands_first (Element u) [])) m)
 matched_on a b p children more (choice {part = part} e s m) = choice e s (matched_on a b part children more m)
-
-admitted_on : (a b : Marking) (k : Content) (children : List Node) → IsAdmitted a k children → IsAdmitted b k children
-admitted_on a b k children admission.empty = admission.empty
-admitted_on a b k children (admission.text h) = admission.text h
 
 accepted_more : (m n : ℕ) (g : Grammar) (t : Tree) (name : List ℕ) → depth t ≤ m → depth t ≤ n → IsAcceptedWithin m g t name → IsAcceptedWithin n g t name
 accepted_more zero n g t name h k a = absurd a
@@ -94,18 +79,21 @@ accepted_more (suc m) (suc n) g t name h k a = record {
 pub accepted_enough : (n : ℕ) (g : Grammar) (t : Tree) (name : List ℕ) → depth t ≤ n → IsAcceptedWithin n g t name ↔ IsAcceptedWithin (depth t) g t name
 accepted_enough n g t name h = (accepted_more n (depth t) g t name h (omega arith), accepted_more (depth t) n g t name (omega arith) h)
 
-valid_more : (m n : ℕ) (library : Library) (t : Tree) (ident : List ℕ) → depth t ≤ m → depth t ≤ n → IsValidWithin m library t ident → IsValidWithin n library t ident
-valid_more zero n library t ident h k v = absurd v
-valid_more (suc m) zero library t ident h k v = let d = depth_is t in absurd (omega arith)
-valid_more (suc m) (suc n) library t ident h k v = record {
-  part = v.part;
-  held = v.held;
-  named = v.named;
-  attributed = v.attributed;
-  children = v.children;
-  significant = v.significant;
-  admitted = admitted_on (IsValidWithin m library) (IsValidWithin n library) v.part.content v.children v.admitted;
-}
+-- what a written content admits looks at no marking, so its pattern leads from one to the other
+valid_more : (m n : ℕ) (library : Library) (t : Tree) (ident : List ℕ) → AreWritten library → depth t ≤ m → depth t ≤ n → IsValidWithin m library t ident → IsValidWithin n library t ident
+valid_more zero n library t ident w h k v = absurd v
+valid_more (suc m) zero library t ident w h k v = let d = depth_is t in absurd (omega arith)
+valid_more (suc m) (suc n) library t ident w h k v =
+    let law = λ (levels : ℕ). content_law (counting (IsValidWithin levels library)) (λ u name. ⊥) v.part.content v.children (held_written library ident v.part w v.held) in
+    record {
+      part = v.part;
+      held = v.held;
+      named = v.named;
+      attributed = v.attributed;
+      children = v.children;
+      significant = v.significant;
+      admitted = (law n).1 ((law m).0 v.admitted);
+    }
 
-pub valid_enough : (n : ℕ) (library : Library) (t : Tree) (ident : List ℕ) → depth t ≤ n → IsValidWithin n library t ident ↔ IsValid library t ident
-valid_enough n library t ident h = (valid_more n (depth t) library t ident h (omega arith), valid_more (depth t) n library t ident (omega arith) h)
+pub valid_enough : (n : ℕ) (library : Library) (t : Tree) (ident : List ℕ) → AreWritten library → depth t ≤ n → IsValidWithin n library t ident ↔ IsValid library t ident
+valid_enough n library t ident w h = (valid_more n (depth t) library t ident w h (omega arith), valid_more (depth t) n library t ident w (omega arith) h)

@@ -6,8 +6,8 @@ use Rattle.std.specs.Ordering.{is_gt}
 use Rattle.std.specs.declared.cmp.Ordering.TheVariants.{Less, Equal, Greater}
 use Rattle.odd_base.specs.Text.{text_cmp}
 use Rattle.odd_decls.specs.declared.library.Library.{Library}
-use Rattle.odd_decls.proofs.SortedWords.{not_below, turned}
-use Rattle.odd_decls.proofs.Standing.{stands_push}
+use Rattle.odd_forms.proofs.OneSet.{not_below, turned}
+use Rattle.odd_reader.proofs.InList.{stands_push}
 use Rattle.compile_core.specs.Schema.{IsLeast, IsLeastMissing, IsMissing, lesser_of}
 
 module _ (library : Library) (words : List (List ℕ)) (v : List ℕ) where
@@ -33,19 +33,19 @@ module _ (library : Library) (words : List (List ℕ)) (v : List ℕ) where
     missing = missing;
     least = λ w a gone less. elim ((stands_push words v w).0 a) [
       | inl b ↦ none w b gone
-      | inr e ↦ not_below v (subst (λ x. text_cmp x v ≡ Less) (sym e) less)
+      | inr e ↦ not_below text_cmp nat_list_cmp_total v (subst (λ x. text_cmp x v ≡ Less) (sym e) less)
     ];
   }
   missing_more (Some other) is missing =
       elim (text_cmp other v) as (λ r. text_cmp other v ≡ r → IsLeastMissing library (words ++ v ∷ []) (cond (is_gt r) v other)) [
-        | Less ↦ λ p. kept (λ less. let back = turned v other Less p in cc)
-        | Equal ↦ λ p. kept (λ less. let back = turned v other Equal p in cc)
+        | Less ↦ λ p. kept (λ less. let back = turned text_cmp nat_list_cmp_total v other Less p in cc)
+        | Equal ↦ λ p. kept (λ less. let back = turned text_cmp nat_list_cmp_total v other Equal p in cc)
         | Greater ↦ λ p. record {
           among = (stands_push words v v).1 (inr refl);
           missing = missing;
           least = λ w a gone less. elim ((stands_push words v w).0 a) [
-            | inl b ↦ is.least w b gone (nat_list_cmp_total.trans w v other less (turned v other Greater p))
-            | inr e ↦ not_below v (subst (λ x. text_cmp x v ≡ Less) (sym e) less)
+            | inl b ↦ is.least w b gone (nat_list_cmp_total.trans w v other less (turned text_cmp nat_list_cmp_total v other Greater p))
+            | inr e ↦ not_below text_cmp nat_list_cmp_total v (subst (λ x. text_cmp x v ≡ Less) (sym e) less)
           ];
         }
       ] refl

@@ -14,7 +14,8 @@ use Rattle.compile_core.specs.declared.grammar.Expr.{Expr}
 use Rattle.compile_core.specs.declared.grammar.Expr.TheVariants as expr
 use Rattle.compile_core.specs.declared.grammar.Grammar.{Grammar}
 use Rattle.compile_core.specs.declared.grammar.NameClass.TheVariants as class
-use Rattle.compile_core.specs.Denoting.{IsPart, IsNamed, IsPattern, ArePatterns, HoldsPattern, IsElementOf, IsDefine, AreDefines, IsStart, StandsFor, entry_of, parts_of, given, empty, not_allowed, text, reference, choice, none, more}
+use Rattle.compile_core.specs.Denoting.{IsPart, IsNamed, IsPattern, ArePatterns, HoldsPattern, IsElementOf, IsDefine, AreDefines, IsStart, StandsFor, entry_of, parts_of, empty, not_allowed, text, reference, choice, none, more}
+use Rattle.odd_reader.specs.Elements.{given}
 
 -- an element has one name
 one_name : (t : Tree) (a b : List ℕ) (p q : List (List ℕ)) → IsPart a p t → IsPart b q t → a ≡ b

@@ -5,12 +5,12 @@ use Rattle.std.specs.FinMap.{find}
 use Rattle.odd_base.specs.Key.{key_cmp}
 use Rattle.odd_base.specs.declared.key.Key.{Key}
 use Rattle.odd_tokens.specs.Characters.{IsNCName}
-use Rattle.odd_decls.specs.declared.content.Content.{Content}
-use Rattle.odd_decls.specs.declared.content.Content.TheVariants as content
+use Rattle.odd_content.specs.declared.content.Content.{Content, Empty, Text}
 use Rattle.odd_decls.specs.declared.library.Component.{Component}
 use Rattle.odd_decls.specs.declared.library.Component.TheVariants as component
 use Rattle.odd_decls.specs.declared.library.Library.{Library}
-use Rattle.odd_decls.specs.Odd.{StandsIn, element_key}
+use Rattle.odd_decls.specs.Odd.{element_key}
+use Rattle.odd_reader.specs.Elements.{StandsIn}
 use Rattle.compile_core.specs.Compiled.{content_pattern, definition_of, grammar_of, reference, start_pattern}
 use Rattle.compile_core.specs.Denoting.{IsLinked, RefersTo, here, inside, content_of, names_of}
 use Rattle.compile_core.specs.Schema.{HoldsStart, IsFormed, define_name}
@@ -43,10 +43,12 @@ refers_choice name p parts e here = absurd (choice_no_ref parts name (sym e))
 refers_choice name p parts e (inside {part = part} is s r) = (part, subst (λ ps. StandsIn ps part) (same_parts _ parts (sym is ∙ e)) s, r)
 
 content_refers : (name : List ℕ) (c : Content) (p : Expr) → p ≡ content_pattern c → RefersTo name p → ⊥
-content_refers name content.Empty p e here = cc
-content_refers name content.Empty p e (inside is s r) = cc
-content_refers name content.Text p e here = cc
-content_refers name content.Text p e (inside is s r) = cc
+content_refers name Empty p e here = cc
+content_refers name Empty p e (inside is s r) = cc
+content_refers name Text p e here = cc
+content_refers name Text p e (inside is s r) = cc
+content_refers name _ p e here = cc
+content_refers name _ p e (inside is s r) = cc
 
 none_refers : (name : List ℕ) (p : Expr) → p ≡ expr.NotAllowed → RefersTo name p → ⊥
 none_refers name p e here = cc

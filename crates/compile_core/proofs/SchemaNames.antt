@@ -7,6 +7,7 @@ use Rattle.std.specs.List.{list_all}
 use Rattle.std.specs.Ordering.{is_lt}
 use Rattle.std.proofs.lemmas.Bool.{and_parts}
 use Rattle.std.proofs.lemmas.List.Elements.{All-head, All-tail}
+use Rattle.std.proofs.lemmas.Cmp.{nat_list_cmp_total}
 use Rattle.std.proofs.lemmas.Str.{encodes-append}
 use Rattle.odd_base.specs.Key.{key_cmp}
 use Rattle.odd_base.specs.KeyOrder.{key_total, key_exact}
@@ -21,12 +22,13 @@ use Rattle.odd_tokens.proofs.NamesLexed.{ncname_chars}
 use Rattle.odd_decls.specs.declared.library.Component.{Component}
 use Rattle.odd_decls.specs.declared.library.Component.TheVariants as component
 use Rattle.odd_decls.specs.declared.library.Library.{Library}
-use Rattle.odd_decls.specs.Odd.{StandsIn, element_key}
+use Rattle.odd_decls.specs.Odd.{element_key}
+use Rattle.odd_reader.specs.Elements.{StandsIn}
 use Rattle.compile_core.specs.declared.grammar.Define.{Define}
 use Rattle.compile_core.specs.Compiled.{definition_of}
 use Rattle.compile_core.specs.Denoting.{entry_of, names_of}
 use Rattle.compile_core.specs.Schema.{IsFormed, IsFormedPart, define_name}
-use Rattle.odd_decls.proofs.SortedWords.{not_below}
+use Rattle.odd_forms.proofs.OneSet.{not_below}
 use Rattle.compile_core.proofs.Standing.{each_stands, found, held_stands, is_less, map_stands}
 
 -- an ident makes a name
@@ -74,7 +76,7 @@ names_rise library f = sym (sorted_same library.parts (entries_formed library f)
 -- names that rise stand once each
 below_lacks : (name : List ℕ) (ds : List Define) → below_all text_cmp name (map entry_of ds) ≡ true → Lacks name (names_of ds)
 below_lacks name [] h = tt
-below_lacks name (d ∷ ds) h = (λ e. not_below name (ap (text_cmp name) (sym e) ∙ is_less _ (and_parts _ _ h).0), below_lacks name ds (and_parts _ _ h).1)
+below_lacks name (d ∷ ds) h = (λ e. not_below text_cmp nat_list_cmp_total name (ap (text_cmp name) (sym e) ∙ is_less _ (and_parts _ _ h).0), below_lacks name ds (and_parts _ _ h).1)
 
 rising_distinct : (ds : List Define) → IsTrue (is_sorted text_cmp (map entry_of ds)) → Distinct (names_of ds)
 rising_distinct [] h = tt

@@ -7,14 +7,13 @@ use Rattle.odd_tokens.specs.Characters.{IsNCName}
 use Rattle.odd_reader.specs.Markup.{Pair, Markup}
 use Rattle.odd_reader.specs.declared.tree.Tree.{Tree}
 use Rattle.odd_reader.proofs.PrintedTrees.{Shows}
-use Rattle.odd_decls.specs.declared.content.Content.{Content}
-use Rattle.odd_decls.specs.declared.content.Content.TheVariants as content
+use Rattle.odd_content.specs.declared.content.Content.{Content, Empty, Text}
 use Rattle.odd_decls.specs.declared.library.Component.{Component}
 use Rattle.odd_decls.specs.declared.library.Component.TheVariants as component
 use Rattle.odd_decls.specs.declared.library.Library.{Library}
-use Rattle.odd_decls.specs.Odd.{StandsIn}
+use Rattle.odd_reader.specs.Elements.{StandsIn, given}
 use Rattle.compile_core.specs.Compiled.{content_pattern, definition_of, reference, start_pattern}
-use Rattle.compile_core.specs.Denoting.{AreDefines, ArePatterns, IsDefine, IsElementOf, IsPattern, IsStart, given, parts_of}
+use Rattle.compile_core.specs.Denoting.{AreDefines, ArePatterns, IsDefine, IsElementOf, IsPattern, IsStart, parts_of}
 use Rattle.compile_core.specs.Denoting as denoting
 use Rattle.compile_core.specs.Grammar.{element_markup, plain, relax_ng_namespace, datatype_library}
 use Rattle.compile_core.specs.Schema.{choice_of, component_define, content_markup, define_name, reference_to}
@@ -47,12 +46,15 @@ name_alone name = All-cons (Allows (codes "name" ∷ [])) (codes "name", name) [
 
 -- a content
 content_shown : (c : Content) (t : Tree) → Shows relax_ng_namespace (content_markup c) t → IsPattern t (content_pattern c)
-content_shown content.Empty t s =
+content_shown Empty t s =
     let h = shown (codes "empty") [] [] t s in
     denoting.empty (is_part _ _ _ [] t h (no_attribute [])) (no_part (parts_of t) h.parts)
-content_shown content.Text t s =
+content_shown Text t s =
     let h = shown (codes "text") [] [] t s in
     denoting.text (is_part _ _ _ [] t h (no_attribute [])) (no_part (parts_of t) h.parts)
+content_shown _ t s =
+    let h = shown (codes "notAllowed") [] [] t s in
+    denoting.not_allowed (is_part _ _ _ [] t h (no_attribute [])) (no_part (parts_of t) h.parts)
 
 -- a reference
 reference_shown : (ident : List ℕ) (t : Tree) → IsNCName ident → Shows relax_ng_namespace (reference_to ident) t → IsPattern t (reference ident)

@@ -12,12 +12,11 @@ use Rattle.odd_reader.specs.Names.{xml_namespace, xmlns_namespace}
 use Rattle.odd_tokens.proofs.Distinct.{none_twice}
 use Rattle.odd_tokens.proofs.Legal.{ascii_legal, ncname_legal}
 use Rattle.odd_reader.proofs.PrintedTrees.{ArePlain, IsNamespace, IsPlain, IsPlainAttribute, IsPlainTag}
-use Rattle.odd_decls.specs.declared.content.Content.{Content}
-use Rattle.odd_decls.specs.declared.content.Content.TheVariants as content
+use Rattle.odd_content.specs.declared.content.Content.{Content, Empty, Text}
 use Rattle.odd_decls.specs.declared.library.Component.{Component}
 use Rattle.odd_decls.specs.declared.library.Component.TheVariants as component
 use Rattle.odd_decls.specs.declared.library.Library.{Library}
-use Rattle.odd_decls.proofs.Named.{is_name}
+use Rattle.odd_forms.proofs.Named.{is_name}
 use Rattle.compile_core.specs.Grammar.{all_of, relax_ng_namespace, datatype_library}
 use Rattle.compile_core.specs.Schema.{HoldsStart, IsFormed, choice_of, component_define, content_markup, define_name, reference_to}
 use Rattle.compile_core.proofs.SchemaLinked.{words_named}
@@ -64,8 +63,9 @@ relax_ng_bound = record {
 -- the elements
 
 content_plain : (c : Content) → IsPlain (content_markup c)
-content_plain content.Empty = (bare_tag (codes "empty") refl, tt)
-content_plain content.Text = (bare_tag (codes "text") refl, tt)
+content_plain Empty = (bare_tag (codes "empty") refl, tt)
+content_plain Text = (bare_tag (codes "text") refl, tt)
+content_plain _ = (bare_tag (codes "notAllowed") refl, tt)
 
 reference_plain : (ident : List ℕ) → IsNCName ident → IsPlain (reference_to ident)
 reference_plain ident n = (one_tag (codes "ref") (codes "name", define_name ident) refl (name_attribute (define_name ident) (define_ncname ident n)), tt)

@@ -7,9 +7,9 @@ use Rattle.odd_reader.specs.Markup.{Markup, Pair, element}
 use Rattle.odd_reader.specs.declared.tree.Tree.{Tree}
 use Rattle.odd_reader.proofs.PrintedTrees.{Shows}
 use Rattle.odd_decls.specs.declared.library.Library.{Library}
-use Rattle.odd_decls.specs.Odd.{StandsIn}
+use Rattle.odd_reader.specs.Elements.{StandsIn, given}
 use Rattle.compile_core.specs.Compiled.{definition_of, grammar_of}
-use Rattle.compile_core.specs.Denoting.{IsPart, StandsFor, given, parts_of}
+use Rattle.compile_core.specs.Denoting.{IsPart, StandsFor, parts_of}
 use Rattle.compile_core.specs.Grammar.{all_of, plain, relax_ng_namespace, datatype_library}
 use Rattle.compile_core.specs.Schema.{HoldsStart, IsFormed, choice_of, component_define, reference_to}
 use Rattle.compile_core.proofs.SchemaLinked.{is_linked, words_named}

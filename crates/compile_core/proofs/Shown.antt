@@ -11,10 +11,10 @@ use Rattle.odd_reader.specs.declared.tree.Node.{Node, out-Node, Element}
 use Rattle.odd_reader.specs.declared.tree.Node as N
 use Rattle.odd_reader.specs.declared.tree.Tree.{Tree, out-Tree}
 use Rattle.odd_reader.proofs.PrintedTrees.{AreLines, HasHead, Shows, attr_of, line_break}
-use Rattle.odd_decls.specs.Odd.{StandsIn, attribute_value, elements_of, shown_elements}
-use Rattle.odd_decls.proofs.Elements.{element_shown, text_shown}
-use Rattle.compile_core.specs.Children.{is_blank, is_element}
-use Rattle.compile_core.specs.Denoting.{IsPart, given, parts_of}
+use Rattle.odd_reader.specs.Elements.{StandsIn, attribute_value, elements_of, shown_elements, given}
+use Rattle.odd_reader.proofs.AmongChildren.{element_shown, text_shown}
+use Rattle.odd_reader.specs.Significant.{is_blank, is_element}
+use Rattle.compile_core.specs.Denoting.{IsPart, parts_of}
 use Rattle.compile_core.specs.Grammar.{all_of, relax_ng_namespace}
 
 -- the trees show the elements, one each in order

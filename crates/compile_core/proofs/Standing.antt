@@ -1,5 +1,5 @@
 -- What stands in a list that was made from another, and in the entries of a map.
-use Rattle.std.proofs.Common.{◌≡◌, List, [], ◌∷◌, map, Some, cond, inl, inr, refl, sym, ap, subst, ◌∙◌}
+use Rattle.std.proofs.Common.{◌≡◌, Bool, true, false, List, [], ◌∷◌, filter, map, Some, cond, inl, inr, refl, sym, ap, subst, ◌∙◌}
 use Rattle.std.specs.Prelude.{All, IsTrue}
 use Rattle.std.proofs.lemmas.Bool.{and_parts}
 use Rattle.std.proofs.lemmas.List.Elements.{All-nil, All-cons}
@@ -9,8 +9,8 @@ use Rattle.std.specs.FinMap.Entries.{below_all}
 use Rattle.std.specs.Ordering.{is_eq, is_lt, ordering_reverse}
 use Rattle.std.specs.declared.cmp.Ordering.{Ordering}
 use Rattle.std.specs.declared.cmp.Ordering.TheVariants.{Less, Equal, Greater}
-use Rattle.odd_decls.specs.Odd.{StandsIn}
-use Rattle.odd_decls.proofs.Standing.{first_or_later, nothing_stands, stands_first, stands_later}
+use Rattle.odd_reader.specs.Elements.{StandsIn}
+use Rattle.odd_reader.proofs.InList.{first_or_later, nothing_stands, stands_first, stands_later}
 
 pub is_less : (o : Ordering) → IsTrue (is_lt o) → o ≡ Less
 is_less Less h = refl
@@ -31,6 +31,18 @@ map_stands f (w ∷ xs) x s = elim (first_or_later w x xs s) [
   | inl e ↦ rw e (stands_first (f w) (map f xs))
   | inr later ↦ stands_later (f w) (f x) (map f xs) (map_stands f xs x later)
 ]
+
+-- what passes a test is an item
+pub filter_stands : {A : Type 0} (test : A → Bool) (xs : List A) (y : A) → StandsIn (filter test xs) y → StandsIn xs y
+filter_stands test [] y s = s
+filter_stands test (x ∷ xs) y s = by (test x) (filter_stands test xs y) s
+  where
+    by : (b : Bool) → (StandsIn (filter test xs) y → StandsIn xs y) → StandsIn (cond b (x ∷ filter test xs) (filter test xs)) y → StandsIn (x ∷ xs) y
+    by true rest h = elim (first_or_later x y (filter test xs) h) [
+      | inl e ↦ subst (StandsIn (x ∷ xs)) (sym e) (stands_first x xs)
+      | inr later ↦ stands_later x y xs (rest later)
+    ]
+    by false rest h = stands_later x y xs (rest h)
 
 -- what holds of each item of a list
 pub each_stands : {A : Type 0} (P : A → Type 0) (xs : List A) → ((x : A) → StandsIn xs x → P x) → All P xs

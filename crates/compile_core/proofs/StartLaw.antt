@@ -2,11 +2,11 @@
 use Rattle.std.proofs.Common.{◌≡◌, ◌↔◌, ℕ, List, [], ◌∷◌, map, refl, sym, subst, ◌∙◌, inl, inr}
 use Rattle.odd_reader.specs.declared.tree.Tree.{Tree}
 use Rattle.odd_reader.specs.declared.tree.Node.{Node, Element}
-use Rattle.odd_decls.specs.Odd.{StandsIn}
-use Rattle.odd_decls.proofs.Elements.{element_shown}
-use Rattle.odd_decls.proofs.Standing.{first_or_later, nothing_stands, stands_first}
+use Rattle.odd_reader.specs.Elements.{StandsIn}
+use Rattle.odd_reader.specs.Significant.{Marking}
+use Rattle.odd_reader.proofs.AmongChildren.{element_shown}
+use Rattle.odd_reader.proofs.InList.{first_or_later, nothing_stands, stands_first}
 use Rattle.compile_core.specs.Acceptance.{IsMatched, empty, text, reference, choice}
-use Rattle.compile_core.specs.Children.{Marking}
 use Rattle.compile_core.specs.Compiled.{start_pattern}
 use Rattle.compile_core.specs.Compiled as Compiled
 use Rattle.compile_core.specs.Schema.{define_name}
@@ -21,7 +21,7 @@ same_element t u e =
     let shown : t ∷ [] ≡ u ∷ [] = sym (element_shown (Element t) t refl) ∙ element_shown (Element t) u nodes in
     cc
 
-module _ (counts : Marking) where
+module _ (counts : Marking (List ℕ)) where
   nothing_matched : (p : Expr) (children : List Node) → p ≡ expr.NotAllowed → IsMatched counts p children → ⊥
   nothing_matched p children e empty = cc
   nothing_matched p children e (text h) = cc

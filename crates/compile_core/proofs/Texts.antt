@@ -1,8 +1,7 @@
 -- The text of the grammar of a library is the library's schema.
 use Rattle.std.proofs.Common.{◌≡◌, ℕ, List, [], ◌∷◌, map, codes, refl, ap, ◌∙◌, rules}
 use Rattle.odd_base.specs.declared.key.Key.{Key}
-use Rattle.odd_decls.specs.declared.content.Content.{Content}
-use Rattle.odd_decls.specs.declared.content.Content.TheVariants as content
+use Rattle.odd_content.specs.declared.content.Content.{Content, Empty, Text}
 use Rattle.odd_decls.specs.declared.library.Component.{Component}
 use Rattle.odd_decls.specs.declared.library.Component.TheVariants as component
 use Rattle.odd_decls.specs.declared.library.Library.{Library}
@@ -14,8 +13,9 @@ use Rattle.compile_core.specs.Schema.{choice_of, component_define, content_marku
 use Rattle.compile_core.proofs.Printing.{choice_is, not_allowed_is, ref_is}
 
 content_is : (k : Content) → pattern_markup (content_pattern k) ≡ content_markup k
-content_is content.Empty = search (rules, E.the_lemmas)
-content_is content.Text = search (rules, E.the_lemmas)
+content_is Empty = search (rules, E.the_lemmas)
+content_is Text = search (rules, E.the_lemmas)
+content_is _ = not_allowed_is
 
 references_are : (words : List (List ℕ)) → map pattern_markup (map reference words) ≡ map reference_to words
 references_are [] = refl

@@ -5,8 +5,8 @@ use Rattle.odd_base.specs.declared.name.Name.{Name}
 use Rattle.odd_reader.specs.declared.tree.Attr.{Attr}
 use Rattle.odd_reader.specs.declared.tree.Tree.{Tree, out-Tree}
 use Rattle.odd_reader.specs.declared.tree.Node.{Node, Element}
-use Rattle.odd_decls.specs.Odd.{StandsIn}
-use Rattle.compile_core.specs.Children.{Marking, depth, is_element, IsSignificant}
+use Rattle.odd_reader.specs.Elements.{StandsIn}
+use Rattle.odd_reader.specs.Significant.{IsSignificant, Marking, depth, is_element}
 use Rattle.compile_core.specs.declared.grammar.AttrRule.{AttrRule}
 use Rattle.compile_core.specs.declared.grammar.AttrPart.TheVariants as attributes
 use Rattle.compile_core.specs.declared.grammar.Body.TheVariants as body
@@ -18,7 +18,7 @@ use Rattle.compile_core.specs.declared.grammar.NameClass.TheVariants as class
 
 -- The pattern matches the significant children (section 9.3): `empty` none, `text` any number of texts, a reference to a
 -- define one element that counts for it, a choice what one of its parts matches. `notAllowed` matches nothing.
-pub data IsMatched (counts : Marking) : Expr → List Node → Type 0 where
+pub data IsMatched (counts : Marking (List ℕ)) : Expr → List Node → Type 0 where
   empty : IsMatched counts expr.Empty []
   text : {children : List Node} → list_any is_element children ≡ false → IsMatched counts expr.Text children
   reference : {name : List ℕ} {t : Tree} {children : List Node} → children ≡ Element t ∷ [] → counts t name → IsMatched counts (expr.Ref name) children
@@ -41,7 +41,7 @@ pub record AreMatched (rules : List AttrRule) (attrs : List Attr) : Type 0 where
   pub complete : All (λ rule. IsTrue rule.needed → IsThere attrs rule) rules
 
 -- An element is accepted by the define of the name, where each of its children is accepted by those that it counts for.
-pub record IsAcceptedBy (counts : Marking) (g : Grammar) (t : Tree) (name : List ℕ) : Type 0 where
+pub record IsAcceptedBy (counts : Marking (List ℕ)) (g : Grammar) (t : Tree) (name : List ℕ) : Type 0 where
   pub names : NameClass
   pub rules : List AttrRule
   pub content : Expr
@@ -53,7 +53,7 @@ pub record IsAcceptedBy (counts : Marking) (g : Grammar) (t : Tree) (name : List
   pub matched : IsMatched counts content children
 
 -- by recursion on the depth
-abbrev pub IsAcceptedWithin : ℕ → Grammar → Marking
+abbrev pub IsAcceptedWithin : ℕ → Grammar → Marking (List ℕ)
 IsAcceptedWithin zero g t name = ⊥
 IsAcceptedWithin (suc levels) g t name = IsAcceptedBy (IsAcceptedWithin levels g) g t name
 

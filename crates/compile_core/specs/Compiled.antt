@@ -1,8 +1,7 @@
 -- The grammar of a library and a list of start words.
 use Rattle.std.specs.Prelude.{ℕ, List, [], ◌∷◌, map}
 use Rattle.odd_base.specs.declared.key.Key.{Key}
-use Rattle.odd_decls.specs.declared.content.Content.{Content}
-use Rattle.odd_decls.specs.declared.content.Content.TheVariants as content
+use Rattle.odd_content.specs.declared.content.Content.{Content, Empty, Text}
 use Rattle.odd_decls.specs.declared.library.Component.{Component}
 use Rattle.odd_decls.specs.declared.library.Component.TheVariants as component
 use Rattle.odd_decls.specs.declared.library.ElementPart.{ElementPart}
@@ -16,9 +15,11 @@ use Rattle.compile_core.specs.declared.grammar.Expr.TheVariants as expr
 use Rattle.compile_core.specs.declared.grammar.Grammar.{Grammar}
 use Rattle.compile_core.specs.declared.grammar.NameClass.TheVariants as class
 
+-- of contents that are written; no grammar is made of any other
 abbrev pub content_pattern : Content → Expr
-content_pattern content.Empty = expr.Empty
-content_pattern content.Text = expr.Text
+content_pattern Empty = expr.Empty
+content_pattern Text = expr.Text
+content_pattern _ = expr.NotAllowed
 
 abbrev pub reference : List ℕ → Expr
 reference ident = expr.Ref (define_name ident)

@@ -1,5 +1,5 @@
 -- Which grammar some bytes denote: they spell a tree, and the tree stands for the grammar, by the elements of ISO/IEC 19757-2 that are written so far.
-use Rattle.std.specs.Prelude.{◌≡◌, ◌≢◌, ℕ, ◌||◌, List, [], ◌∷◌, ◌++◌, map, filter, Some, IsTrue, All, codes, unwrap_or, Option}
+use Rattle.std.specs.Prelude.{◌≡◌, ◌≢◌, ℕ, ◌||◌, List, [], ◌∷◌, ◌++◌, map, filter, Some, IsTrue, All, codes, unwrap_or}
 use Rattle.std.specs.List.{list_all}
 use Rattle.std.specs.FinMap.{find, is_sorted}
 use Rattle.odd_base.specs.Text.{text_cmp}
@@ -9,8 +9,8 @@ use Rattle.odd_tokens.specs.Same.{is_same}
 use Rattle.odd_reader.specs.Spelled.{Spells}
 use Rattle.odd_tokens.specs.Tokens.{NoneTwice}
 use Rattle.odd_reader.specs.declared.tree.Tree.{Tree, out-Tree}
-use Rattle.odd_decls.specs.Odd.{StandsIn, attribute_value, elements_of}
-use Rattle.compile_core.specs.Children.{is_blank, is_element}
+use Rattle.odd_reader.specs.Elements.{StandsIn, elements_of, given}
+use Rattle.odd_reader.specs.Significant.{is_blank, is_element}
 use Rattle.compile_core.specs.Grammar.{relax_ng_namespace, datatype_library}
 use Rattle.compile_core.specs.declared.grammar.AttrPart.TheVariants as attributes
 use Rattle.compile_core.specs.declared.grammar.Body.{Body}
@@ -28,9 +28,6 @@ relax_ng local = record { ns = relax_ng_namespace; local = local }
 -- the elements of RELAX NG in an element; those of other namespaces are passed over
 abbrev pub parts_of : Tree → List Tree
 parts_of t = filter (λ u. is_same (out-Tree u).name.ns relax_ng_namespace) (elements_of (out-Tree t).children)
-
-abbrev pub given : Tree → List ℕ → Option (List ℕ)
-given t local = attribute_value (out-Tree t).attrs local
 
 -- An element of RELAX NG: its name, and which attributes it may have. Attributes in a namespace are passed over, and texts of white space.
 pub record IsPart (local : List ℕ) (allowed : List (List ℕ)) (t : Tree) : Type 0 where

@@ -1,5 +1,5 @@
 -- The schema of a library and a list of start words, written down define by define.
-use Rattle.std.specs.Prelude.{◌≡◌, ℕ, List, [], ◌∷◌, ◌++◌, map, Option, Some, None, if◌then◌else◌, codes, IsTrue}
+use Rattle.std.specs.Prelude.{◌≡◌, ◌⊎◌, ℕ, All, List, [], ◌∷◌, ◌++◌, map, Option, Some, None, if◌then◌else◌, codes, IsTrue}
 use Rattle.std.specs.FinMap.{find, is_sorted}
 use Rattle.std.specs.Ordering.{is_gt}
 use Rattle.odd_base.specs.Key.{key_cmp}
@@ -10,12 +10,13 @@ use Rattle.odd_base.specs.declared.offence.Offence.{Offence}
 use Rattle.odd_base.specs.declared.offence.Who.TheVariants as who
 use Rattle.odd_tokens.specs.Characters.{IsLegal, IsNCName}
 use Rattle.odd_reader.specs.Markup.{Markup, file_printed}
-use Rattle.odd_decls.specs.declared.content.Content.{Content}
-use Rattle.odd_decls.specs.declared.content.Content.TheVariants as content
+use Rattle.odd_content.specs.declared.content.Content.{Content, Empty, Text}
+use Rattle.odd_content.specs.declared.content.Content.TheVariants as content
 use Rattle.odd_decls.specs.declared.library.Component.{Component}
 use Rattle.odd_decls.specs.declared.library.Component.TheVariants as component
 use Rattle.odd_decls.specs.declared.library.Library.{Library}
-use Rattle.odd_decls.specs.Odd.{StandsIn, element_key}
+use Rattle.odd_decls.specs.Odd.{element_key}
+use Rattle.odd_reader.specs.Elements.{StandsIn}
 use Rattle.std.specs.declared.cmp.Ordering.TheVariants.{Less}
 use Rattle.compile_core.specs.Grammar.{plain, named, element_markup, grammar_markup}
 
@@ -32,9 +33,22 @@ define_name ident = codes "e." ++ ident
 abbrev pub reference_to : List ℕ → Markup
 reference_to ident = named (codes "ref") (define_name ident) []
 
+-- the contents whose schema is written so far
+abbrev pub IsWritten : Content → Type 0
+IsWritten c = (c ≡ content.Empty) ⊎ (c ≡ content.Text)
+
+abbrev pub IsWrittenPart : Component → Type 0
+IsWrittenPart (component.Element part) = IsWritten part.content
+
+-- the content of each element is written
+abbrev pub AreWritten : Library → Type 0
+AreWritten library = All (λ entry. IsWrittenPart entry.1) library.parts
+
+-- of contents that are written; no schema is made of any other
 abbrev pub content_markup : Content → Markup
-content_markup content.Empty = plain (codes "empty") []
-content_markup content.Text = plain (codes "text") []
+content_markup Empty = plain (codes "empty") []
+content_markup Text = plain (codes "text") []
+content_markup _ = plain (codes "notAllowed") []
 
 -- the define of an element: its ident, its namespace in documents and its content
 abbrev pub element_define : List ℕ → List ℕ → Content → Markup

@@ -1,17 +1,18 @@
-ghost use Rattle.std.specs.Prelude.{◌≡◌, ◌↔◌, map, IfOk, Some, Err, IsOk};
+ghost use Rattle.std.specs.Prelude.{◌≡◌, ◌↔◌, map, IfOk, IsTrue, Some, Err, IsOk};
 ghost use Rattle.std.specs.Option.{option_copied};
 ghost use Rattle.odd_reader.specs.declared.tree.Tree.{Tree as ATree};
 ghost use Rattle.odd_base.specs.declared.offence.Offence.{Offence as AnOffence};
 ghost use Rattle.compile_core.specs.Acceptance.{Accepts};
-ghost use Rattle.compile_core.specs.Admission.{Admits};
+ghost use Rattle.odd_meaning.specs.Admission.{Admits};
 ghost use Rattle.compile_core.specs.Compiled.{content_pattern as the_content_pattern, definition_of, element_definition, grammar_of, reference, start_pattern as the_start_pattern};
 ghost use Rattle.compile_core.specs.Denoting.{DenotesOnly};
 ghost use Rattle.compile_core.specs.Grammar.{grammar_text};
-ghost use Rattle.compile_core.specs.Schema.{HoldsStart, IsFormed, IsLeast, IsStartOffence, define_name, lesser_of, schema_text};
+ghost use Rattle.compile_core.specs.Schema.{AreWritten, HoldsStart, IsFormed, IsLeast, IsStartOffence, IsWrittenPart, define_name, lesser_of, schema_text};
 
 use crate::grammar::{AttrPart, Body, Define, Defines, Expr, Exprs, Grammar, NameClass, Rules};
 use odd_base::{Key, Kind, Name, NoMemory, Offence, Text, TryCopy, Who, Words};
-use odd_decls::{Component, Content, ElementPart, Library};
+use odd_content::Content;
+use odd_decls::{Component, ElementPart, Library};
 use std::alloc::Global;
 
 /// Why a library has no schema.
@@ -19,6 +20,8 @@ use std::alloc::Global;
 pub enum CompileRefusal {
     /// A start word is no held element. The file of the offence is 0.
     Offence(Offence),
+    /// An element has a content whose schema is not written yet.
+    NotYet,
     NoMemory,
 }
 
@@ -40,13 +43,16 @@ const START_RULE: u8 = 20;
 /// (docs/admission.md; ISO/IEC 19757-2, section 9).
 ///
 /// Offence comes where a start word is no held element, and only there. It names the least of these words in the order
-/// of bytes, and its file is 0. NoMemory is answered for want of memory.
+/// of bytes, and its file is 0. NotYet comes where each is one and an element has a content that is neither empty nor
+/// text. NoMemory is answered for want of memory.
 pub fn compile(alloc: Global, library: &Library, start: &Words) -> Result<Grammar, CompileRefusal>
     ensures grammar { IfOk result (λ grammar. grammar ≡ grammar_of library.now start.now) }
     ensures ok { IfOk result (λ grammar. grammar_text grammar ≡ schema_text library.now start.now) }
     ensures denotes { IfOk result (λ grammar. IsFormed library.now → DenotesOnly (schema_text library.now start.now) grammar) }
     ensures accepts { IfOk result (λ grammar. IsFormed library.now → (t : ATree) → Accepts grammar t ↔ Admits library.now start.now t) }
     ensures held { IsOk result → HoldsStart library.now start.now }
+    ensures written { IsOk result → AreWritten library.now }
+    ensures not_yet { result ≡ Err CompileRefusal.NotYet → AreWritten library.now → ⊥ }
     ensures offence { (offence : AnOffence) → result ≡ Err (CompileRefusal.Offence offence) → IsStartOffence library.now start.now offence }
 {
     if let Some(word) = least_missing(alloc, library, start)? {
@@ -57,9 +63,30 @@ pub fn compile(alloc: Global, library: &Library, start: &Words) -> Result<Gramma
             rule: START_RULE,
         }));
     }
+    if !are_written(library) {
+        return Err(CompileRefusal::NotYet);
+    }
     let start = start_pattern(alloc, start)?;
     let defines = element_defines(alloc, library)?;
     Ok(Grammar { start, defines })
+}
+
+// Whether the content of each element is written.
+fn are_written(library: &Library) -> bool
+    ensures { IsTrue result ↔ AreWritten library.now }
+{
+    library
+        .parts
+        .entries()
+        .iter()
+        .all(|entry| is_written(&entry.1))
+}
+
+fn is_written(component: &Component) -> bool
+    ensures { IsTrue result ↔ IsWrittenPart component.now }
+{
+    let Component::Element(part) = component;
+    matches!(part.content, Content::Empty | Content::Text)
 }
 
 // The least of the start words that are no held element.
@@ -144,7 +171,7 @@ fn element_define(alloc: Global, ident: &Text, part: &ElementPart) -> Result<Def
     let local = ident.copy(alloc)?;
     let names = NameClass::One(Name { ns, local });
     let attrs = AttrPart::Listed(Rules::new(alloc));
-    let content = content_pattern(part.content);
+    let content = content_pattern(&part.content);
     Ok(Define {
         name,
         body: Body::Element {
@@ -155,11 +182,13 @@ fn element_define(alloc: Global, ident: &Text, part: &ElementPart) -> Result<Def
     })
 }
 
-fn content_pattern(content: Content) -> Expr
-    ensures { result ≡ the_content_pattern content }
+// The pattern of a content that is written.
+fn content_pattern(content: &Content) -> Expr
+    ensures { result ≡ the_content_pattern content.now }
 {
     match content {
         Content::Empty => Expr::Empty,
         Content::Text => Expr::Text,
+        _ => Expr::NotAllowed,
     }
 }

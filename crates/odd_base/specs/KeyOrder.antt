@@ -34,7 +34,7 @@ same_kind Datatype Class e = cc
 same_kind Datatype Macro e = cc
 same_kind Datatype Datatype e = refl
 
-both_equal : (r s : Ordering) → ordering_then r s ≡ Equal → (r ≡ Equal) × (s ≡ Equal)
+pub both_equal : (r s : Ordering) → ordering_then r s ≡ Equal → (r ≡ Equal) × (s ≡ Equal)
 both_equal Less s e = cc
 both_equal Equal s e = (refl, e)
 both_equal Greater s e = cc

@@ -3,6 +3,7 @@ pub mod Key
 pub mod KeyOrder
 pub mod Map
 pub mod Memory
+pub mod NameOrder
 pub mod Seq
 pub mod Shelf
 pub mod Sink

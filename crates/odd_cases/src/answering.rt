@@ -1,8 +1,9 @@
 ghost use Rattle.std.specs.Prelude.{◌≡◌, ◌↔◌, IsNone, IfOk};
 ghost use Rattle.odd_cases.specs.Comparing.{IsAnswered};
 
-use crate::case::{Case, Faulty, Question, Reply, Wanted};
+use crate::case::{Case, Faulty, Question, Reply, Shown, Wanted};
 use crate::comparing::{Answer, is_answered, is_wanted};
+use crate::contents::add_content_of;
 use crate::fault::CaseFault;
 use crate::showing::add_tree_of;
 use odd_base::{Bytes, Files, MemShelf, MemSink, NoMemory, Text, Words};
@@ -32,9 +33,9 @@ pub fn difference(alloc: Global, case: Case) -> Result<Option<String>, CaseFault
             let answer = answer_of(alloc, &words, files, faulty)?;
             reply_difference(alloc, &reply, &answer)
         }
-        Question::Tree(wanted) => {
-            let shown = shown_trees(alloc, &files)?;
-            tree_difference(alloc, &wanted, &shown)
+        Question::Shown { shown, wanted } => {
+            let text = shown_files(alloc, shown, &files)?;
+            shown_difference(alloc, shown, &wanted, &text)
         }
     }
 }
@@ -123,24 +124,32 @@ fn told_from(bytes: &[u8], at: usize) -> &[u8] {
     rest.get(..TOLD).unwrap_or(rest)
 }
 
-// The trees of the files, as they are shown.
-fn shown_trees(alloc: Global, files: &Files) -> Result<Text, NoMemory> {
-    let mut shown = Text::new(alloc);
+// The files, as this of them is shown.
+fn shown_files(alloc: Global, shown: Shown, files: &Files) -> Result<Text, NoMemory> {
+    let mut text = Text::new(alloc);
     for file in files.as_slice() {
-        add_tree_of(alloc, &mut shown, file.bytes.as_slice())?;
+        match shown {
+            Shown::Tree => add_tree_of(alloc, &mut text, file.bytes.as_slice())?,
+            Shown::Content => add_content_of(alloc, &mut text, file.bytes.as_slice())?,
+        }
     }
-    Ok(shown)
+    Ok(text)
 }
 
-// What a shown tree has otherwise than the wanted one.
-fn tree_difference(alloc: Global, wanted: &Bytes, shown: &Text) -> Result<Option<String>, CaseFault>
-    ensures { IfOk result (λ told. IsNone told ↔ (wanted.now ≡ shown.now)) }
+// What is shown otherwise than wanted.
+fn shown_difference(
+    alloc: Global,
+    shown: Shown,
+    wanted: &Bytes,
+    text: &Text,
+) -> Result<Option<String>, CaseFault>
+    ensures { IfOk result (λ told. IsNone told ↔ (wanted.now ≡ text.now)) }
 {
-    let bytes = shown.as_str().as_bytes();
+    let bytes = text.as_str().as_bytes();
     if wanted.as_slice() == bytes {
         return Ok(None);
     }
     let mut told = String::new(alloc);
-    add_place(&mut told, "tree", wanted.as_slice(), bytes)?;
+    add_place(&mut told, shown.name(), wanted.as_slice(), bytes)?;
     Ok(Some(told))
 }

@@ -25,6 +25,25 @@ pub struct Faulty {
     pub note: Calls,
 }
 
+/// What of a file is shown.
+#[derive(Clone, Copy)]
+pub enum Shown {
+    /// Its tree.
+    Tree,
+    /// What the first child of its root says as a `content`.
+    Content,
+}
+
+impl Shown {
+    /// Its name.
+    pub fn name(self) -> &'static str {
+        match self {
+            Shown::Tree => "tree",
+            Shown::Content => "content",
+        }
+    }
+}
+
 /// What is asked of the files of a case, and what must be answered.
 #[derive(Drop)]
 pub enum Question {
@@ -34,8 +53,11 @@ pub enum Question {
         faulty: Faulty,
         reply: Reply,
     },
-    /// The tree of the one file, as it is shown.
-    Tree(Bytes),
+    /// The one file, as this of it is shown.
+    Shown {
+        shown: Shown,
+        wanted: Bytes,
+    },
 }
 
 /// The files on the shelf, and the question.

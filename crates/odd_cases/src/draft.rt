@@ -1,4 +1,4 @@
-use crate::case::{Case, Faulty, Question, Reply, Wanted};
+use crate::case::{Case, Faulty, Question, Reply, Shown, Wanted};
 use crate::fault::CaseFault;
 use crate::part::{Device, Head, Part, read_parts};
 use odd_base::{Bytes, Calls, File, Files, NoMemory, Text, Words};
@@ -11,7 +11,7 @@ struct Draft {
     words: Option<Words>,
     reply: ReplyDraft,
     faulty: Faulty,
-    tree: Option<Bytes>,
+    shown: Option<(Shown, Bytes)>,
 }
 
 // What is read of a reply so far. The parts are those that the output must have.
@@ -47,7 +47,7 @@ fn empty_draft(alloc: Global) -> Draft {
             out: Calls::new(alloc),
             note: Calls::new(alloc),
         },
-        tree: None,
+        shown: None,
     }
 }
 
@@ -73,7 +73,10 @@ fn put_part(alloc: Global, draft: &mut Draft, part: Part<'_>) -> Result<(), Case
             Ok(())
         }
         Head::Fails(device, call) => put_failing(&mut draft.faulty, device, call),
-        Head::Tree => set_once(&mut draft.tree, tree_of(alloc, text.as_slice())?),
+        Head::Shown(shown) => {
+            let wanted = shown_of(alloc, text.as_slice())?;
+            set_once(&mut draft.shown, (shown, wanted))
+        }
     }
 }
 
@@ -97,8 +100,8 @@ fn read_words(alloc: Global, text: &[u8]) -> Result<Words, CaseFault> {
     Ok(words)
 }
 
-// The tree that a text shows, to which its last line break does not belong.
-fn tree_of(alloc: Global, text: &[u8]) -> Result<Bytes, NoMemory> {
+// What a text shows, to which its last line break does not belong.
+fn shown_of(alloc: Global, text: &[u8]) -> Result<Bytes, NoMemory> {
     Bytes::from_slice(alloc, text.strip_suffix(b"\n").unwrap_or(text))
 }
 
@@ -118,19 +121,19 @@ fn finish(alloc: Global, draft: Draft) -> Result<Case, CaseFault> {
         words,
         reply,
         faulty,
-        tree,
+        shown,
     } = draft;
-    let question = match (words, tree) {
+    let question = match (words, shown) {
         (Some(words), None) => Question::Run {
             words,
             faulty,
             reply: reply_of(alloc, reply)?,
         },
-        (None, Some(tree)) if !has_reply(&reply, &faulty) && files.len() == 1 => {
-            Question::Tree(tree)
+        (None, Some((shown, wanted))) if !has_reply(&reply, &faulty) && files.len() == 1 => {
+            Question::Shown { shown, wanted }
         }
         (None, None) => return Err(CaseFault::NothingAsked),
-        _ => return Err(CaseFault::NotTree),
+        _ => return Err(CaseFault::NotAlone),
     };
     Ok(Case { files, question })
 }

@@ -31,8 +31,8 @@ pub enum CaseFault {
     NoCode,
     #[error("a head stands twice")]
     Twice,
-    #[error("a tree is asked of one file, beside nothing else")]
-    NotTree,
+    #[error("a tree or a content is asked of one file, beside nothing else")]
+    NotAlone,
 }
 
 impl From<NoMemory> for CaseFault {

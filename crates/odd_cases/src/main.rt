@@ -5,6 +5,7 @@ mod answering;
 mod body;
 mod case;
 mod comparing;
+mod contents;
 mod draft;
 mod escapes;
 mod fault;

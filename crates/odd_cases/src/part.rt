@@ -1,4 +1,5 @@
 use crate::body::{Form, add_body, add_each, form_of};
+use crate::case::Shown;
 use crate::fault::CaseFault;
 use crate::section::{Section, read_sections};
 use std::alloc::Global;
@@ -21,7 +22,7 @@ pub enum Head<'a> {
     Out,
     OutHas,
     Fails(Device, u64),
-    Tree,
+    Shown(Shown),
 }
 
 /// A part of a case: its head, and its text with all that goes on with it.
@@ -153,7 +154,8 @@ fn read_text_head(head: &str) -> Option<Head<'_>> {
         "note" => Some(Head::Note),
         "out" => Some(Head::Out),
         "out has" => Some(Head::OutHas),
-        "tree" => Some(Head::Tree),
+        "tree" => Some(Head::Shown(Shown::Tree)),
+        "content" => Some(Head::Shown(Shown::Content)),
         _ => match head.strip_prefix("file ") {
             Some(name) if !name.contains(' ') => Some(Head::File(name)),
             _ => None,

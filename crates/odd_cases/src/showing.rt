@@ -36,8 +36,8 @@ fn add_tag(alloc: Global, out: &mut Text, tree: &Tree) -> Result<(), NoMemory> {
     add_attributes(out, tree)
 }
 
-// Puts a name with its namespace in braces, where it has one.
-fn add_name(out: &mut Text, name: &Name) -> Result<(), NoMemory> {
+/// Puts a name with its namespace in braces, where it has one.
+pub fn add_name(out: &mut Text, name: &Name) -> Result<(), NoMemory> {
     if !name.ns.as_str().is_empty() {
         out.push('{')?;
         out.push_str(name.ns.as_str())?;

@@ -1,11 +1,18 @@
 -- What entries declare at a key, with one entry more.
-use Rattle.std.proofs.Common.{◌≡◌, ℕ, ◌+◌, ◌<◌, List, [], ◌∷◌, ◌++◌, length, take, get_or, map, Option, Some, None, refl, ap, ◌∙◌, sym}
+use Rattle.std.proofs.Common.{◌≡◌, ℕ, Bool, true, false, ◌+◌, ◌<◌, List, [], ◌∷◌, ◌++◌, length, take, get_or, map, Option, Some, None, refl, ap, ◌∙◌, sym}
 use Rattle.std.proofs.lemmas.List.{get_or-map, length-map}
+use Rattle.std.specs.FinMap.{find}
+use Rattle.std.specs.Ordering.{eq_by_cmp}
+use Rattle.std.specs.Prelude.{if◌then◌else◌}
+use Rattle.odd_base.specs.Key.{key_cmp}
+use Rattle.odd_base.specs.Map.{SetsOnly}
 use Rattle.odd_base.specs.declared.key.Key.{Key}
 use Rattle.odd_decls.specs.declared.library.Component.{Component}
 use Rattle.odd_decls.specs.declared.odd.Entry.{Entry}
-use Rattle.odd_decls.specs.Library.{declared_at, entry_at, last_of}
-use Rattle.odd_decls.proofs.Standing.{ends}
+use Rattle.odd_decls.specs.declared.odd.Entry.TheVariants as entry
+use Rattle.odd_decls.specs.Library.{component_of, declared_at, entry_at, last_of}
+use Rattle.odd_decls.specs.Odd.{key_of}
+use Rattle.odd_reader.proofs.InList.{ends}
 
 -- the last of the last
 last_of_joined : (a b c : Option Component) → last_of (last_of a b) c ≡ last_of a (last_of b c)
@@ -37,3 +44,20 @@ pub declared_over : {X : Type 0} (entry_of : X → Entry) (xs : List X) (i : ℕ
     → declared_at (take (i + 1) (map entry_of xs)) key ≡ last_of (entry_at (entry_of x) key) (declared_at (take i (map entry_of xs)) key)
 declared_over entry_of xs i x key h is =
     declared_up_to (map entry_of xs) i (entry_of x) key (rw (length-map xs entry_of) h) (ap entry_of is ∙ sym (get_or-map entry_of xs i x (entry_of x) h))
+
+-- what an entry declares, as a component
+abbrev pub declared_by : Entry → Component
+declared_by (entry.Spec at spec) = component_of spec
+
+-- a component at the keys that pass a test, and others elsewhere
+chosen : (b : Bool) (x : Component) (earlier : Option Component) → (if b then Some x else earlier) ≡ last_of (if b then Some x else None) earlier
+chosen true x earlier = refl
+chosen false x earlier = refl
+
+-- what is held where what an entry declares is put at its key
+pub entry_put : (e : Entry) (old new : List (Key × Component)) (key : Key) (x : Component) → key ≡ key_of e → x ≡ declared_by e → SetsOnly key_cmp old new key x
+    → (asked : Key) → find key_cmp asked new ≡ last_of (entry_at e asked) (find key_cmp asked old)
+entry_put (entry.Spec at spec) old new key x same is sets asked =
+    sets asked ∙ ap (λ k. if eq_by_cmp key_cmp asked k then Some x else find key_cmp asked old) same
+    ∙ ap (λ y. if eq_by_cmp key_cmp asked spec.key then Some y else find key_cmp asked old) is
+    ∙ chosen (eq_by_cmp key_cmp asked spec.key) (component_of spec) (find key_cmp asked old)

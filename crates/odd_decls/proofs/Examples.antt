@@ -1,243 +1,51 @@
 -- Small files: where their elements are found, what in them is not read yet, what offends, what they declare, and what a library holds of them.
-use Rattle.std.proofs.Common.{◌≡◌, ℕ, suc, ◌+◌, ◌≤◌, Bool, true, false, ◌&&◌, List, [], ◌∷◌, ◌++◌, get_or, length, length-append, Some, None, inl, inr, refl, sym, ap, subst, ◌∙◌, codes, arith}
-use Rattle.std.specs.Prelude.{All, IsSome, unwrap_or, filter, nat_lt}
+use Rattle.std.proofs.Common.{◌≡◌, ℕ, ◌≤◌, ◌<◌, true, List, [], ◌∷◌, ◌++◌, get_or, Option, Some, None, inl, inr, ⊎_elim, refl, sym, ap, subst, ◌∙◌, codes, arith}
+use Rattle.std.specs.Prelude.{if◌then◌else◌, count_by, filter, is_some}
 use Rattle.std.specs.Cmp.Lexicographic.{other_text}
-use Rattle.std.specs.List.{list_all, list_any}
 use Rattle.std.specs.declared.cmp.Ordering.TheVariants.{Less}
-use Rattle.std.proofs.lemmas.Bool.{and_parts, both_ways, false≢true}
-use Rattle.std.proofs.lemmas.List.Elements.{All-nil, All-cons, All-contains}
-use Rattle.std.proofs.lemmas.Option.{same_Some}
-use Rattle.std.proofs.lemmas.Str.{encodes_same}
+use Rattle.std.proofs.lemmas.List.Elements.{All-contains}
 use Rattle.odd_base.specs.Text.{text_cmp}
 use Rattle.odd_base.specs.declared.key.Kind.TheVariants as kind
-use Rattle.odd_base.specs.declared.name.Name.{Name}
-use Rattle.odd_tokens.proofs.Ascii.{ascii_codes}
-use Rattle.odd_tokens.specs.Characters.{IsNCName, is_name_start, is_ncname}
-use Rattle.odd_tokens.specs.Same.{is_same}
+use Rattle.odd_base.specs.declared.name.Bind.{Bind}
+use Rattle.odd_tokens.specs.Characters.{IsNCName, is_name_start}
+use Rattle.odd_reader.specs.Elements.{StandsIn, children_of}
 use Rattle.odd_reader.specs.declared.tree.Attr.{Attr}
 use Rattle.odd_reader.specs.declared.tree.Node.{Node, Element, Text}
 use Rattle.odd_reader.specs.declared.tree.Tree.{Tree, out-Tree, roll-Tree}
-use Rattle.odd_decls.specs.Declares.{AreReadAs, AreRising, AreSorted, Declares, IsReadAs, content_given, namespace_given, parts_give}
-use Rattle.odd_decls.specs.Library.{component_of, declared_at}
-use Rattle.odd_decls.specs.Odd.{HasName, StandsIn, element_key, elements_of, tei, tei_namespace}
-use Rattle.odd_decls.specs.Offences.{AreNames, HasOffence, IsFirstOf, IsMalformed, IsNotBefore, IsReadIn, IsSpecOf, ItemFault, ItemOffends, LacksName, MayNotStand, Offends, SchemaFault, SpecFault, StandsTwice, given}
-use Rattle.odd_decls.specs.Pending.{IsPending, is_pending}
+use Rattle.odd_reader.proofs.InList.{first_or_later, nothing_stands, stands_first, stands_later}
+use Rattle.odd_forms.specs.Faults.{AttributeFault, ChildFault, FormFault, OwnFault, ValueFault, child_in}
+use Rattle.odd_forms.specs.Form.{AreNames, AttributeForm}
+use Rattle.odd_forms.specs.Form as form
+use Rattle.odd_forms.specs.Least.{IsLeast}
+use Rattle.odd_forms.specs.Names.{tei, tei_namespace, is_one_of, is_tei, relax_ng_namespace}
+use Rattle.odd_forms.specs.Sorted.{AreRising, IsSet}
+use Rattle.odd_forms.specs.Table.{form_at}
+use Rattle.odd_forms.specs.Table as table
+use Rattle.odd_forms.specs.Words.{words_of}
+use Rattle.odd_forms.specs.declared.element.Element.TheVariants as elements
+use Rattle.odd_forms.proofs.Named.{is_name}
+use Rattle.odd_content.specs.Breaking.{ContentFault, PartFault}
+use Rattle.odd_content.specs.Excepting.{IsNameOf}
+use Rattle.odd_content.specs.Giving.{AreParts, IsPart, part_of, parts_of}
+use Rattle.odd_content.specs.declared.content.Content.{Content}
+use Rattle.odd_content.specs.declared.content.Content.TheVariants as content
+use Rattle.odd_decls.specs.Declares.{Declares, GivesContent, IsEntryOf, PlacesRise, namespace_given}
+use Rattle.odd_decls.specs.Library.{IsLibraryOf, component_of, declared_at}
+use Rattle.odd_decls.specs.Odd.{element_key}
+use Rattle.odd_decls.specs.Offences.{HasOffence, IsContentChild, IsFirstOf, IsNotBefore, IsSpecOf, ItemFault, ItemOffends, Offends, SpecFault}
+use Rattle.odd_decls.specs.Pending.{IsPending, outermost}
 use Rattle.odd_decls.specs.Pending as pending
-use Rattle.odd_decls.specs.Search.{Finds, StandsWithin, children_of, is_one_of, is_passed_over, is_relax_ng, is_tei, relax_ng_namespace, foreign, through}
+use Rattle.odd_decls.specs.Search.{Finds, Found, foreign, own, through}
 use Rattle.odd_decls.specs.Search as search
-use Rattle.odd_decls.specs.Words.{words_of}
-use Rattle.odd_decls.specs.declared.content.Content.TheVariants as content
 use Rattle.odd_decls.specs.declared.library.Component.TheVariants as component
+use Rattle.odd_decls.specs.declared.library.Library.{Library}
 use Rattle.odd_decls.specs.declared.odd.Entry.{Entry}
 use Rattle.odd_decls.specs.declared.odd.Entry.TheVariants as entry
 use Rattle.odd_decls.specs.declared.odd.OddDoc.{OddDoc}
 use Rattle.odd_decls.specs.declared.spec.Spec.{Spec}
-use Rattle.odd_decls.proofs.Elements.{element_shown, text_shown}
-use Rattle.odd_decls.proofs.Named.{is_name, named_one, two_namespaces}
-use Rattle.odd_decls.proofs.OneLibrary.{one_doc}
+use Rattle.odd_decls.proofs.OneLibrary.{one_doc, one_library}
 use Rattle.odd_decls.proofs.Searched.{one_search}
-use Rattle.odd_decls.proofs.Standing.{contained, nothing_stands}
-
--- Trees, names and lists
-
--- the elements as nodes
-abbrev pub nodes : List Tree → List Node
-nodes [] = []
-nodes (t ∷ ts) = Element t ∷ nodes ts
-
--- those are all the elements among the nodes
-pub elements_are : (ts : List Tree) → elements_of (nodes ts) ≡ ts
-elements_are [] = refl
-elements_are (t ∷ ts) = ap (λ us. us ++ elements_of (nodes ts)) (element_shown (Element t) t refl) ∙ ap (λ us. t ∷ us) (elements_are ts)
-
--- an attribute without a namespace, and an element that begins at a byte
-abbrev pub attribute : List ℕ → List ℕ → Attr
-attribute local value = record { name = record { ns = []; local = local }; value = value }
-
-abbrev element_in : List ℕ → ℕ → List ℕ → List Attr → List Tree → Tree
-element_in ns at local attrs children = roll-Tree (record { name = record { ns = ns; local = local }; attrs = attrs; binds = []; children = nodes children; at = at })
-
-abbrev pub element : ℕ → List ℕ → List Attr → List Tree → Tree
-element = element_in tei_namespace
-
--- a text of ASCII that is no NCName
-pub no_name : (text : List ℕ) → list_all (λ c. nat_lt c 128) text ≡ true → is_ncname text ≡ false → IsNCName text → ⊥
-no_name text low not_one n = both_ways (is_ncname text) not_one (subst (λ cs. is_ncname cs ≡ true) (encodes_same n.0 text (n.1 ∙ sym (ascii_codes text low))) n.2)
-
--- nothing stands in a list that is empty
-none_stands : {A : Type 0} (x : A) (xs : List A) → xs ≡ [] → StandsIn xs x → ⊥
-none_stands x xs e s = nothing_stands x (subst (λ ys. StandsIn ys x) e s)
-
--- an item that is not such does not count among two that are
-pub twice_later : (Is : Tree → Type 0) (t : Tree) (ts : List Tree) → (Is t → ⊥) → StandsTwice Is (t ∷ ts) → StandsTwice Is ts
-twice_later Is t ts not both = at_place both.before both.first both.between both.later both.after both.parts both.first_is both.later_is
-  where
-    at_place : (before : List Tree) (first : Tree) (between : List Tree) (later : Tree) (after : List Tree) → t ∷ ts ≡ before ++ first ∷ (between ++ later ∷ after)
-        → Is first → Is later → StandsTwice Is ts
-    at_place [] first between later after e f l = let same : first ≡ t = cc in absurd (not (subst Is same f))
-    at_place (b ∷ before) first between later after e f l =
-        record { before = before; first = first; between = between; later = later; after = after; parts = cc; first_is = f; later_is = l }
-
--- of one item or none there are no two
-pub few : (Is : Tree → Type 0) (ts : List Tree) → length ts ≤ 1 → StandsTwice Is ts → ⊥
-few Is ts short both =
-    let all : length ts ≡ length both.before + suc (length both.between + suc (length both.after)) =
-    ap length both.parts ∙ length-append both.before _ ∙ ap (λ n. length both.before + suc n) (length-append both.between (both.later ∷ both.after)) in
-    omega (arith, all, short)
-
--- What has no form that is not read yet
-
--- no form by this element itself
-pub record IsPlain (t : Tree) : Type 0 where
-  pub no_form : is_pending t ≡ false
-  pub no_content : is_one_of (codes "content" ∷ []) t ≡ false
-  pub no_mode : is_tei t ≡ true → given t (codes "mode") ≡ None
-
--- the element and all inside it
-abbrev pub AllWithin : (Tree → Type 0) → Tree → Type 0
-AllWithin P t = (u : Tree) → StandsWithin t u → P u
-
--- what holds of the element and of all inside its children holds of all inside it
-pub all_within : (P : Tree → Type 0) (t : Tree) → P t → All (AllWithin P) (children_of t) → AllWithin P t
-all_within P t here below u search.itself = here
-all_within P t here below u (search.inside child s w) = All-contains (AllWithin P) (children_of t) child below (contained (children_of t) child s) u w
-
--- an element without children has only itself within
-pub leaf_within : (P : Tree → Type 0) (t : Tree) → children_of t ≡ [] → P t → AllWithin P t
-leaf_within P t none here = all_within P t here (subst (All (AllWithin P)) (sym none) (All-nil (AllWithin P)))
-
--- and one with a single child itself and what is within the child
-pub one_within : (P : Tree → Type 0) (t child : Tree) → children_of t ≡ child ∷ [] → P t → AllWithin P child → AllWithin P t
-one_within P t child one here below = all_within P t here (subst (All (AllWithin P)) (sym one) (All-cons (AllWithin P) child [] below (All-nil (AllWithin P))))
-
--- a file with a `schemaSpec`, and no form by any of its elements
-pub not_pending : (t schema : Tree) (others : List Tree) → Finds t (schema ∷ others) → AllWithin IsPlain t → IsPending t → ⊥
-not_pending t schema others found plain (IsPending.form (pending.here u w (pending.named is))) = both_ways (is_pending u) (plain u w).no_form is
-not_pending t schema others found plain (IsPending.form (pending.here u w (pending.part e is))) = absurd (false≢true e)
-not_pending t schema others found plain (IsPending.form (pending.here u w (pending.parts n more))) = both_ways _ (plain u w).no_content (named_one (codes "content") u n)
-not_pending t schema others found plain (IsPending.form (pending.here u w (pending.mode is some))) = false≢true (subst IsSome ((plain u w).no_mode is) some)
-not_pending t schema others found plain (IsPending.form (pending.below c u w n below is)) = both_ways _ (plain c w).no_content (named_one (codes "content") c n)
-not_pending t schema others found plain (IsPending.no_schema none) = let no : schema ∷ others ≡ [] = one_search t _ _ found none in cc
-
--- What has no offence
-
--- an attribute that is given, and is a name
-pub named : (t : Tree) (local word : List ℕ) → given t local ≡ Some word → IsNCName word → LacksName t local → ⊥
-named t local word is name (inl none) = let no : Some word ≡ None = sym is ∙ none in cc
-named t local word is name (inr other) = other.2 (subst IsNCName (same_Some word other.0 (sym is ∙ other.1)) name)
-
--- and one that is not given
-pub not_given : (t : Tree) (local : List ℕ) → given t local ≡ None → IsMalformed t local → ⊥
-not_given t local none other = let no : None ≡ Some other.0 = sym none ∙ other.1 in cc
-
--- an `elementSpec` with an ident, and with nothing inside
-pub record IsBare (word : List ℕ) (item : Tree) : Type 0 where
-  pub is_spec : HasName (codes "elementSpec") item
-  pub ident : given item (codes "ident") ≡ Some word
-  pub name : IsNCName word
-  pub no_module : given item (codes "module") ≡ None
-  pub no_prefix : given item (codes "prefix") ≡ None
-  pub no_source : given item (codes "source") ≡ None
-  pub no_child : children_of item ≡ []
-
--- in it only itself is read, and that has no children
-nothing_inside : {word : List ℕ} {item : Tree} (t child : Tree) → IsBare word item → IsReadIn item t → StandsIn (children_of t) child → ⊥
-nothing_inside t child b IsReadIn.itself s = none_stands child _ b.no_child s
-nothing_inside t child b (IsReadIn.content c at n) s = none_stands c _ b.no_child at
-nothing_inside t child b (IsReadIn.part c p at n in_c is) s = none_stands c _ b.no_child at
-
--- so it breaks no rule
-pub bare_breaks_none : (word : List ℕ) (item : Tree) (rule : ℕ) → IsBare word item → SpecFault item rule → ⊥
-bare_breaks_none word item rule b (SpecFault.ident l) = named item (codes "ident") word b.ident b.name l
-bare_breaks_none word item rule b (SpecFault.of_module m) = not_given item (codes "module") b.no_module m
-bare_breaks_none word item rule b (SpecFault.left_out (inl p)) = false≢true (subst IsSome b.no_prefix p)
-bare_breaks_none word item rule b (SpecFault.left_out (inr s)) = false≢true (subst IsSome b.no_source s)
-bare_breaks_none word item rule b (SpecFault.constraint c at n) = none_stands c (children_of item) b.no_child at
-bare_breaks_none word item rule b (SpecFault.relax_ng t c r at is) = nothing_inside t c b r at
-bare_breaks_none word item rule b (SpecFault.child t c r at is) = nothing_inside t c b r at
-bare_breaks_none word item rule b (SpecFault.contents both) = few _ (children_of item) (subst (λ ts. length ts ≤ 1) (sym b.no_child) (omega arith)) both
-
--- an item that breaks no rule
-abbrev pub IsSound : Tree → Type 0
-IsSound item = (rule : ℕ) → ItemFault item rule → ⊥
-
--- the name is that of an `elementSpec` or of a `constraintSpec`
-abbrev is_item : Name → Bool
-is_item n = is_same n.ns tei_namespace && list_any (is_same n.local) (codes "elementSpec" ∷ codes "constraintSpec" ∷ [])
-
--- nor does it as an item
-pub bare_is_sound : (word : List ℕ) (item : Tree) → IsBare word item → IsSound item
-bare_is_sound word item b rule (ItemFault.spec n fault) = bare_breaks_none word item rule b fault
-bare_is_sound word item b rule (ItemFault.constraint n) = let no : codes "elementSpec" ≡ codes "constraintSpec" = ap (λ m. m.local) (sym b.is_spec ∙ n) in cc
-bare_is_sound word item b rule (ItemFault.relax_ng is) = two_namespaces item (and_parts (is_tei item) _ (named_one (codes "elementSpec") item b.is_spec)).0 is
-bare_is_sound word item b rule (ItemFault.unknown is not passed) = both_ways _ not (ap is_item b.is_spec)
-
--- an item that is passed over breaks none
-pub passed_is_sound : (item : Tree) → is_passed_over item ≡ true → is_one_of (codes "elementSpec" ∷ codes "constraintSpec" ∷ []) item ≡ false → IsSound item
-passed_is_sound item passed not rule (ItemFault.spec n fault) = both_ways _ not (ap is_item n)
-passed_is_sound item passed not rule (ItemFault.constraint n) = both_ways _ not (ap is_item n)
-passed_is_sound item passed not rule (ItemFault.relax_ng is) = two_namespaces item (and_parts (is_tei item) _ passed).0 is
-passed_is_sound item passed not rule (ItemFault.unknown is other passing) = both_ways _ passing passed
-
--- a `schemaSpec` with an ident and with start words
-pub record IsNamedSchema (word start : List ℕ) (schema : Tree) : Type 0 where
-  pub ident : given schema (codes "ident") ≡ Some word
-  pub name : IsNCName word
-  pub asked : given schema (codes "start") ≡ Some start
-  pub names : AreNames (words_of start)
-
--- so it breaks no rule
-pub named_breaks_none : (word start : List ℕ) (schema : Tree) (rule : ℕ) → IsNamedSchema word start schema → SchemaFault schema rule → ⊥
-named_breaks_none word start schema rule n (SchemaFault.ident l) = named schema (codes "ident") word n.ident n.name l
-named_breaks_none word start schema rule n (SchemaFault.start value is others) = others (subst (λ v. AreNames (words_of v)) (same_Some start value (sym n.asked ∙ is)) n.names)
-
--- in a file with one such `schemaSpec` its items alone offend
-pub items_alone : (word start : List ℕ) (t schema : Tree) → Finds t (schema ∷ []) → IsNamedSchema word start schema
-    → (place rule : ℕ) → HasOffence t place rule → ItemOffends (children_of schema) place rule
-items_alone word start t schema found name place rule h =
-    let same : schema ∷ [] ≡ h.schema ∷ h.others = one_search t _ _ found h.found in
-    let schemas : h.schema ≡ schema = cc in
-    by_item h.others place rule (cc) (subst (λ s. Offends s h.others place rule) schemas h.offends)
-  where
-    by_item : (others : List Tree) (p r : ℕ) → others ≡ [] → Offends schema others p r → ItemOffends (children_of schema) p r
-    by_item others p r alone (Offends.itself fault at) = absurd (named_breaks_none word start schema r name fault)
-    by_item others p r alone (Offends.again other s at) = absurd (none_stands other others alone s)
-    by_item others p r alone (Offends.items offends) = offends
-
--- such a file has no offence where its items break no rule and are no two of one ident
-pub no_offence : (word start : List ℕ) (t schema : Tree) → Finds t (schema ∷ []) → IsNamedSchema word start schema → All IsSound (children_of schema)
-    → ((ident : List ℕ) → StandsTwice (IsSpecOf ident) (children_of schema) → ⊥) → (place rule : ℕ) → HasOffence t place rule → ⊥
-no_offence word start t schema found name sound once place rule h = none place rule (items_alone word start t schema found name place rule h)
-  where
-    none : (p r : ℕ) → ItemOffends (children_of schema) p r → ⊥
-    none p r (ItemOffends.alone item s fault at) = All-contains IsSound (children_of schema) item sound (contained (children_of schema) item s) r fault
-    none p r (ItemOffends.twice ident both at) = once ident both
-
--- an item that stands alone offends by itself
-pub one_item : (item : Tree) (place rule : ℕ) → ItemOffends (item ∷ []) place rule → ItemFault item rule × (place ≡ (out-Tree item).at)
-one_item item place rule (ItemOffends.alone other ([], after, e) fault at) =
-    let same : other ≡ item = cc in (subst (λ t. ItemFault t rule) same fault, at ∙ ap (λ t. (out-Tree t).at) same)
-one_item item place rule (ItemOffends.alone other (t ∷ before, after, e) fault at) = absurd (nothing_stands other (before, after, cc))
-one_item item place rule (ItemOffends.twice ident both at) = absurd (few (IsSpecOf ident) (item ∷ []) (omega arith) both)
-
--- an item of another name, that is none of RELAX NG, breaks rule 3 or none
-pub other_breaks_three : (item : Tree) (rule : ℕ) → is_one_of (codes "elementSpec" ∷ codes "constraintSpec" ∷ []) item ≡ false → is_relax_ng item ≡ false
-    → ItemFault item rule → rule ≡ 3
-other_breaks_three item rule not no_relax_ng (ItemFault.spec n fault) = absurd (both_ways _ not (ap is_item n))
-other_breaks_three item rule not no_relax_ng (ItemFault.constraint n) = absurd (both_ways _ not (ap is_item n))
-other_breaks_three item rule not no_relax_ng (ItemFault.relax_ng is) = absurd (both_ways _ no_relax_ng is)
-other_breaks_three item rule not no_relax_ng (ItemFault.unknown is other passed) = refl
-
--- Sorted words
-
--- one word alone is sorted
-pub one_word : (word : List ℕ) → AreSorted (word ∷ []) (word ∷ [])
-one_word word = record { rising = rising; none_else = λ w s. s; each = λ w s. s }
-  where
-    rising : AreRising (word ∷ [])
-    rising [] after w next e = cc
-    rising (b ∷ []) after w next e = cc
-    rising (b ∷ (c ∷ before)) after w next e = cc
+use Rattle.odd_decls.proofs.SmallFiles.{Each, HoldsNone, IsFine, IsNamedSchema, IsNamedSpec, IsSound, MayStand, a_alone, alone, among, attribute, bare_is_sound, by_children, declares, each_such, element, element_first, element_in, elements_are, entry_less, entry_more, few, few_rise, found_first, found_through, in_child, may_stand, no_entries, no_name, no_own_fault, nodes, none_held, not_pending, only_child, other_by_standing, plain, spec_by_children, spec_is_sound, stands, text_first, text_sound, twice_later}
 
 -- Words
 
@@ -256,96 +64,139 @@ no_text = refl
 one_of_others : words_of (codes "a,b;c") ≡ codes "a,b;c" ∷ []
 one_of_others = refl
 
+-- words in the wrong order do not rise, and neither does a word twice
+falling : (before after : List (List ℕ)) → AreRising text_cmp (before ++ codes "b" ∷ (codes "a" ∷ after)) → ⊥
+falling before after h = let less : text_cmp (codes "b") (codes "a") ≡ Less = h before after (codes "b") (codes "a") refl in cc
+
+word_twice : (before after : List (List ℕ)) → AreRising text_cmp (before ++ codes "a" ∷ (codes "a" ∷ after)) → ⊥
+word_twice before after h = let less : text_cmp (codes "a") (codes "a") ≡ Less = h before after (codes "a") (codes "a") refl in cc
+
+-- none is left out
+word_left_out : IsSet text_cmp (StandsIn (codes "b" ∷ codes "a" ∷ [])) (codes "a" ∷ []) → ⊥
+word_left_out h =
+    ⊎_elim (λ same. other_text (codes "b") (codes "a") refl same) (λ later. nothing_stands (codes "b") later)
+    (first_or_later (codes "a") (codes "b") [] (h.each (codes "b") (stands_first (codes "b") (codes "a" ∷ []))))
+
 -- The search
 
 -- `<schemaSpec/>` at a byte, and what is found in it
 abbrev schema_at : ℕ → Tree
 schema_at at = element at (codes "schemaSpec") [] []
 
-found_itself : (at : ℕ) → Finds (schema_at at) (schema_at at ∷ [])
-found_itself at = through [] refl search.nothing refl
+found_itself : (around : List Bind) (at : ℕ) → Finds around (schema_at at) (record { around = around; schema = schema_at at } ∷ [])
+found_itself around at = through [] refl search.nothing refl
 
 -- one in an `exemplum` is found
-found_in_exemplum : Finds (element 0 (codes "exemplum") [] (schema_at 10 ∷ [])) (schema_at 10 ∷ [])
-found_in_exemplum = through (schema_at 10 ∷ []) refl (search.element (schema_at 10 ∷ []) [] (found_itself 10) search.nothing refl) refl
+found_in_exemplum : Finds [] (element 0 (codes "exemplum") [] (schema_at 10 ∷ [])) (alone (schema_at 10) ∷ [])
+found_in_exemplum = found_through [] _ (schema_at 10 ∷ []) _ (elements_are (schema_at 10 ∷ [])) refl (found_first [] _ _ (found_itself [] 10))
 
 -- and none in an element of another namespace, although it is TEI's itself
-none_in_foreign : Finds (element 0 (codes "TEI") [] (element_in (codes "urn:x") 5 (codes "egXML") [] (schema_at 20 ∷ []) ∷ [])) []
-none_in_foreign = through [] refl (search.element [] [] (foreign refl) search.nothing refl) refl
+abbrev foreign_example : Tree
+foreign_example = element_in (codes "urn:x") 5 (codes "egXML") [] (schema_at 20 ∷ [])
 
-not_in_foreign : (found : List Tree) → Finds (element_in (codes "urn:x") 5 (codes "egXML") [] (schema_at 20 ∷ [])) found → found ≡ []
-not_in_foreign found f = one_search _ found [] f (foreign refl)
+none_in_foreign : Finds [] (element 0 (codes "TEI") [] (foreign_example ∷ [])) []
+none_in_foreign = found_through [] _ (foreign_example ∷ []) [] (elements_are (foreign_example ∷ [])) refl (found_first [] _ [] (foreign refl))
+
+not_in_foreign : (found : List Found) → Finds [] foreign_example found → found ≡ []
+not_in_foreign found f = one_search [] _ found [] f (foreign refl)
 
 -- two in document order, with a text between them
+abbrev p_with_schema : Tree
+p_with_schema = element 21 (codes "p") [] (schema_at 24 ∷ [])
+
 abbrev two_schemas : Tree
-two_schemas = roll-Tree (record {
-  name = tei (codes "TEI");
-  attrs = [];
-  binds = [];
-  children = Element (schema_at 5) ∷ (Text (codes "and") ∷ (Element (element 21 (codes "p") [] (schema_at 24 ∷ [])) ∷ []));
-  at = 0;
-})
+two_schemas = roll-Tree (record { name = tei (codes "TEI"); attrs = []; binds = []; children = Element (schema_at 5) ∷ (Text (codes "and") ∷ (Element p_with_schema ∷ [])); at = 0 })
 
-found_in_p : Finds (element 21 (codes "p") [] (schema_at 24 ∷ [])) (schema_at 24 ∷ [])
-found_in_p = through (schema_at 24 ∷ []) refl (search.element (schema_at 24 ∷ []) [] (found_itself 24) search.nothing refl) refl
+found_in_p : Finds [] p_with_schema (alone (schema_at 24) ∷ [])
+found_in_p = found_through [] _ (schema_at 24 ∷ []) _ (elements_are (schema_at 24 ∷ [])) refl (found_first [] _ _ (found_itself [] 24))
 
-two_found : Finds two_schemas (schema_at 5 ∷ schema_at 24 ∷ [])
+two_found : Finds [] two_schemas (alone (schema_at 5) ∷ alone (schema_at 24) ∷ [])
 two_found =
-    through (schema_at 5 ∷ schema_at 24 ∷ []) refl
-    (search.element (schema_at 5 ∷ []) (schema_at 24 ∷ []) (found_itself 5) (search.text (search.element (schema_at 24 ∷ []) [] found_in_p search.nothing refl)) refl) refl
+    found_through [] two_schemas (schema_at 5 ∷ p_with_schema ∷ []) _ (element_first _ (Text (codes "and") ∷ nodes (p_with_schema ∷ [])) _ (text_first (codes "and") (nodes (p_with_schema ∷ [])) _ (elements_are _))) refl
+    (search.element _ _ (found_itself [] 5) (found_first [] _ _ found_in_p) refl)
 
 -- and not in another order
-order_is_that : Finds two_schemas (schema_at 24 ∷ schema_at 5 ∷ []) → ⊥
+order_is_that : Finds [] two_schemas (alone (schema_at 24) ∷ alone (schema_at 5) ∷ []) → ⊥
 order_is_that f =
-    let same : schema_at 24 ∷ schema_at 5 ∷ [] ≡ schema_at 5 ∷ schema_at 24 ∷ [] = one_search two_schemas _ _ f two_found in
-    let first : schema_at 24 ≡ schema_at 5 = cc in
-    let places : ◌≡◌ {A = ℕ} 24 5 = ap (λ t. (out-Tree t).at) first in
+    let same : alone (schema_at 24) ∷ alone (schema_at 5) ∷ [] ≡ alone (schema_at 5) ∷ alone (schema_at 24) ∷ [] = one_search [] two_schemas _ _ f two_found in
+    let first : alone (schema_at 24) ≡ alone (schema_at 5) = cc in
+    let places : ◌≡◌ {A = ℕ} 24 5 = ap (λ g. (out-Tree g.schema).at) first in
     omega (arith, places)
 
 -- one inside another is found after it
 abbrev outer : Tree
 outer = element 0 (codes "schemaSpec") [] (schema_at 12 ∷ [])
 
-found_after_outer : Finds outer (outer ∷ schema_at 12 ∷ [])
-found_after_outer = through (schema_at 12 ∷ []) refl (search.element (schema_at 12 ∷ []) [] (found_itself 12) search.nothing refl) refl
+found_after_outer : Finds [] outer (alone outer ∷ alone (schema_at 12) ∷ [])
+found_after_outer = found_through [] outer (schema_at 12 ∷ []) _ (elements_are (schema_at 12 ∷ [])) refl (found_first [] _ _ (found_itself [] 12))
+
+-- a prefix that the element around a `schemaSpec` binds is in force there, and so a word with this prefix is a name
+abbrev x_bound : List Bind
+x_bound = record { prefix = codes "x"; ns = codes "urn:x" } ∷ []
+
+abbrev binding : Tree
+binding = roll-Tree (record { name = tei (codes "TEI"); attrs = []; binds = x_bound; children = nodes (schema_at 30 ∷ []); at = 0 })
+
+binding_is_around : Finds [] binding (record { around = x_bound; schema = schema_at 30 } ∷ [])
+binding_is_around = found_through [] binding (schema_at 30 ∷ []) _ (elements_are (schema_at 30 ∷ [])) refl (found_first x_bound _ _ (found_itself x_bound 30))
+
+word_is_name : IsNameOf x_bound (codes "x:b") (record { ns = codes "urn:x"; local = codes "b" })
+word_is_name = record { prefix = codes "x"; prefixed = record { is = refl; prefix_named = is_name (codes "x") refl; local_named = is_name (codes "b") refl }; bound = refl }
 
 -- Forms that are not read yet
 
--- what stands in an element is inside it
-child_within : (t child : Tree) → StandsIn (children_of t) child → StandsWithin t child
-child_within t child s = search.inside child s search.itself
-
--- the only child of an element stands in it
-only_child : (t : Tree) → StandsIn (elements_of (nodes (t ∷ []))) t
-only_child t = ([], [], elements_are (t ∷ []))
-
--- an `attList` in a `desc`
-abbrev att_list : Tree
-att_list = element 6 (codes "attList") [] []
-
-att_list_in_desc : IsPending (element 0 (codes "desc") [] (att_list ∷ []))
-att_list_in_desc = IsPending.form (pending.here att_list (child_within _ att_list (only_child att_list)) (pending.named refl))
-
--- a `content` with two elements of TEI's
+-- an element with these children
 abbrev part : List ℕ → Tree
 part local = element 30 local [] []
 
-abbrev two_parts : Tree
-two_parts = element 20 (codes "content") [] (part (codes "empty") ∷ part (codes "textNode") ∷ [])
+abbrev desc_with : List Tree → Tree
+desc_with children = element 3 (codes "desc") [] children
 
-two_parts_pending : IsPending two_parts
-two_parts_pending =
-    IsPending.form (pending.here two_parts search.itself (pending.parts refl
-    (subst (λ ts. 2 ≤ length (filter is_tei ts)) (sym (elements_are (part (codes "empty") ∷ part (codes "textNode") ∷ []))) (omega arith))))
+abbrev p_with : List Tree → Tree
+p_with children = element 25 (codes "p") [] children
+
+abbrev content_with : List Tree → Tree
+content_with children = element 20 (codes "content") [] children
+
+-- an `attList` in a `desc`, and an `altIdent` in a `schemaSpec`
+att_list_in_desc : IsPending (desc_with (part (codes "attList") ∷ []))
+att_list_in_desc = IsPending.form (in_child outermost _ _ (elements_are (part (codes "attList") ∷ [])) (pending.here (pending.attributes refl)))
+
+other_ident : IsPending (element 0 (codes "schemaSpec") [] (part (codes "altIdent") ∷ []))
+other_ident = IsPending.form (in_child outermost _ _ (elements_are (part (codes "altIdent") ∷ [])) (pending.here (pending.attributes refl)))
+
+-- a `content` with two elements of TEI's
+two_parts : IsPending (content_with (part (codes "empty") ∷ part (codes "textNode") ∷ []))
+two_parts =
+    IsPending.form (pending.here (pending.several refl
+    (subst (λ ts. 2 ≤ count_by is_tei ts) (sym (elements_are (part (codes "empty") ∷ part (codes "textNode") ∷ []))) (omega arith))))
+
+-- an `elementRef` in prose, by the row of references, and in a `content`, by that of the parts of content models
+reference_in_prose : IsPending (p_with (part (codes "elementRef") ∷ []))
+reference_in_prose = IsPending.form (in_child outermost _ _ (elements_are (part (codes "elementRef") ∷ [])) (pending.here (pending.references refl refl)))
+
+reference_in_content : IsPending (content_with (part (codes "elementRef") ∷ []))
+reference_in_content = IsPending.form (in_child outermost _ _ (elements_are (part (codes "elementRef") ∷ [])) (pending.here (pending.parts refl refl)))
 
 -- an `anyElement` in a `p` in a `content`
 abbrev any_in_p : Tree
-any_in_p = element 25 (codes "p") [] (part (codes "anyElement") ∷ [])
+any_in_p = p_with (part (codes "anyElement") ∷ [])
 
-any_in_content : IsPending (element 20 (codes "content") [] (any_in_p ∷ []))
+any_in_content : IsPending (content_with (any_in_p ∷ []))
 any_in_content =
-    IsPending.form (pending.below _ (part (codes "anyElement")) search.itself refl
-    (any_in_p, only_child any_in_p, child_within any_in_p (part (codes "anyElement")) (only_child (part (codes "anyElement")))) (pending.part refl refl))
+    IsPending.form (in_child outermost _ _ (elements_are (any_in_p ∷ []))
+    (in_child _ _ _ (elements_are (part (codes "anyElement") ∷ [])) (pending.here (pending.parts refl refl))))
+
+-- but not in a `p` outside
+any_in_prose : IsPending (element 0 (codes "schemaSpec") [] (any_in_p ∷ [])) → ⊥
+any_in_prose =
+    not_pending _ (alone (element 0 (codes "schemaSpec") [] (any_in_p ∷ []))) [] (found_through [] _ (any_in_p ∷ []) [] (elements_are (any_in_p ∷ [])) refl
+    (found_first [] any_in_p [] (found_through [] any_in_p _ [] (elements_are (part (codes "anyElement") ∷ [])) refl (found_first [] _ [] (found_through [] _ [] [] refl refl search.nothing)))))
+    (none_held _ _ (any_in_p ∷ []) (elements_are (any_in_p ∷ [])) (plain _ _ refl (λ c. cc) (λ c. cc) (λ _. refl)) (
+      none_held _ _ _ (elements_are (part (codes "anyElement") ∷ [])) (plain _ _ refl (λ c. cc) (λ c. cc) (λ _. refl))
+          (none_held _ _ [] refl (plain _ _ refl (λ c. cc) (λ c. cc) (λ _. refl)) tt, tt),
+      tt,
+    ))
 
 -- a file without a `schemaSpec`
 no_schema_pending : IsPending (element 0 (codes "TEI") [] [])
@@ -353,7 +204,7 @@ no_schema_pending = IsPending.no_schema (through [] refl search.nothing refl)
 
 -- the attribute `mode` on an element of TEI's
 mode_pending : IsPending (element 0 (codes "schemaSpec") (attribute (codes "mode") (codes "add") ∷ []) [])
-mode_pending = IsPending.form (pending.here _ search.itself (pending.mode refl refl))
+mode_pending = IsPending.form (pending.here (pending.modes refl refl))
 
 -- not the same name in a namespace, nor on an element of another namespace
 abbrev foreign_p : Tree
@@ -364,149 +215,173 @@ foreign_mode = element 0 (codes "schemaSpec") (record { name = record { ns = cod
 
 foreign_mode_read : IsPending foreign_mode → ⊥
 foreign_mode_read =
-    not_pending foreign_mode foreign_mode [] (through [] refl (search.element [] [] (foreign refl) search.nothing refl) refl)
-    (one_within IsPlain foreign_mode foreign_p (elements_are (foreign_p ∷ [])) (record { no_form = refl; no_content = refl; no_mode = λ is. refl })
-    (leaf_within IsPlain foreign_p refl (record { no_form = refl; no_content = refl; no_mode = λ is. absurd (false≢true is) })))
+    not_pending foreign_mode (alone foreign_mode) [] (found_through [] foreign_mode (foreign_p ∷ []) [] (elements_are (foreign_p ∷ [])) refl (found_first [] _ [] (foreign refl)))
+    (none_held _ _ (foreign_p ∷ []) (elements_are (foreign_p ∷ [])) (plain _ _ refl (λ _. refl) (λ c. cc) (λ _. refl))
+    (none_held _ _ [] refl (plain _ _ refl (λ _. refl) (λ c. cc) (λ c. cc)) tt, tt))
 
 -- What an `elementSpec` breaks
 
--- an `elementSpec` with its ident and with these children
-abbrev spec_with : ℕ → List Tree → Tree
-spec_with at children = element at (codes "elementSpec") (attribute (codes "ident") (codes "a") ∷ []) children
-
+-- an `elementSpec` with its ident, and with more attributes or with children
 abbrev spec_given : List Attr → Tree
 spec_given attrs = element 7 (codes "elementSpec") (attribute (codes "ident") (codes "a") ∷ attrs) []
 
-abbrev content_with : List Tree → Tree
-content_with children = element 20 (codes "content") [] children
+abbrev spec_with : ℕ → List Tree → Tree
+spec_with at children = element at (codes "elementSpec") (attribute (codes "ident") (codes "a") ∷ []) children
 
--- without an `ident` it breaks rule 1
-no_ident : SpecFault (element 7 (codes "elementSpec") [] []) 1
-no_ident = SpecFault.ident (inl refl)
+spec_named : (at : ℕ) (children : List Tree) → IsNamedSpec (codes "a") (spec_with at children)
+spec_named at children = record { is_spec = refl; ident = refl; name = is_name (codes "a") refl; no_module = refl; no_prefix = refl; no_source = refl }
 
--- and so it does with an empty one
+-- the rule of an attribute that it may have
+attribute_breaks : (a : AttributeForm) (item : Tree) (rule : ℕ) → StandsIn (form_at elements.ElementSpec).attributes a → AttributeFault a item rule → SpecFault [] item rule
+attribute_breaks a item rule s fault = SpecFault.form (FormFault.own (OwnFault.attribute a s fault))
+
+-- without an `ident` it breaks rule 1, and so it does with an empty one and with an empty module
+no_ident : SpecFault [] (element 7 (codes "elementSpec") [] []) 1
+no_ident = attribute_breaks _ _ 1 (stands_first _ _) (AttributeFault.absent refl refl)
+
 empty_is_no_name : IsNCName [] → ⊥
 empty_is_no_name = no_name [] refl refl
 
-empty_ident : SpecFault (element 7 (codes "elementSpec") (attribute (codes "ident") [] ∷ []) []) 1
-empty_ident = SpecFault.ident (inr ([], refl, empty_is_no_name))
+empty_ident : SpecFault [] (element 7 (codes "elementSpec") (attribute (codes "ident") [] ∷ []) []) 1
+empty_ident = attribute_breaks (table.needed (codes "ident") form.name) _ 1 (stands_first _ _) (AttributeFault.value [] refl (ValueFault.malformed refl empty_is_no_name))
 
-empty_module : SpecFault (spec_given (attribute (codes "module") [] ∷ [])) 1
-empty_module = SpecFault.of_module ([], refl, empty_is_no_name)
+empty_module : SpecFault [] (spec_given (attribute (codes "module") [] ∷ [])) 1
+empty_module =
+    attribute_breaks (table.optional (codes "module") form.name) _ 1 (stands_later _ _ _ (stands_first _ [])) (AttributeFault.value [] refl (ValueFault.malformed refl empty_is_no_name))
 
 -- `source` is left out, whatever it says
-empty_source : SpecFault (spec_given (attribute (codes "source") [] ∷ [])) 2
-empty_source = SpecFault.left_out (inr refl)
+empty_source : SpecFault [] (spec_given (attribute (codes "source") [] ∷ [])) 2
+empty_source = SpecFault.form (FormFault.own (OwnFault.left_out (codes "source") (stands_later _ _ _ (stands_first _ [])) refl))
 
 -- a `constraintSpec` in it, and as an item
 abbrev constraint_spec : Tree
 constraint_spec = element 20 (codes "constraintSpec") [] []
 
-constraint_in_spec : SpecFault (spec_with 7 (constraint_spec ∷ [])) 2
-constraint_in_spec = SpecFault.constraint constraint_spec (only_child constraint_spec) refl
+constraint_in_spec : SpecFault [] (spec_with 7 (constraint_spec ∷ [])) 2
+constraint_in_spec = SpecFault.form (FormFault.child constraint_spec (only_child constraint_spec) (ChildFault.left_out refl))
 
-constraint_item : ItemFault constraint_spec 2
-constraint_item = ItemFault.constraint refl
+constraint_item : ItemFault [] constraint_spec 2
+constraint_item = ItemFault.misplaced (ChildFault.left_out refl)
+
+-- what stands in its only `content` breaks the rule of the `elementSpec`
+in_its_content : (children : List Tree) (rule : ℕ) → ContentFault [] (content_with children) rule → SpecFault [] (spec_with 7 (content_with children ∷ [])) rule
+in_its_content children rule fault = SpecFault.content (content_with children) (only_child (content_with children)) refl fault
 
 -- an element of RELAX NG in a `content` is left out, and breaks rule 2 alone
 abbrev of_relax_ng : Tree
 of_relax_ng = element_in relax_ng_namespace 30 (codes "text") [] []
 
-relax_ng_in_content : SpecFault (spec_with 7 (content_with (of_relax_ng ∷ []) ∷ [])) 2
-relax_ng_in_content =
-    SpecFault.relax_ng (content_with (of_relax_ng ∷ [])) of_relax_ng (IsReadIn.content _ (only_child (content_with (of_relax_ng ∷ []))) refl) (only_child of_relax_ng) refl
+relax_ng_in_content : SpecFault [] (spec_with 7 (content_with (of_relax_ng ∷ []) ∷ [])) 2
+relax_ng_in_content = in_its_content (of_relax_ng ∷ []) 2 (ContentFault.form (FormFault.child of_relax_ng (only_child of_relax_ng) (ChildFault.relax_ng refl)))
 
-relax_ng_may_stand : (t : Tree) → MayNotStand t of_relax_ng → ⊥
-relax_ng_may_stand t (inl no_tei) = false≢true no_tei.0
-relax_ng_may_stand t (inr other) = false≢true (sym other.1)
+relax_ng_breaks_two : (rule : ℕ) → ChildFault (form_at elements.Content) of_relax_ng rule → rule ≡ 2
+relax_ng_breaks_two rule (ChildFault.relax_ng is) = refl
+relax_ng_breaks_two rule (ChildFault.left_out is) = refl
+relax_ng_breaks_two rule (ChildFault.unknown counts no_relax in_place none passed) = cc
 
--- one of another namespace may not stand in a `content`, and is passed over in an `elementSpec`
+-- one of another namespace may not stand in a `content`, which breaks rule 3, and is passed over in an `elementSpec`
 abbrev of_another : Tree
 of_another = element_in (codes "urn:x") 30 (codes "empty") [] []
 
-another_in_content : SpecFault (spec_with 7 (content_with (of_another ∷ []) ∷ [])) 3
-another_in_content =
-    SpecFault.child (content_with (of_another ∷ [])) of_another (IsReadIn.content _ (only_child (content_with (of_another ∷ []))) refl) (only_child of_another)
-    (inr (refl, refl, refl))
+another_in_content : SpecFault [] (spec_with 7 (content_with (of_another ∷ []) ∷ [])) 3
+another_in_content = in_its_content (of_another ∷ []) 3 (ContentFault.form (FormFault.child of_another (only_child of_another) (ChildFault.unknown refl refl refl refl refl)))
 
-another_in_spec : (at : ℕ) (children : List Tree) → MayNotStand (spec_with at children) of_another → ⊥
-another_in_spec at children (inl no_tei) = false≢true no_tei.0
-another_in_spec at children (inr other) = false≢true (sym other.2)
+another_in_spec : MayStand (form_at elements.ElementSpec) of_another
+another_in_spec = may_stand _ _ refl refl (λ none passed counts. cc)
 
--- an element of TEI's may not stand in an `empty`
+-- an element of TEI's may not stand in an `empty`, which breaks the rule of the item
 abbrev full : Tree
 full = element 30 (codes "empty") [] (element 37 (codes "p") [] [] ∷ [])
 
-p_in_empty : SpecFault (spec_with 7 (content_with (full ∷ []) ∷ [])) 3
+p_in_empty : SpecFault [] (spec_with 7 (content_with (full ∷ []) ∷ [])) 3
 p_in_empty =
-    SpecFault.child full (element 37 (codes "p") [] []) (IsReadIn.part (content_with (full ∷ [])) full (only_child (content_with (full ∷ []))) refl (only_child full) refl)
-    (only_child (element 37 (codes "p") [] [])) (inl (refl, refl, refl))
+    in_its_content (full ∷ []) 3 (ContentFault.inside (
+      full,
+      subst (λ ts. StandsIn (filter (λ t. is_some (part_of t)) ts) full) (sym (elements_are (full ∷ []))) (stands_first full []),
+      PartFault.form elements.Empty refl (FormFault.child _ (only_child (element 37 (codes "p") [] [])) (ChildFault.unknown refl refl refl refl refl)),
+    ))
+
+told_at_the_item : ItemOffends [] (spec_with 7 (content_with (full ∷ []) ∷ []) ∷ []) 7 3
+told_at_the_item = ItemOffends.alone (spec_with 7 (content_with (full ∷ []) ∷ [])) (stands_first _ []) (ItemFault.spec refl p_in_empty) refl
 
 -- but a `desc` may
-desc_in_empty : (children : List Tree) → MayNotStand (element 30 (codes "empty") [] children) (element 37 (codes "desc") [] []) → ⊥
-desc_in_empty children (inl other) = false≢true (sym other.2)
-desc_in_empty children (inr no_tei) = false≢true (sym no_tei.0)
+desc_in_empty : MayStand (form_at elements.Empty) (desc_with [])
+desc_in_empty = may_stand _ _ refl refl (λ none passed counts. cc)
 
--- two `content` are one too many, and a single one is not
-two_contents : SpecFault (spec_with 7 (content_with [] ∷ content_with [] ∷ [])) 4
-two_contents = SpecFault.contents (record {
-  before = [];
-  first = content_with [];
-  between = [];
-  later = content_with [];
-  after = [];
-  parts = elements_are (content_with [] ∷ content_with [] ∷ []);
-  first_is = refl;
-  later_is = refl;
-})
+-- two `content` are one too many
+two_contents : SpecFault [] (spec_with 7 (content_with [] ∷ content_with [] ∷ [])) 4
+two_contents =
+    SpecFault.form (FormFault.twice elements.Content (stands_first _ []) (subst (λ ts. 2 ≤ count_by (is_one_of (codes "content" ∷ [])) ts) (sym (elements_are (content_with [] ∷ content_with [] ∷ []))) (omega arith)))
 
-one_content : StandsTwice (HasName (codes "content")) (content_with [] ∷ []) → ⊥
-one_content = few (HasName (codes "content")) (content_with [] ∷ []) (omega arith)
+-- of two rules the least is broken first, in either order of the children
+abbrev unknown_child : Tree
+unknown_child = element 15 (codes "p") [] []
+
+two_is_least : (ts : List Tree) → count_by (is_one_of (codes "content" ∷ [])) ts ≤ 1 → Each (IsFine []) ts → StandsIn ts constraint_spec → IsLeast (SpecFault [] (spec_with 7 ts)) (Some 2)
+two_is_least ts once fine s = (
+  SpecFault.form (FormFault.child constraint_spec (stands ts constraint_spec s) (ChildFault.left_out refl)),
+  λ rule fault.
+      let broken = spec_by_children (codes "a") [] (spec_with 7 ts) ts rule (spec_named 7 ts) (elements_are ts) once fine fault in at_least_two broken.2,
+)
+  where
+    at_least_two : {child : Tree} {r : ℕ} → ChildFault (form_at elements.ElementSpec) child r → 2 ≤ r
+    at_least_two (ChildFault.relax_ng is) = omega arith
+    at_least_two (ChildFault.left_out is) = omega arith
+    at_least_two (ChildFault.unknown counts n p none passed) = omega arith
+
+no_content : (around : List Bind) (child : Tree) → child_in (form_at elements.ElementSpec) child ≡ None → IsFine around child
+no_content around child not is = let no : Some elements.Content ≡ None = sym is ∙ not in cc
+
+least_at_first : IsLeast (SpecFault [] (spec_with 7 (constraint_spec ∷ unknown_child ∷ []))) (Some 2)
+least_at_first = two_is_least (constraint_spec ∷ unknown_child ∷ []) (omega arith) (no_content _ _ refl, (no_content _ _ refl, tt)) (stands_first _ _)
+
+least_at_last : IsLeast (SpecFault [] (spec_with 7 (unknown_child ∷ constraint_spec ∷ []))) (Some 2)
+least_at_last = two_is_least (unknown_child ∷ constraint_spec ∷ []) (omega arith) (no_content _ _ refl, (no_content _ _ refl, tt)) (stands_later _ _ _ (stands_first _ []))
 
 -- What items and a `schemaSpec` break
 
 -- two specs of one ident offend at the later one, whatever stands between them
-two_of_one_ident : ItemOffends (spec_with 10 [] ∷ constraint_spec ∷ spec_with 40 [] ∷ []) 40 4
-two_of_one_ident = ItemOffends.twice (codes "a") (record {
-  before = [];
-  first = spec_with 10 [];
-  between = constraint_spec ∷ [];
-  later = spec_with 40 [];
-  after = [];
-  parts = refl;
-  first_is = (refl, refl, is_name (codes "a") refl);
-  later_is = (refl, refl, is_name (codes "a") refl);
-}) refl
+two_of_one_ident : ItemOffends [] (spec_with 10 [] ∷ constraint_spec ∷ spec_with 40 [] ∷ []) 40 4
+two_of_one_ident =
+    let is : (at : ℕ) → IsSpecOf (codes "a") (spec_with at []) = λ at. (refl, refl, is_name (codes "a") refl) in
+    ItemOffends.twice (codes "a")
+    (record { before = []; first = spec_with 10 []; between = constraint_spec ∷ []; later = spec_with 40 []; after = []; parts = refl; first_is = is 10; later_is = is 40 }) refl
 
 -- a `schemaSpec` in a `schemaSpec` offends twice at its place: it may not stand there, and it is a second one
 inner_may_not_stand : HasOffence outer 12 3
 inner_may_not_stand = record {
-  schema = outer;
-  others = schema_at 12 ∷ [];
+  first = alone outer;
+  others = alone (schema_at 12) ∷ [];
   found = found_after_outer;
-  offends = Offends.items (ItemOffends.alone (schema_at 12) (only_child (schema_at 12)) (ItemFault.unknown refl refl refl) refl);
+  offends = Offends.items (ItemOffends.alone (schema_at 12) (only_child (schema_at 12)) (ItemFault.misplaced (ChildFault.unknown refl refl refl refl refl)) refl);
 }
 
 inner_is_a_second : HasOffence outer 12 4
-inner_is_a_second = record { schema = outer; others = schema_at 12 ∷ []; found = found_after_outer; offends = Offends.again (schema_at 12) ([], [], refl) refl }
+inner_is_a_second =
+    record { first = alone outer; others = alone (schema_at 12) ∷ []; found = found_after_outer; offends = Offends.again (alone (schema_at 12)) (stands_first _ []) refl }
 
 -- and so does a second one beside it
 second_schema : HasOffence two_schemas 24 4
-second_schema = record { schema = schema_at 5; others = schema_at 24 ∷ []; found = two_found; offends = Offends.again (schema_at 24) ([], [], refl) refl }
+second_schema =
+    record { first = alone (schema_at 5); others = alone (schema_at 24) ∷ []; found = two_found; offends = Offends.again (alone (schema_at 24)) (stands_first _ []) refl }
 
 -- no start word, and a start word that is no name
 abbrev schema_started : List ℕ → Tree
 schema_started start = element 0 (codes "schemaSpec") (attribute (codes "ident") (codes "s") ∷ attribute (codes "start") start ∷ []) []
 
-no_start_word : SchemaFault (schema_started []) 1
-no_start_word = SchemaFault.start [] refl (λ names. names.some refl)
+start_breaks_one : (start : List ℕ) → (AreNames (words_of start) → ⊥) → OwnFault (form_at elements.SchemaSpec) (schema_started start) 1
+start_breaks_one start misfit =
+    OwnFault.attribute (table.optional (codes "start") form.names) (stands_later _ _ _ (stands_first _ [])) (AttributeFault.value start refl (ValueFault.malformed refl misfit))
+
+no_start_word : OwnFault (form_at elements.SchemaSpec) (schema_started []) 1
+no_start_word = start_breaks_one [] (λ names. names.some refl)
 
 one_is_no_name : IsNCName (codes "1") → ⊥
 unfolding is_name_start
 one_is_no_name = no_name (codes "1") refl refl
 
-start_at_one : SchemaFault (schema_started (codes "a 1")) 1
-start_at_one = SchemaFault.start (codes "a 1") refl (λ names. one_is_no_name (All-contains IsNCName (codes "a" ∷ codes "1" ∷ []) (codes "1") names.named (1, omega arith, refl)))
+start_at_one : OwnFault (form_at elements.SchemaSpec) (schema_started (codes "a 1")) 1
+start_at_one = start_breaks_one (codes "a 1") (λ names. one_is_no_name (All-contains IsNCName (codes "a" ∷ codes "1" ∷ []) (codes "1") names.named (1, omega arith, refl)))
 
 -- The first offence
 
@@ -526,211 +401,211 @@ first_of_three = record { is_one = child refl refl; first = first }
     first other others_rule (child at by) = inr (sym at, omega (arith, by))
 
 -- no other is
-not_the_later_place : IsFirstOf ThreeOffences 9 1 → ⊥
-not_the_later_place h = before (h.first 5 3 (child refl refl))
+first_alone : (place rule : ℕ) → IsFirstOf ThreeOffences place rule → (place ≡ 5) × (rule ≡ 3)
+first_alone place rule h = both (h.first 5 3 (child refl refl)) (first_of_three.first place rule h.is_one)
   where
-    before : IsNotBefore 9 1 5 3 → ⊥
-    before (inl less) = omega (arith, less)
-    before (inr same) = let e = same.0 in omega (arith, e)
-
-not_the_greater_rule : IsFirstOf ThreeOffences 5 4 → ⊥
-not_the_greater_rule h = before (h.first 5 3 (child refl refl))
-  where
-    before : IsNotBefore 5 4 5 3 → ⊥
-    before (inl less) = omega (arith, less)
-    before (inr same) = let e = same.1 in omega (arith, e)
+    both : IsNotBefore place rule 5 3 → IsNotBefore 5 3 place rule → (place ≡ 5) × (rule ≡ 3)
+    both (inl less) (inl more) = omega (arith, less, more)
+    both (inl less) (inr same) = let at = same.0 in absurd (omega (arith, less, at))
+    both (inr same) (inl more) = let at = same.0 in absurd (omega (arith, more, at))
+    both (inr same) (inr alike) = let least = same.1 in let most = alike.1 in (same.0, omega (arith, least, most))
 
 -- where there is none, none is first
 none_first : (place rule : ℕ) → IsFirstOf (λ p r. ⊥) place rule → ⊥
 none_first place rule h = h.is_one
 
+-- Contents
+
+-- an element that stands in a `content` as its only part
+only_part : (t : Tree) → is_some (part_of t) ≡ true → parts_of (content_with (t ∷ [])) ≡ t ∷ []
+only_part t is = ap (filter (λ p. is_some (part_of p))) (elements_are (t ∷ [])) ∙ ap (λ b. if b then t ∷ [] else []) is
+
+-- the content that an `elementSpec` gives with a `content` of this part
+gives_part : (t : Tree) (c : Content) → is_some (part_of t) ≡ true → IsPart [] t c → GivesContent [] (spec_with 7 (content_with (t ∷ []) ∷ [])) (Some c)
+gives_part t c is read = GivesContent.some (content_with (t ∷ [])) (only_child _) refl (record {
+  parts = c ∷ [];
+  given = subst (λ ts. AreParts [] ts (c ∷ [])) (sym (only_part t is)) (AreParts.more read AreParts.nothing);
+  joined = refl;
+})
+
+gives_empty : GivesContent [] (spec_with 7 (content_with (part (codes "empty") ∷ []) ∷ [])) (Some content.Empty)
+gives_empty = gives_part (part (codes "empty")) content.Empty refl (IsPart.empty refl)
+
+gives_text : GivesContent [] (spec_with 7 (content_with (part (codes "textNode") ∷ []) ∷ [])) (Some content.Text)
+gives_text = gives_part (part (codes "textNode")) content.Text refl (IsPart.text refl)
+
+-- a `content` without a part gives nothing, and no `content` gives none
+gives_nothing : GivesContent [] (spec_with 7 (content_with [] ∷ [])) (Some content.Empty)
+gives_nothing = GivesContent.some (content_with []) (only_child _) refl (record { parts = []; given = AreParts.nothing; joined = refl })
+
+gives_none : GivesContent [] (spec_with 7 (constraint_spec ∷ [])) None
+gives_none = GivesContent.none (λ child s is.
+    each_such (λ t. IsContentChild t → ⊥) (constraint_spec ∷ []) child ((λ h. let absent : None ≡ Some elements.Content = h in cc), tt) (among (elements_are (constraint_spec ∷ [])) s) is)
+
+-- a `content` of a `textNode` breaks nothing
+abbrev text_content : Tree
+text_content = content_with (part (codes "textNode") ∷ [])
+
+text_content_fine : IsFine [] text_content
+text_content_fine is rule (ContentFault.form fault) =
+    let broken = by_children (form_at elements.Content) text_content (part (codes "textNode") ∷ []) rule (elements_are _) (λ r. no_own_fault (form_at elements.Content) text_content r tt tt refl) tt fault in
+    each_such (MayStand (form_at elements.Content)) _ broken.0 (may_stand _ _ refl refl (λ none passed counts. cc), tt) broken.1 rule broken.2
+text_content_fine is rule (ContentFault.inside (p, s, fault)) =
+    let same : p ≡ part (codes "textNode") = each_such (λ t. t ≡ part (codes "textNode")) (part (codes "textNode") ∷ []) p (refl, tt) (among (only_part (part (codes "textNode")) refl) s) in
+    text_sound _ [] p rule (ap part_of same) (ap children_of same) fault
+
 -- What files declare
 
--- `<elementSpec ident="a"/>` at byte 7, and what is read of it
-abbrev item : Tree
-item = spec_with 7 []
-
-abbrev read_spec : Spec
-read_spec = record { key = element_key (codes "a"); «module» = []; ns = Some tei_namespace; content = None }
-
-abbrev read : Entry
-read = entry.Spec 7 read_spec
-
-item_is_bare : IsBare (codes "a") item
-item_is_bare = record { is_spec = refl; ident = refl; name = is_name (codes "a") refl; no_module = refl; no_prefix = refl; no_source = refl; no_child = refl }
-
-item_is_read : (schema : Tree) → given schema (codes "ns") ≡ None → IsReadAs schema item 7 read_spec
-item_is_read schema none = record {
-  ident = codes "a";
-  is_spec = (refl, refl, is_name (codes "a") refl);
-  key = refl;
-  of_module = refl;
-  ns = ap (λ n. Some (unwrap_or n tei_namespace)) (sym none);
-  content = refl;
-  placed = refl;
-}
-
 -- `<schemaSpec ident="s" start="a">`, with these children
-abbrev schema_attributes : List Attr
-schema_attributes = attribute (codes "ident") (codes "s") ∷ attribute (codes "start") (codes "a") ∷ []
-
 abbrev schema_with : List Node → Tree
-schema_with children = roll-Tree (record { name = tei (codes "schemaSpec"); attrs = schema_attributes; binds = []; children = children; at = 0 })
-
-abbrev doc : OddDoc
-doc = record { ident = codes "s"; start = codes "a" ∷ []; entries = read ∷ [] }
-
-pub a_alone : AreNames (codes "a" ∷ [])
-a_alone = record { some = λ e. cc; named = All-cons IsNCName (codes "a") [] (is_name (codes "a") refl) (All-nil IsNCName) }
+schema_with children =
+    roll-Tree (record { name = tei (codes "schemaSpec"); attrs = attribute (codes "ident") (codes "s") ∷ attribute (codes "start") (codes "a") ∷ []; binds = []; children = children; at = 0 })
 
 schema_is_named : (children : List Node) → IsNamedSchema (codes "s") (codes "a") (schema_with children)
-schema_is_named children = record { ident = refl; name = is_name (codes "s") refl; asked = refl; names = a_alone }
+schema_is_named children = record { is_schema = refl; ident = refl; name = is_name (codes "s") refl; asked = refl; names = a_alone }
 
--- `<schemaSpec ident="s" start="a"><elementSpec ident="a"/></schemaSpec>`
-abbrev file : Tree
-file = schema_with (Element item ∷ [])
+-- what is read of an `elementSpec` at byte 7, and what such a file declares
+abbrev spec_of : Option Content → Spec
+spec_of c = record { key = element_key (codes "a"); «module» = []; ns = Some tei_namespace; content = c }
 
-file_found : Finds file (file ∷ [])
-file_found = through [] refl (search.element [] [] (through [] refl search.nothing refl) search.nothing refl) refl
+abbrev doc_of : Option Content → OddDoc
+doc_of c = record { ident = codes "s"; start = codes "a" ∷ []; entries = entry.Spec 7 (spec_of c) ∷ [] }
 
-file_is_plain : AllWithin IsPlain file
-file_is_plain =
-    one_within IsPlain file item (elements_are (item ∷ [])) (record { no_form = refl; no_content = refl; no_mode = λ is. refl })
-    (leaf_within IsPlain item refl (record { no_form = refl; no_content = refl; no_mode = λ is. refl }))
+item_read : (nodes_around : List Node) (children : List Tree) (c : Option Content) → GivesContent [] (spec_with 7 children) c
+    → IsEntryOf (alone (schema_with nodes_around)) (spec_with 7 children) (entry.Spec 7 (spec_of c))
+item_read nodes_around children c gives =
+    IsEntryOf.spec (record { ident = codes "a"; is_spec = (refl, refl, is_name (codes "a") refl); key = refl; of_module = refl; ns = refl; content = gives })
 
-file_is_sound : (place rule : ℕ) → HasOffence file place rule → ⊥
-file_is_sound =
-    no_offence (codes "s") (codes "a") file file file_found (schema_is_named _)
-    (subst (All IsSound) (sym (elements_are (item ∷ []))) (All-cons IsSound item [] (bare_is_sound (codes "a") item item_is_bare) (All-nil IsSound)))
-    (λ ident. subst (λ ts. StandsTwice (IsSpecOf ident) ts → ⊥) (sym (elements_are (item ∷ []))) (few (IsSpecOf ident) (item ∷ []) (omega arith)))
+-- a file with this item alone
+abbrev file_with : Tree → Tree
+file_with item = schema_with (nodes (item ∷ []))
 
-file_is_read : IsPending file → ⊥
-file_is_read = not_pending file file [] file_found file_is_plain
+one_item_declares : (children : List Tree) (c : Option Content) → GivesContent [] (spec_with 7 children) c → Finds [] (spec_with 7 children) []
+    → HoldsNone outermost (spec_with 7 children) → IsSound [] (spec_with 7 children) → Declares (file_with (spec_with 7 children)) (doc_of c)
+one_item_declares children c gives none_found holds sound =
+    declares (codes "s") (codes "a") (file_with (spec_with 7 children)) (spec_with 7 children ∷ []) _ (schema_is_named _) refl (elements_are _) (found_first [] _ [] none_found) refl
+    (holds, tt) (sound, tt) (λ one. few (IsSpecOf one) (spec_with 7 children ∷ []) (omega arith)) (entry_more _ _ [] _ [] (item_read _ children c gives) (no_entries _)) (few_rise _ (omega arith))
 
-file_declares : Declares file doc
-file_declares = record {
-  all_read = file_is_read;
-  unoffended = file_is_sound;
-  schema = file;
-  found = file_found;
-  is_doc = record {
-    ident = refl;
-    start = one_word (codes "a");
-    entries = subst (λ ts. AreReadAs file ts doc.entries) (sym (elements_are (item ∷ []))) (AreReadAs.spec refl (item_is_read file refl) AreReadAs.nothing);
-  };
-}
+-- `<elementSpec ident="a"/>` in it declares an element without a content
+abbrev bare : Tree
+bare = spec_with 7 []
 
--- the same file with a text and a `desc` before the `elementSpec` declares the same
-abbrev desc : Tree
-desc = element 3 (codes "desc") [] []
+bare_holds : HoldsNone outermost bare
+bare_holds = none_held _ bare [] refl (plain _ bare refl (λ _. refl) (λ c. cc) (λ _. refl)) tt
 
+bare_gives : GivesContent [] bare None
+bare_gives = GivesContent.none (λ child s is. nothing_stands child s)
+
+bare_declares : Declares (file_with bare) (doc_of None)
+bare_declares = one_item_declares [] None bare_gives (found_through [] bare [] [] refl refl search.nothing) bare_holds (bare_is_sound (codes "a") [] bare (spec_named 7 []) refl)
+
+-- `<elementSpec ident="a"><content><textNode/></content></elementSpec>` in it declares one with texts
+abbrev texts : Tree
+texts = spec_with 7 (text_content ∷ [])
+
+texts_found : Finds [] texts []
+texts_found =
+    found_through [] texts (text_content ∷ []) [] (elements_are (text_content ∷ [])) refl (found_first [] _ []
+    (found_through [] text_content (part (codes "textNode") ∷ []) [] (elements_are _) refl (found_first [] _ [] (found_through [] (part (codes "textNode")) [] [] refl refl search.nothing))))
+
+texts_hold : HoldsNone outermost texts
+texts_hold =
+    none_held _ texts (text_content ∷ []) (elements_are _) (plain _ _ refl (λ _. refl) (λ c. cc) (λ _. refl)) (
+      none_held _ text_content (part (codes "textNode") ∷ []) (elements_are _) (plain _ _ refl (λ _. refl)
+          (λ _. subst (λ ts. count_by is_tei ts ≤ 1) (sym (elements_are (part (codes "textNode") ∷ []))) (omega arith)) (λ _. refl))
+          (none_held _ (part (codes "textNode")) [] refl (plain _ _ refl (λ _. refl) (λ c. cc) (λ _. refl)) tt, tt),
+      tt,
+    )
+
+texts_sound : IsSound [] texts
+texts_sound =
+    spec_is_sound (codes "a") [] texts (text_content ∷ []) (spec_named 7 (text_content ∷ [])) (elements_are (text_content ∷ [])) (omega arith) (text_content_fine, tt)
+    (may_stand _ _ refl refl (λ none passed counts. cc), tt)
+
+texts_declare : Declares (file_with texts) (doc_of (Some content.Text))
+texts_declare = one_item_declares (text_content ∷ []) (Some content.Text) gives_text texts_found texts_hold texts_sound
+
+-- and not one without a content
+abbrev contents_of : List Entry → Option Content
+contents_of [] = None
+contents_of (entry.Spec at spec ∷ rest) = spec.content
+
+texts_are_some : Declares (file_with texts) (doc_of None) → ⊥
+texts_are_some h = let same : None ≡ Some content.Text = ap (λ d. contents_of d.entries) (one_doc (file_with texts) (doc_of None) _ h texts_declare) in cc
+
+-- a text and a `desc` before the `elementSpec` change nothing
 abbrev described : Tree
-described = schema_with (Text (codes "some words") ∷ (Element desc ∷ (Element item ∷ [])))
+described = schema_with (Text (codes "some words") ∷ nodes (desc_with [] ∷ bare ∷ []))
 
--- its items are the `desc` and the `elementSpec`
-items_are : children_of described ≡ desc ∷ item ∷ []
-items_are = ap (λ ts. ts ++ elements_of (nodes (desc ∷ item ∷ []))) (text_shown (Text (codes "some words")) (codes "some words") refl) ∙ elements_are (desc ∷ item ∷ [])
-
-described_found : Finds described (described ∷ [])
-described_found =
-    through [] refl (search.text (search.element [] [] (through [] refl search.nothing refl)
-    (search.element [] [] (through [] refl search.nothing refl) search.nothing refl) refl)) refl
-
-described_is_plain : AllWithin IsPlain described
-described_is_plain =
-    all_within IsPlain described (record { no_form = refl; no_content = refl; no_mode = λ is. refl })
-    (subst (All (AllWithin IsPlain)) (sym items_are)
-    (All-cons (AllWithin IsPlain) desc (item ∷ []) (leaf_within IsPlain desc refl (record { no_form = refl; no_content = refl; no_mode = λ is. refl }))
-    (All-cons (AllWithin IsPlain) item [] (leaf_within IsPlain item refl (record { no_form = refl; no_content = refl; no_mode = λ is. refl })) (All-nil (AllWithin IsPlain)))))
-
-described_is_sound : (place rule : ℕ) → HasOffence described place rule → ⊥
-described_is_sound =
-    no_offence (codes "s") (codes "a") described described described_found (schema_is_named _)
-    (subst (All IsSound) (sym items_are)
-    (All-cons IsSound desc (item ∷ []) (passed_is_sound desc refl refl) (All-cons IsSound item [] (bare_is_sound (codes "a") item item_is_bare) (All-nil IsSound))))
-    (λ ident. subst (λ ts. StandsTwice (IsSpecOf ident) ts → ⊥) (sym items_are)
-    (λ both. few (IsSpecOf ident) (item ∷ []) (omega arith) (twice_later (IsSpecOf ident) desc (item ∷ []) no_spec both)))
+described_declares : Declares described (doc_of None)
+described_declares =
+    declares (codes "s") (codes "a") described (desc_with [] ∷ bare ∷ []) _ (schema_is_named _) refl (text_first (codes "some words") (nodes (desc_with [] ∷ bare ∷ [])) _ (elements_are _))
+    (search.element [] [] (found_through [] (desc_with []) [] [] refl refl search.nothing) (found_first [] bare [] (found_through [] bare [] [] refl refl search.nothing)) refl) refl
+    (none_held _ (desc_with []) [] refl (plain _ _ refl (λ _. refl) (λ c. cc) (λ _. refl)) tt, (bare_holds, tt))
+    (desc_sound, (bare_is_sound (codes "a") [] bare (spec_named 7 []) refl, tt))
+    (λ one both. few (IsSpecOf one) (bare ∷ []) (omega arith) (twice_later (IsSpecOf one) (desc_with []) (bare ∷ []) (λ is. let no : None ≡ Some elements.ElementSpec = is.0 in cc) both))
+    (entry_less (alone described) (desc_with []) (bare ∷ []) _ refl (entry_more (alone described) bare [] _ [] (item_read _ [] None bare_gives) (no_entries _))) (few_rise _ (omega arith))
   where
-    no_spec : {ident : List ℕ} → IsSpecOf ident desc → ⊥
-    no_spec h = let no : codes "desc" ≡ codes "elementSpec" = ap (λ n. n.local) h.0 in cc
-
-described_declares : Declares described doc
-described_declares = record {
-  all_read = not_pending described described [] described_found described_is_plain;
-  unoffended = described_is_sound;
-  schema = described;
-  found = described_found;
-  is_doc = record {
-    ident = refl;
-    start = one_word (codes "a");
-    entries = subst (λ ts. AreReadAs described ts doc.entries) (sym items_are) (AreReadAs.other refl (AreReadAs.spec refl (item_is_read described refl) AreReadAs.nothing));
-  };
-}
+    desc_sound : IsSound [] (desc_with [])
+    desc_sound rule fault = may_stand (form_at elements.SchemaSpec) (desc_with []) refl refl (λ none passed counts. cc) rule (other_by_standing [] (desc_with []) rule refl fault)
 
 -- a file without a `schemaSpec` declares nothing, and neither does one with an offence
-no_schema_declares : (d : OddDoc) → Declares (element 0 (codes "TEI") [] (item ∷ [])) d → ⊥
-no_schema_declares d h = h.all_read (IsPending.no_schema (through [] refl (search.element [] [] (through [] refl search.nothing refl) search.nothing refl) refl))
+no_schema_declares : (d : OddDoc) → Declares (element 0 (codes "TEI") [] []) d → ⊥
+no_schema_declares d h = h.all_read no_schema_pending
 
 two_schemas_declare : (d : OddDoc) → Declares two_schemas d → ⊥
 two_schemas_declare d h = h.unoffended 24 4 second_schema
 
 -- another start word is not declared
-another_start : (d : OddDoc) → d.start ≡ codes "b" ∷ [] → Declares file d → ⊥
-another_start d e h =
-    let starts : codes "b" ∷ [] ≡ codes "a" ∷ [] = sym e ∙ ap (λ x. x.start) (one_doc file d doc h file_declares) in
+another_start : (d : OddDoc) → d.start ≡ codes "b" ∷ [] → Declares (file_with bare) d → ⊥
+another_start d same h =
+    let starts : codes "b" ∷ [] ≡ codes "a" ∷ [] = sym same ∙ ap (λ x. x.start) (one_doc (file_with bare) d _ h bare_declares) in
     other_text (codes "b") (codes "a") refl (ap (λ ws. get_or ws 0 []) starts)
 
--- Namespaces, contents and start words
+-- entries of places that fall are no doc's
+falling_places : (before after : List Entry) (one other : Spec) → PlacesRise (before ++ entry.Spec 9 one ∷ (entry.Spec 7 other ∷ after)) → ⊥
+falling_places before after one other h = let less : 9 < 7 = h before after (entry.Spec 9 one) (entry.Spec 7 other) refl in omega (arith, less)
 
 -- the own `ns` counts first, then that of the `schemaSpec`, then TEI's
 abbrev with_ns : List ℕ → List Attr
 with_ns ns = attribute (codes "ns") ns ∷ []
 
-own_namespace : namespace_given (element 0 (codes "schemaSpec") (with_ns (codes "urn:s")) []) (spec_given (with_ns (codes "urn:i"))) ≡ codes "urn:i"
+abbrev schema_ns : Tree
+schema_ns = element 0 (codes "schemaSpec") (with_ns (codes "urn:s")) []
+
+own_namespace : namespace_given schema_ns (spec_given (with_ns (codes "urn:i"))) ≡ codes "urn:i"
 own_namespace = refl
 
-namespace_of_schema : namespace_given (element 0 (codes "schemaSpec") (with_ns (codes "urn:s")) []) item ≡ codes "urn:s"
+namespace_of_schema : namespace_given schema_ns bare ≡ codes "urn:s"
 namespace_of_schema = refl
 
-namespace_of_none : namespace_given (schema_at 0) item ≡ tei_namespace
+namespace_of_none : namespace_given (schema_at 0) bare ≡ tei_namespace
 namespace_of_none = refl
 
 -- an empty `ns` is given, and says that the element has no namespace
-empty_namespace : namespace_given (element 0 (codes "schemaSpec") (with_ns (codes "urn:s")) []) (spec_given (with_ns [])) ≡ []
+empty_namespace : namespace_given schema_ns (spec_given (with_ns [])) ≡ []
 empty_namespace = refl
-
--- no `content` gives none, an empty `content` and an `empty` give nothing, and a `textNode` gives texts
-content_of_none : content_given (constraint_spec ∷ []) ≡ None
-content_of_none = refl
-
-content_of_nothing : content_given (constraint_spec ∷ content_with [] ∷ []) ≡ Some content.Empty
-content_of_nothing = refl
-
-content_of_empty : content_given (content_with (part (codes "empty") ∷ []) ∷ []) ≡ Some content.Empty
-content_of_empty = ap (λ ps. Some (parts_give ps)) (elements_are (part (codes "empty") ∷ []))
-
-content_of_text : content_given (content_with (part (codes "textNode") ∷ []) ∷ []) ≡ Some content.Text
-content_of_text = ap (λ ps. Some (parts_give ps)) (elements_are (part (codes "textNode") ∷ []))
-
--- words in the wrong order do not rise, and neither does a word twice
-falling : (before after : List (List ℕ)) → AreRising (before ++ codes "b" ∷ (codes "a" ∷ after)) → ⊥
-falling before after h = let less : text_cmp (codes "b") (codes "a") ≡ Less = h before after (codes "b") (codes "a") refl in cc
-
-word_twice : (before after : List (List ℕ)) → AreRising (before ++ codes "a" ∷ (codes "a" ∷ after)) → ⊥
-word_twice before after h = let less : text_cmp (codes "a") (codes "a") ≡ Less = h before after (codes "a") (codes "a") refl in cc
-
--- none is left out, and none is added
-word_left_out : AreSorted (codes "b" ∷ codes "a" ∷ []) (codes "a" ∷ []) → ⊥
-word_left_out h = not_there (h.each (codes "b") ([], codes "a" ∷ [], refl))
-  where
-    not_there : StandsIn (codes "a" ∷ []) (codes "b") → ⊥
-    not_there ([], after, e) = other_text (codes "a") (codes "b") refl (ap (λ ws. get_or ws 0 []) e)
-    not_there (w ∷ before, after, e) = nothing_stands (codes "b") (before, after, cc)
 
 -- Libraries
 
+-- the library of the file with texts
+abbrev texts_library : Library
+texts_library = record {
+  ident = codes "s";
+  start = codes "a" ∷ [];
+  parts = (element_key (codes "a"), component.Element (record { «module» = []; ns = tei_namespace; content = content.Text })) ∷ [];
+}
+
+texts_are_held : IsLibraryOf (doc_of (Some content.Text)) texts_library
+texts_are_held = record { ident = refl; start = refl; rising = refl; holds = λ key. refl }
+
+-- no other is
+one_of_texts : (d : OddDoc) (library : Library) → Declares (file_with texts) d → IsLibraryOf d library → library ≡ texts_library
+one_of_texts d library declared h =
+    one_library (doc_of (Some content.Text)) library texts_library (subst (λ x. IsLibraryOf x library) (one_doc (file_with texts) d _ declared texts_declare) h) texts_are_held
+
 abbrev entries : List Entry
-entries = read ∷ entry.Spec 9 (record { key = element_key (codes "b"); «module» = codes "m"; ns = None; content = Some content.Text }) ∷ []
+entries = entry.Spec 7 (spec_of None) ∷ entry.Spec 9 (record { key = element_key (codes "b"); «module» = codes "m"; ns = None; content = Some content.Text }) ∷ []
 
 -- without a content the content is empty
 empty_at_a : declared_at entries (element_key (codes "a")) ≡ Some (component.Element (record { «module» = []; ns = tei_namespace; content = content.Empty }))

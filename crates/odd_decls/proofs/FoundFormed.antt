@@ -1,15 +1,18 @@
 -- The elements of a formed tree, and what the search finds in it, are formed, and lie one after another.
-use Rattle.std.proofs.Common.{◌≡◌, ℕ, suc, ◌≤◌, Bool, true, false, codes, List, [], ◌∷◌, ◌++◌, ⊎_elim, refl, sym, subst, arith}
+use Rattle.std.proofs.Common.{◌≡◌, ℕ, suc, ◌≤◌, Bool, true, false, codes, if◌then◌else◌, List, [], ◌∷◌, ◌++◌, map, ⊎_elim, refl, sym, ap, subst, ◌∙◌, arith}
+use Rattle.std.proofs.lemmas.List.{map-append}
+use Rattle.odd_base.specs.declared.name.Bind.{Bind}
 use Rattle.odd_reader.specs.Formed.{AreFormed, IsFormed}
 use Rattle.odd_reader.specs.Formed as formed
 use Rattle.odd_reader.specs.declared.tree.Node.{Node, Element, Text}
 use Rattle.odd_reader.specs.declared.tree.Tree.{Tree, out-Tree}
-use Rattle.odd_decls.specs.Odd.{StandsIn, elements_of}
-use Rattle.odd_decls.specs.Search.{Finds, FindsAmong, is_one_of}
+use Rattle.odd_reader.specs.Elements.{StandsIn, elements_of, within}
+use Rattle.odd_decls.specs.Search.{Finds, FindsAmong, Found}
+use Rattle.odd_forms.specs.Names.{is_one_of}
 use Rattle.odd_decls.specs.Search as search
-use Rattle.odd_decls.proofs.Elements.{element_shown, text_shown}
-use Rattle.odd_decls.proofs.Searched.{FoundWith, found_after, found_with, none_found}
-use Rattle.odd_decls.proofs.Standing.{first_or_later, nothing_stands}
+use Rattle.odd_reader.proofs.AmongChildren.{element_shown, text_shown}
+use Rattle.odd_decls.proofs.Searched.{FoundWith, found_with, none_found, schemas_of}
+use Rattle.odd_reader.proofs.InList.{first_or_later, nothing_stands}
 
 -- the element is formed, between some places
 abbrev pub IsFormedSomewhere : Tree → Type 0
@@ -54,42 +57,59 @@ mutual
   nodes_room (formed.text later) = nodes_room later
   nodes_room (formed.child between one later) = let h = room_from (element_begins one) (element_room one) in let k = nodes_room later in omega (arith, h, k)
 
+-- the elements among nodes that begin with a text
+after_text : (bytes : List ℕ) (nodes : List Node) → elements_of (Text bytes ∷ nodes) ≡ elements_of nodes
+after_text bytes nodes = ap (λ ts. ts ++ elements_of nodes) (text_shown (Text bytes) bytes refl)
+
+-- the elements among nodes that begin with an element
+with_element : (t : Tree) (nodes : List Node) → elements_of (Element t ∷ nodes) ≡ t ∷ elements_of nodes
+with_element t nodes = ap (λ ts. ts ++ elements_of nodes) (element_shown (Element t) t refl)
+
 -- the elements among formed nodes lie there
 pub nodes_lie : {first end : ℕ} {nodes : List Node} → AreFormed first end nodes → LieIn first end (elements_of nodes)
 nodes_lie (formed.nothing h) = h
-nodes_lie {first = first} {end = end} (formed.text {bytes = bytes} {nodes = nodes} later) =
-    subst (λ ts. LieIn first end (ts ++ elements_of nodes)) (sym (text_shown (Text bytes) bytes refl)) (nodes_lie later)
+nodes_lie {first = first} {end = end} (formed.text {bytes = bytes} {nodes = nodes} later) = subst (LieIn first end) (sym (after_text bytes nodes)) (nodes_lie later)
 nodes_lie {first = first} {end = end} (formed.child {t = t} {nodes = nodes} between one later) =
-    let rest = lie_after (suc (out-Tree t).at) between end (elements_of nodes) (element_room one) (nodes_lie later) in
-    subst (λ ts. LieIn first end (ts ++ elements_of nodes)) (sym (element_shown (Element t) t refl)) (element_begins one, (first, between, one), rest)
+    subst (LieIn first end) (sym (with_element t nodes))
+    (element_begins one, (first, between, one), lie_after (suc (out-Tree t).at) between end (elements_of nodes) (element_room one) (nodes_lie later))
 
 -- an element lies with what is found in it: first itself, where it is a `schemaSpec`
-own_lie : (first end : ℕ) (t : Tree) (inner found : List Tree) → first ≤ (out-Tree t).at → IsFormedSomewhere t → LieIn (suc (out-Tree t).at) end inner
-    → found ≡ search.own t ++ inner → LieIn first end found
-own_lie first end t inner found h formed rest is = subst (LieIn first end) (sym is) (by_name (is_one_of (codes "schemaSpec" ∷ []) t))
+own_lie : (around : List Bind) (first end : ℕ) (t : Tree) (inner found : List Found) → first ≤ (out-Tree t).at → IsFormedSomewhere t
+    → LieIn (suc (out-Tree t).at) end (schemas_of inner) → found ≡ search.own around t ++ inner → LieIn first end (schemas_of found)
+own_lie around first end t inner found h formed rest is = subst (λ fs. LieIn first end (schemas_of fs)) (sym is) (by_name (is_one_of (codes "schemaSpec" ∷ []) t))
   where
-    by_name : (b : Bool) → LieIn first end (search.own_if t b ++ inner)
+    by_name : (b : Bool) → LieIn first end (schemas_of ((if b then (record { around = around; schema = t } ∷ []) else []) ++ inner))
     by_name true = (h, formed, rest)
-    by_name false = lie_after first (suc (out-Tree t).at) end inner (omega (arith, h)) rest
+    by_name false = lie_after first (suc (out-Tree t).at) end (schemas_of inner) (omega (arith, h)) rest
 
 -- what is found in a formed element lies there
 mutual
-  pub found_lie : {first end : ℕ} {t : Tree} {found : List Tree} → IsFormed first end t → Finds t found → LieIn first end found
+  pub found_lie : {around : List Bind} {first end : ℕ} {t : Tree} {found : List Found} → IsFormed first end t → Finds around t found → LieIn first end (schemas_of found)
   found_lie (formed.element h tag apart inside) (search.foreign other) = room_from h (nodes_room inside)
-  found_lie {first = first} {end = end} {t = t} {found = found} (formed.element h tag apart inside) (search.through inner tei among is) =
-      own_lie first end t inner found h (first, end, formed.element h tag apart inside) (among_lie inside among) is
+  found_lie {around = around} {first = first} {end = end} {t = t} {found = found} (formed.element h tag apart inside) (search.through inner tei among is) =
+      own_lie around first end t inner found h (first, end, formed.element h tag apart inside) (among_lie inside among) is
 
-  among_lie : {first end : ℕ} {nodes : List Node} {found : List Tree} → AreFormed first end nodes → FindsAmong nodes found → LieIn first end found
-  among_lie {first = first} {end = end} (formed.nothing h) among = subst (LieIn first end) (sym (none_found among)) h
-  among_lie (formed.text later) among = among_lie later (found_after among)
-  among_lie {first = first} {end = end} {found = found} (formed.child {t = t} {nodes = nodes} between one later) among =
-      let f : FoundWith t nodes found = found_with among in
-      subst (LieIn first end) (sym f.4) (lie_append first between end f.0 f.1 (found_lie one f.2) (among_lie later f.3))
+  among_lie : {around : List Bind} {first end : ℕ} {nodes : List Node} {found : List Found} → AreFormed first end nodes → FindsAmong around (elements_of nodes) found
+      → LieIn first end (schemas_of found)
+  among_lie {around = around} {first = first} {end = end} {found = found} (formed.nothing h) among =
+      subst (λ fs. LieIn first end (schemas_of fs)) (sym (none_found around found among)) h
+  among_lie {around = around} {found = found} (formed.text {bytes = bytes} {nodes = nodes} later) among =
+      among_lie later (subst (λ ts. FindsAmong around ts found) (after_text bytes nodes) among)
+  among_lie {around = around} {first = first} {end = end} {found = found} (formed.child {t = t} {nodes = nodes} between one later) among =
+      let f : FoundWith around t (elements_of nodes) found = found_with around t (elements_of nodes) found (subst (λ ts. FindsAmong around ts found) (with_element t nodes) among) in
+      subst (LieIn first end) (sym (ap schemas_of f.4 ∙ map-append (λ g. g.schema) f.0 f.1))
+      (lie_append first between end (schemas_of f.0) (schemas_of f.1) (found_lie one f.2) (among_lie later f.3))
 
 -- the elements among formed nodes are formed
 pub children_formed : (nodes : List Node) (first end : ℕ) → AreFormed first end nodes → (u : Tree) → StandsIn (elements_of nodes) u → IsFormedSomewhere u
 children_formed nodes first end f = each_formed first end (elements_of nodes) (nodes_lie f)
 
+-- what stands in a list, seen by a map, stands in what the map gives
+seen_stands : {X Y : Type 0} (f : X → Y) (xs : List X) (x : X) → StandsIn xs x → StandsIn (map f xs) (f x)
+seen_stands f xs x s = (map f s.0, map f s.1, ap (map f) s.2 ∙ map-append f s.0 (x ∷ s.1))
+
 -- what the search finds in a formed element is formed
-pub found_formed : (t : Tree) (found : List Tree) (first end : ℕ) → IsFormed first end t → Finds t found → (u : Tree) → StandsIn found u → IsFormedSomewhere u
-found_formed t found first end f g = each_formed first end found (found_lie f g)
+pub found_formed : (around : List Bind) (t : Tree) (found : List Found) (first end : ℕ) → IsFormed first end t → Finds around t found
+    → (f : Found) → StandsIn found f → IsFormedSomewhere f.schema
+found_formed around t found first end formed finds f s =
+    each_formed first end (schemas_of found) (found_lie formed finds) f.schema (seen_stands (λ g. g.schema) found f s)

@@ -1,80 +1,132 @@
 -- Where a form that is not read yet stands: the element itself, or a child that holds one.
-use Rattle.std.proofs.Common.{◌≡◌, ◌≤◌, ℕ, ◌+◌, ◌<◌, Bool, true, ◌||◌, List, [], ◌∷◌, ◌⊎◌, inl, inr, ⊎_elim, codes, length, take, get_or, refl, sym, subst}
-use Rattle.std.proofs.lemmas.Bool.{or_cases, or_left, or_right}
-use Rattle.odd_reader.specs.declared.tree.Node.{Node, out-Node, Element}
+use Rattle.std.proofs.Common.{◌≡◌, ℕ, Bool, true, false, not, ◌||◌, ◌&&◌, List, [], ◌∷◌, ◌++◌, take, drop, ◌⊎◌, inl, inr, ⊎_elim, codes, count_by, nat_le, sym, subst, ap, ◌∙◌}
+use Rattle.std.specs.Prelude.{is_some, if◌then◌else◌}
+use Rattle.std.specs.List.{list_any}
+use Rattle.std.proofs.lemmas.Bool.{and_from, and_parts, false≢true, leb-true, le-leb, not-true, or_cases, or_left, or_right}
+use Rattle.std.proofs.lemmas.List.{take-append-drop}
+use Rattle.std.proofs.lemmas.List.Folds.{list_any-append}
+use Rattle.odd_base.specs.declared.name.Bind.{Bind}
 use Rattle.odd_reader.specs.declared.tree.Tree.{Tree}
-use Rattle.odd_decls.specs.Odd.{StandsIn, elements_of, shown_elements}
-use Rattle.odd_decls.specs.Pending.{HoldsForm, IsForm, named, part, parts, mode, here, below}
-use Rattle.odd_decls.specs.Search.{itself, inside, children_of, is_one_of}
-use Rattle.odd_decls.proofs.Elements.{element_more, elements_seen, text_passed}
-use Rattle.odd_decls.proofs.Named.{named_one, one_named}
-use Rattle.odd_decls.proofs.Standing.{StandsOnce, nothing_stands, once_push}
+use Rattle.odd_reader.specs.Elements.{StandsIn, children_of, given, within}
+use Rattle.odd_decls.specs.Pending.{Around, HoldsForm, IsForm, around_in, here, inside}
+use Rattle.odd_decls.specs.Pending as pending
+use Rattle.odd_decls.specs.Search.{Finds, FindsAmong, Found, foreign, through, nothing, element}
+use Rattle.odd_decls.specs.Search as search
+use Rattle.odd_forms.specs.Names.{is_one_of, is_tei}
+use Rattle.odd_reader.proofs.InList.{StandsOnce, first_or_later, nothing_stands, stands_first, stands_later}
 
--- whether a `content` is around the children of an element
-abbrev pub around_children : Bool → Tree → Bool
-around_children around t = around || is_one_of (codes "content" ∷ []) t
+-- the names of a row, and whether the row speaks of an element with these around it
+abbrev Row : Type 0
+Row = Bool × List (List ℕ)
 
--- a child of the element holds a form that is not read yet
-abbrev pub ChildHolds : Bool → Tree → Type 0
-ChildHolds around t = StandsOnce (HoldsForm (around_children around t)) (children_of t)
+-- the rows of what is not read yet
+abbrev rows : Bool → Around → List Row
+rows outside a =
+    (a.content, codes "sequence" ∷ codes "alternate" ∷ codes "elementRef" ∷ codes "anyElement" ∷ [])
+    ∷ (true, codes "moduleRef" ∷ [])
+    ∷ (outside, codes "elementRef" ∷ codes "classRef" ∷ codes "macroRef" ∷ codes "dataRef" ∷ [])
+    ∷ (true, codes "classSpec" ∷ codes "macroSpec" ∷ codes "classes" ∷ [])
+    ∷ (a.content, codes "classRef" ∷ codes "macroRef" ∷ [])
+    ∷ (true, codes "attList" ∷ codes "altIdent" ∷ [])
+    ∷ (true, codes "dataSpec" ∷ codes "datatype" ∷ codes "valList" ∷ [])
+    ∷ (a.content, codes "dataRef" ∷ [])
+    ∷ (true, codes "specGrp" ∷ codes "specGrpRef" ∷ [])
+    ∷ []
 
--- an element that is itself such a form holds one
-pub own_form : (around : Bool) (t : Tree) → IsForm around t → HoldsForm around t
-own_form around t f = here t itself f
+-- the row speaks of the element
+abbrev is_of : Tree → Row → Bool
+is_of t row = row.0 && is_one_of row.1 t
 
--- what a child holds, the element holds
-pub child_form : (around : Bool) (t child : Tree) → StandsIn (children_of t) child → HoldsForm (around_children around t) child → HoldsForm around t
-child_form around t child s (here u w (named p)) = here u (inside child s w) (named p)
-child_form around t child s (here u w (part e p)) = ⊎_elim
-    (λ (f : around ≡ true). here u (inside child s w) (part f p))
-    (λ (f : is_one_of (codes "content" ∷ []) t ≡ true). below t u itself (one_named (codes "content") t f) (child, s, w) (part refl p))
-    (or_cases _ _ e)
-child_form around t child s (here u w (parts h two)) = here u (inside child s w) (parts h two)
-child_form around t child s (here u w (mode tei some)) = here u (inside child s w) (mode tei some)
-child_form around t child s (below content u w h under f) = below content u (inside child s w) h under f
+-- the element is of one of the rows, where a test tells whether it stands outside
+abbrev pub in_row : Bool → Around → Tree → Bool
+in_row outside a t = list_any (is_of t) (rows outside a)
 
--- a form outside a `content` is one inside it
-also_inside : (around : Bool) (t u : Tree) → IsForm around u → IsForm (around_children around t) u
-also_inside around t u (named p) = named p
-also_inside around t u (part e p) = part (or_left _ _ e) p
-also_inside around t u (parts h two) = parts h two
-also_inside around t u (mode tei some) = mode tei some
+-- what follows from one test and from another follows where one of them passes
+infixr 10 ◌or_else◌
+◌or_else◌ : {P : Type 0} {x y : Bool} → (x ≡ true → P) → (y ≡ true → P) → (x || y) ≡ true → P
+◌or_else◌ {x = x} {y = y} f g = λ h. ⊎_elim f g (or_cases x y h)
 
--- what an element holds is the element itself, or a child holds it
-pub form_held : (around : Bool) (t : Tree) → HoldsForm around t → IsForm around t ⊎ ChildHolds around t
-form_held around t (here u itself f) = inl f
-form_held around t (here u (inside child s w) f) = inr (child, s, here u w (also_inside around t u f))
-form_held around t (below content u itself h under f) =
-    let here_is : true ≡ around_children around t = sym (or_right _ _ (named_one (codes "content") t h)) in
-    inr (under.0, under.1, here u under.2 (subst (λ b. IsForm b u) here_is f))
-form_held around t (below content u (inside child s w) h under f) = inr (child, s, below content u w h under f)
+-- the element is of one of the rows from this place on
+row_from : (outside : Bool) (a : Around) (t : Tree) (place : ℕ) → list_any (is_of t) (drop place (rows outside a)) ≡ true → in_row outside a t ≡ true
+row_from outside a t place h =
+    ap (list_any (is_of t)) (sym (take-append-drop place (rows outside a))) ∙ list_any-append (is_of t) (take place (rows outside a)) (drop place (rows outside a)) ∙ or_right _ _ h
 
--- none of the elements holds such a form
-abbrev pub NoneHolds : Bool → List Tree → Type 0
-NoneHolds around ts = (child : Tree) → StandsIn ts child → HoldsForm around child → ⊥
+-- an element of a row is such a form
+row_form : (outside : Bool) (a : Around) (t : Tree) → outside ≡ not (a.content || a.datatype) → in_row outside a t ≡ true → IsForm a t
+row_form outside a t is =
+    (λ h. let p = and_parts _ _ h in pending.parts p.0 p.1) or_else (λ h. pending.modules h)
+    or_else (λ h. let p = and_parts _ _ h in pending.references (not-true _ (sym is ∙ p.0)) p.1) or_else (λ h. pending.classes h)
+    or_else (λ h. let p = and_parts _ _ h in pending.members p.0 p.1) or_else (λ h. pending.attributes h) or_else (λ h. pending.datatypes h)
+    or_else (λ h. let p = and_parts _ _ h in pending.data_in_content p.0 p.1) or_else (λ h. pending.groups h) or_else (λ none. absurd (false≢true none))
 
--- where there are no elements, none does
-pub none_first : (around : Bool) → NoneHolds around []
-none_first around child s holds = nothing_stands child s
+-- whether an element of TEI has a `mode`, and whether it is a content with several children of TEI
+abbrev pub has_mode : Tree → Bool
+has_mode t = is_tei t && is_some (given t (codes "mode"))
 
--- nor does one element more
-pub none_more : (around : Bool) (ns : List Node) (i : ℕ) (n : Node) (t : Tree) → i < length ns → n ≡ get_or ns i n → n ≡ Element t → NoneHolds around (elements_of (take i ns))
-    → (HoldsForm around t → ⊥) → NoneHolds around (elements_of (take (i + 1) ns))
-none_more around ns i n t h at is none not child s holds = ⊎_elim
-    (λ (earlier : StandsOnce (HoldsForm around) (elements_of (take i ns))). none earlier.0 earlier.1 earlier.2) not
-    ((once_push (HoldsForm around) (elements_of (take i ns)) t).0 (child, subst (λ ts. StandsIn ts child) (element_more ns i n t h at is) s, holds))
+abbrev pub is_several : Tree → Bool
+is_several t = is_one_of (codes "content" ∷ []) t && nat_le 2 (count_by is_tei (children_of t))
 
--- and a text changes nothing
-pub none_text : (around : Bool) (ns : List Node) (i : ℕ) (n : Node) → i < length ns → n ≡ get_or ns i n → shown_elements (out-Node n) ≡ []
-    → NoneHolds around (elements_of (take i ns)) → NoneHolds around (elements_of (take (i + 1) ns))
-none_text around ns i n h at shown none = subst (NoneHolds around) (sym (text_passed ns i n (elements_of (take i ns)) h at shown refl)) none
+-- an element that passes one of the tests is such a form
+pub test_form : (outside : Bool) (a : Around) (t : Tree) → outside ≡ not (a.content || a.datatype) → ((in_row outside a t || has_mode t) || is_several t) ≡ true → IsForm a t
+test_form outside a t is =
+    (row_form outside a t is or_else (λ h. let p = and_parts _ _ h in pending.modes p.0 p.1))
+    or_else (λ h. let p = and_parts _ _ h in pending.several p.0 (leb-true _ _ p.1))
 
--- where all children were seen, none of them does
-pub none_seen : (around other : Bool) (ns ms : List Node) (i : ℕ) → around ≡ other → ns ≡ ms → length ns ≤ i → NoneHolds around (elements_of (take i ns)) → NoneHolds other (elements_of ms)
-none_seen around other ns ms i is same h none =
-    let seen : elements_of ms ≡ elements_of (take i ns) = elements_seen ns ms i (elements_of (take i ns)) same h refl in
-    subst (λ b. NoneHolds b (elements_of ms)) is (subst (NoneHolds around) (sym seen) none)
+-- and such a form passes one
+pub form_test : (outside : Bool) (a : Around) (t : Tree) → outside ≡ not (a.content || a.datatype) → IsForm a t → ((in_row outside a t || has_mode t) || is_several t) ≡ true
+form_test outside a t is (pending.parts c h) = or_left _ _ (or_left _ _ (row_from outside a t 0 (or_left _ _ (and_from _ _ c h))))
+form_test outside a t is (pending.several h two) = or_right _ _ (and_from _ _ h (le-leb _ _ two))
+form_test outside a t is (pending.modules h) = or_left _ _ (or_left _ _ (row_from outside a t 1 (or_left _ _ h)))
+form_test outside a t is (pending.references o h) = or_left _ _ (or_left _ _ (row_from outside a t 2 (or_left _ _ (and_from _ _ (is ∙ ap not o) h))))
+form_test outside a t is (pending.modes h some) = or_left _ _ (or_right _ _ (and_from _ _ h some))
+form_test outside a t is (pending.classes h) = or_left _ _ (or_left _ _ (row_from outside a t 3 (or_left _ _ h)))
+form_test outside a t is (pending.members c h) = or_left _ _ (or_left _ _ (row_from outside a t 4 (or_left _ _ (and_from _ _ c h))))
+form_test outside a t is (pending.attributes h) = or_left _ _ (or_left _ _ (row_from outside a t 5 (or_left _ _ h)))
+form_test outside a t is (pending.datatypes h) = or_left _ _ (or_left _ _ (row_from outside a t 6 (or_left _ _ h)))
+form_test outside a t is (pending.data_in_content c h) = or_left _ _ (or_left _ _ (row_from outside a t 7 (or_left _ _ (and_from _ _ c h))))
+form_test outside a t is (pending.groups h) = or_left _ _ (or_left _ _ (row_from outside a t 8 (or_left _ _ h)))
+
+-- some of the elements holds such a form
+abbrev pub SomeHolds : Around → List Tree → Type 0
+SomeHolds a ts = StandsOnce (HoldsForm a) ts
+
+-- an element that holds none is passed
+pub none_holds : (a : Around) (all rest later : List Tree) (t : Tree) → (SomeHolds a all → SomeHolds a rest) → rest ≡ t ∷ later → (HoldsForm a t → ⊥) → SomeHolds a all → SomeHolds a later
+none_holds a all rest later t so_far is none holds =
+    let s = so_far holds in
+    ⊎_elim (λ e. absurd (none (subst (HoldsForm a) e s.2))) (λ after. (s.0, after, s.2)) (first_or_later t s.0 later (subst (λ ts. StandsIn ts s.0) is s.1))
 
 -- an element that is no such form, and of which no child holds one, holds none
-pub none_held : (around : Bool) (t : Tree) → (IsForm around t → ⊥) → NoneHolds (around_children around t) (children_of t) → HoldsForm around t → ⊥
-none_held around t not none holds = ⊎_elim not (λ (held : ChildHolds around t). none held.0 held.1 held.2) (form_held around t holds)
+pub none_held : (a : Around) (t : Tree) → (IsForm a t → ⊥) → (SomeHolds (around_in a t) (children_of t) → ⊥) → HoldsForm a t → ⊥
+none_held a t not_one none (here f) = not_one f
+none_held a t not_one none (inside child s h) = none (child, s, h)
+
+-- what stands in one of two lists after each other
+in_either : {A : Type 0} (xs ys : List A) (y : A) → StandsIn (xs ++ ys) y → StandsIn xs y ⊎ StandsIn ys y
+in_either [] ys y s = inr s
+in_either (x ∷ xs) ys y s =
+    ⊎_elim (λ e. inl ([], xs, ap (λ z. z ∷ xs) (sym e))) (λ later. ⊎_elim (λ k. inl (stands_later x y xs k)) inr (in_either xs ys y later)) (first_or_later x y (xs ++ ys) s)
+
+-- the `schemaSpec` that stands in the list of an element's own is the element
+own_is : (around : List Bind) (t : Tree) (f : Found) → StandsIn (search.own around t) f → f.schema ≡ t
+own_is around t f = by_name (is_one_of (codes "schemaSpec" ∷ []) t)
+  where
+    by_name : (b : Bool) → StandsIn (if b then (record { around = around; schema = t } ∷ []) else []) f → f.schema ≡ t
+    by_name true s = ⊎_elim (λ e. ap (λ (g : Found). g.schema) e) (λ later. absurd (nothing_stands f later)) (first_or_later _ f [] s)
+    by_name false s = absurd (nothing_stands f s)
+
+-- where what the search finds holds such a form, whatever stands around it, so does the element, or one of the elements
+mutual
+  pub held_by_schema : (around : List Bind) (t : Tree) (found : List Found) (f : Found) → Finds around t found → StandsIn found f → ((a : Around) → HoldsForm a f.schema) → (a : Around) → HoldsForm a t
+  held_by_schema around t found f (foreign other) s holds a = absurd (nothing_stands f s)
+  held_by_schema around t found f (through inner tei among is) s holds a = ⊎_elim
+      (λ own. subst (HoldsForm a) (own_is around t f own) (holds a))
+      (λ later. let child = held_among (within around t) (children_of t) inner f among later holds (around_in a t) in inside child.0 child.1 child.2)
+      (in_either (search.own around t) inner f (subst (λ fs. StandsIn fs f) is s))
+
+  held_among : (around : List Bind) (ts : List Tree) (found : List Found) (f : Found) → FindsAmong around ts found → StandsIn found f → ((a : Around) → HoldsForm a f.schema) → (a : Around) → SomeHolds a ts
+  held_among around ts found f nothing s holds a = absurd (nothing_stands f s)
+  held_among around ts found f (element {t = t} {ts = rest} first later one among is) s holds a = ⊎_elim
+      (λ own. (t, stands_first t rest, held_by_schema around t first f one own holds a))
+      (λ after. let u = held_among around rest later f among after holds a in (u.0, stands_later t u.0 rest u.1, u.2))
+      (in_either first later f (subst (λ fs. StandsIn fs f) is s))

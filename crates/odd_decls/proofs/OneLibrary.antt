@@ -1,52 +1,151 @@
 -- A tree declares one doc, and a doc gives one library.
-use Rattle.std.proofs.Common.{◌≡◌, ℕ, List, [], ◌∷◌, refl, sym, ap, subst, ◌∙◌}
+use Rattle.std.proofs.Common.{◌≡◌, ◌≤◌, ◌+◌, ℕ, Bool, true, false, cond, None, List, [], ◌∷◌, Option, Some, ⊎_elim, refl, sym, ap, subst, ◌∙◌, arith, suc}
+use Rattle.std.specs.Prelude.{count_by}
+use Rattle.std.proofs.lemmas.Bool.{cases_Bool}
+use Rattle.std.proofs.lemmas.Cmp.{nat_cmp_total, on_total}
+use Rattle.std.proofs.lemmas.List.Sums.{sum_by-cons}
 use Rattle.std.proofs.lemmas.Option.{same_Some}
+use Rattle.std.specs.Cmp.{nat_cmp_is}
+use Rattle.std.specs.Ordering.{nat_cmp}
+use Rattle.std.specs.declared.cmp.Ordering.{Ordering}
+use Rattle.std.specs.declared.cmp.Ordering.TheVariants.{Less}
 use Rattle.odd_base.specs.Key.{key_cmp}
 use Rattle.odd_base.specs.KeyOrder.{key_total, key_exact}
+use Rattle.odd_base.specs.declared.name.Bind.{Bind}
 use Rattle.odd_base.proofs.Entries.{same_map}
-use Rattle.odd_reader.specs.declared.tree.Tree.{Tree}
+use Rattle.odd_reader.specs.Elements.{StandsIn, children_of, within}
+use Rattle.odd_reader.specs.declared.tree.Tree.{Tree, out-Tree}
+use Rattle.odd_reader.proofs.InList.{first_or_later, nothing_stands, stands_first}
+use Rattle.odd_forms.specs.Faults.{FormFault}
+use Rattle.odd_forms.specs.Names.{is_one_of}
+use Rattle.odd_forms.specs.Sorted.{IsSet}
+use Rattle.odd_forms.specs.Table.{form_at}
+use Rattle.odd_forms.specs.declared.element.Element.TheVariants as element
+use Rattle.odd_forms.proofs.OneSet.{one_set}
+use Rattle.odd_content.proofs.OneContent.{one_content, one_texts}
+use Rattle.odd_content.specs.Giving.{IsContentOf}
+use Rattle.odd_content.specs.declared.content.Content.{Content}
 use Rattle.odd_decls.specs.declared.odd.Entry.{Entry}
 use Rattle.odd_decls.specs.declared.odd.Entry.TheVariants as entry
 use Rattle.odd_decls.specs.declared.odd.OddDoc.{OddDoc}
 use Rattle.odd_decls.specs.declared.spec.Spec.{Spec}
 use Rattle.odd_decls.specs.declared.library.Library.{Library}
-use Rattle.odd_decls.specs.Declares.{AreReadAs, Declares, IsDocOf, IsReadAs, nothing, spec, other}
-use Rattle.odd_decls.specs.Odd.{element_key}
+use Rattle.odd_decls.specs.Declares.{AreEntriesOf, Declares, GivesContent, IsDocOf, IsEntryOf, IsReadAs, PlacesRise}
 use Rattle.odd_decls.specs.Library.{IsLibraryOf}
+use Rattle.odd_decls.specs.Odd.{element_key, place_of}
+use Rattle.odd_decls.specs.Offences.{IsContentChild, IsItem, IsSpecOf, ItemFault, ItemOffends, Offends, SpecFault}
+use Rattle.odd_decls.specs.Search.{Found}
 use Rattle.odd_decls.proofs.Searched.{one_search}
-use Rattle.odd_decls.proofs.SortedWords.{one_sorted}
 
-one_spec : (schema item : Tree) (i j : ℕ) (a b : Spec) → IsReadAs schema item i a → IsReadAs schema item j b → a ≡ b
-one_spec schema item i j a b p q =
+-- an item more that passes a test
+one_more : {A : Type 0} (test : A → Bool) (xs : List A) (y : A) → test y ≡ true → count_by test (y ∷ xs) ≡ suc (count_by test xs)
+one_more test xs y h = sum_by-cons (λ z. cond (test z) 1 0) y xs ∙ ap (λ b. cond b 1 0 + count_by test xs) h ∙ omega arith
+
+-- an item more counts no fewer
+not_fewer : {A : Type 0} (test : A → Bool) (xs : List A) (y : A) → count_by test xs ≤ count_by test (y ∷ xs)
+not_fewer test xs y = let counts = sum_by-cons (λ z. cond (test z) 1 0) y xs in omega arith
+
+-- what stands in a list and passes is counted
+some_pass : {A : Type 0} (test : A → Bool) (xs : List A) (x : A) → StandsIn xs x → test x ≡ true → 1 ≤ count_by test xs
+some_pass test [] x s h = absurd (nothing_stands x s)
+some_pass test (y ∷ xs) x s h =
+    ⊎_elim (λ e. omega (arith, one_more test xs y (ap test (sym e) ∙ h))) (λ t. omega (arith, some_pass test xs x t h, not_fewer test xs y)) (first_or_later y x xs s)
+
+-- where no two items pass, two that do are one
+one_passes : {A : Type 0} (test : A → Bool) (xs : List A) (x y : A) → (2 ≤ count_by test xs → ⊥) → StandsIn xs x → test x ≡ true → StandsIn xs y → test y ≡ true → x ≡ y
+one_passes test [] x y few s h t k = absurd (nothing_stands x s)
+one_passes {A} test (z ∷ xs) x y few s h t k =
+    ⊎_elim (λ e. ⊎_elim (λ f. e ∙ sym f) (λ u. absurd (two x y e u h k)) (first_or_later z y xs t))
+    (λ v. ⊎_elim (λ f. absurd (two y x f v k h)) (λ u. one_passes test xs x y (λ both. few (omega (arith, both, not_fewer test xs z))) v h u k) (first_or_later z y xs t))
+    (first_or_later z x xs s)
+  where
+    two : (first later : A) → first ≡ z → StandsIn xs later → test first ≡ true → test later ≡ true → ⊥
+    two first later e u p q = few (omega (arith, one_more test xs z (ap test (sym e) ∙ p), some_pass test xs later u q))
+
+-- an `elementSpec` has two children that are a `content`
+abbrev HasTwo : Tree → Type 0
+HasTwo item = 2 ≤ count_by (is_one_of ((form_at element.Content).name ∷ [])) (children_of item)
+
+-- a `content` child has that name
+is_content : (child : Tree) → IsContentChild child → is_one_of ((form_at element.Content).name ∷ []) child ≡ true
+is_content child h =
+    ⊎_elim (λ e. e) (λ e. let none : cond false (Some element.Content) None ≡ Some element.Content = subst (λ b. cond b (Some element.Content) None ≡ Some element.Content) e h in cc)
+    (cases_Bool (is_one_of ((form_at element.Content).name ∷ []) child))
+
+-- an item without two gives one content
+one_given : (around : List Bind) (item : Tree) (o p : Option Content) → (HasTwo item → ⊥) → GivesContent around item o → GivesContent around item p → o ≡ p
+one_given around item o p few (GivesContent.none h) (GivesContent.none k) = refl
+one_given around item o p few (GivesContent.none h) (GivesContent.some child s is gives) = absurd (h child s is)
+one_given around item o p few (GivesContent.some child s is gives) (GivesContent.none h) = absurd (h child s is)
+one_given around item o p few (GivesContent.some {content = c} child s is gives) (GivesContent.some {content = d} other t also told) =
+    let same : child ≡ other = one_passes (is_one_of ((form_at element.Content).name ∷ [])) (children_of item) child other few s (is_content child is) t (is_content other also) in
+    ap Some (one_content (within around item) other c d (subst (λ t. IsContentOf (within around item) t c) same gives) told)
+
+-- and is read as one spec
+one_spec : (first : Found) (item : Tree) (a b : Spec) → (HasTwo item → ⊥) → IsReadAs first item a → IsReadAs first item b → a ≡ b
+one_spec first item a b few p q =
     let keys : a.key ≡ b.key = p.key ∙ ap element_key (same_Some _ _ (sym p.is_spec.1 ∙ q.is_spec.1)) ∙ sym q.key in
     let modules : a.«module» ≡ b.«module» = p.of_module ∙ sym q.of_module in
     let namespaces : a.ns ≡ b.ns = p.ns ∙ sym q.ns in
-    let contents : a.content ≡ b.content = p.content ∙ sym q.content in
+    let contents : a.content ≡ b.content = one_given _ item _ _ few p.content q.content in
     λ n. record { key = keys n; «module» = modules n; ns = namespaces n; content = contents n }
 
-one_list : (schema : Tree) (ts : List Tree) (es fs : List Entry) → AreReadAs schema ts es → AreReadAs schema ts fs → es ≡ fs
-one_list schema ts es fs nothing nothing = refl
-one_list schema ts es fs (spec {item = t} {at = i} {spec = a} h p ps) (spec {at = j} {spec = b} k q qs) =
-    let places : i ≡ j = p.placed ∙ sym q.placed in
-    λ n. entry.Spec (places n) (one_spec schema t i j a b p q n) ∷ one_list schema _ _ _ ps qs n
-one_list schema ts es fs (spec h p ps) (other k qs) = cc
-one_list schema ts es fs (other h ps) (spec k q qs) = cc
-one_list schema ts es fs (other h ps) (other k qs) = one_list schema _ _ _ ps qs
+-- and so as one entry
+one_entry : (first : Found) (item : Tree) (e f : Entry) → (HasTwo item → ⊥) → IsEntryOf first item e → IsEntryOf first item f → e ≡ f
+one_entry first item e f few (IsEntryOf.spec {spec = a} p) (IsEntryOf.spec {spec = b} q) = ap (λ s. entry.Spec (out-Tree item).at s) (one_spec first item a b few p q)
+
+-- no item of the `schemaSpec` has two
+abbrev NoneHasTwo : Found → Type 0
+NoneHasTwo first = (item : Tree) → StandsIn (children_of first.schema) item → IsItem element.ElementSpec item → HasTwo item → ⊥
+
+-- an item with two breaks rule 4
+none_has_two : (t : Tree) (doc : OddDoc) (declares : Declares t doc) → NoneHasTwo declares.first
+none_has_two t doc declares item s is two =
+    declares.unoffended (out-Tree item).at 4 (record {
+      first = declares.first;
+      others = [];
+      found = declares.found;
+      offends = Offends.items (ItemOffends.alone item s (ItemFault.spec is (SpecFault.form (FormFault.twice element.Content (stands_first element.Content []) two))) refl);
+    })
+
+-- entries by their places
+abbrev by_place : Entry → Entry → Ordering
+by_place e f = nat_cmp (place_of e) (place_of f)
+
+-- an item of the `schemaSpec` is read as the entry
+abbrev IsEntryIn : Found → Entry → Type 0
+IsEntryIn first e = (item : Tree) × StandsIn (children_of first.schema) item × IsEntryOf first item e
+
+-- the item that an entry is read from is a spec
+item_spec : (first : Found) (item : Tree) (e : Entry) → IsEntryOf first item e → (ident : List ℕ) × IsSpecOf ident item
+item_spec first item e (IsEntryOf.spec p) = (p.ident, p.is_spec)
+
+-- the entries are the set of those
+entries_set : (first : Found) (entries : List Entry) → NoneHasTwo first → AreEntriesOf first (children_of first.schema) entries → PlacesRise entries → IsSet by_place (IsEntryIn first) entries
+entries_set first entries none are rise = record {
+  rising = λ before after e next is. sym (nat_cmp_is (place_of e) (place_of next) Less (rise before after e next is));
+  none_else = are.none_else;
+  each = λ e h.
+      let spec = item_spec first h.0 e h.2 in
+      let o = are.each h.0 spec.0 h.1 spec.1 in
+      subst (StandsIn entries) (one_entry first h.0 o.0 e (none h.0 h.1 spec.1.0) o.2 h.2) o.1;
+}
 
 -- a `schemaSpec` declares one doc
-one_doc_of : (schema : Tree) (d e : OddDoc) → IsDocOf schema d → IsDocOf schema e → d ≡ e
-one_doc_of schema d e p q =
+one_doc_of : (first : Found) (d e : OddDoc) → NoneHasTwo first → IsDocOf first d → IsDocOf first e → d ≡ e
+one_doc_of first d e none p q =
     let idents : d.ident ≡ e.ident = same_Some _ _ (sym p.ident ∙ q.ident) in
-    let starts : d.start ≡ e.start = one_sorted _ _ _ p.start q.start in
-    let entries : d.entries ≡ e.entries = one_list schema _ _ _ p.entries q.entries in
+    let starts : d.start ≡ e.start = one_texts _ _ _ p.start q.start in
+    let entries : d.entries ≡ e.entries =
+    one_set by_place (on_total place_of nat_cmp_total) (IsEntryIn first) _ _ (entries_set first _ none p.entries p.rising) (entries_set first _ none q.entries q.rising) in
     λ n. record { ident = idents n; start = starts n; entries = entries n }
 
 -- a tree declares one doc
 pub one_doc : (t : Tree) (d e : OddDoc) → Declares t d → Declares t e → d ≡ e
 one_doc t d e p q =
-    let found : p.schema ∷ [] ≡ q.schema ∷ [] = one_search t _ _ p.found q.found in
-    let schemas : p.schema ≡ q.schema = cc in
-    one_doc_of q.schema d e (subst (λ s. IsDocOf s d) schemas p.is_doc) q.is_doc
+    let found : p.first ∷ [] ≡ q.first ∷ [] = one_search [] t _ _ p.found q.found in
+    let firsts : p.first ≡ q.first = cc in
+    one_doc_of q.first d e (none_has_two t e q) (subst (λ f. IsDocOf f d) firsts p.is_doc) q.is_doc
 
 -- a doc gives one library
 pub one_library : (d : OddDoc) (l m : Library) → IsLibraryOf d l → IsLibraryOf d m → l ≡ m

@@ -1,36 +1,66 @@
 -- The entries that items are read as, with one item more.
-use Rattle.std.proofs.Common.{◌≡◌, ℕ, List, [], ◌∷◌, ◌++◌, Option, Some, None, true, false, inl, inr, refl, codes}
-use Rattle.std.proofs.lemmas.Bool.{false_from_ne_true}
-use Rattle.odd_reader.specs.declared.tree.Tree.{Tree}
+use Rattle.std.proofs.Common.{◌≡◌, ◌<◌, ℕ, List, [], ◌∷◌, ◌++◌, inl, inr, ⊎_elim, refl, sym, subst, ◌∙◌, append_assoc}
+use Rattle.odd_reader.specs.Elements.{StandsIn}
+use Rattle.odd_reader.specs.declared.tree.Tree.{Tree, out-Tree}
+use Rattle.odd_reader.proofs.InList.{nothing_stands, stands_around, stands_push}
+use Rattle.odd_reader.proofs.InList as standing
+use Rattle.odd_decls.specs.Declares.{AreEntriesOf, IsEntryOf, PlacesRise}
+use Rattle.odd_decls.specs.Declares as entries
+use Rattle.odd_decls.specs.Odd.{place_of}
+use Rattle.odd_decls.specs.Offences.{IsSpecOf}
+use Rattle.odd_decls.specs.Reading.{AreRead, Rises}
+use Rattle.odd_decls.specs.Search.{Found}
 use Rattle.odd_decls.specs.declared.odd.Entry.{Entry}
-use Rattle.odd_decls.specs.Declares.{AreReadAs, is_spec}
-use Rattle.odd_decls.specs.Odd.{HasName}
-use Rattle.odd_decls.specs.Offences.{IsSpecOf, ItemFault, SpecFault, given}
-use Rattle.odd_decls.specs.Reading.{IsEntryOf}
-use Rattle.odd_decls.proofs.Named.{one_named, named_one}
+use Rattle.odd_decls.proofs.FirstFaults.{before_last, rises_first}
 
--- an `elementSpec` more gives its entry
-pub spec_read : {schema : Tree} (items : List Tree) (entries : List Entry) (item : Tree) (e : Entry)
-    → AreReadAs schema items entries → is_spec item ≡ true → IsEntryOf schema item e → AreReadAs schema (items ++ item ∷ []) (entries ++ e ∷ [])
-spec_read {schema} _ _ item e AreReadAs.nothing is of = rw of.2 (AreReadAs.spec is of.3 AreReadAs.nothing)
-spec_read {schema} _ _ item e (AreReadAs.spec s r rest) is of = AreReadAs.spec s r (spec_read _ _ item e rest is of)
-spec_read {schema} _ _ item e (AreReadAs.other s rest) is of = AreReadAs.other s (spec_read _ _ item e rest is of)
+-- an entry is at the place of its item
+entry_place : (first : Found) (item : Tree) (e : Entry) → IsEntryOf first item e → place_of e ≡ (out-Tree item).at
+entry_place first item _ (entries.IsEntryOf.spec is) = refl
 
--- any other item gives none
-pub other_read : {schema : Tree} (items : List Tree) (entries : List Entry) (item : Tree)
-    → AreReadAs schema items entries → is_spec item ≡ false → AreReadAs schema (items ++ item ∷ []) entries
-other_read {schema} _ _ item AreReadAs.nothing is = AreReadAs.other is AreReadAs.nothing
-other_read {schema} _ _ item (AreReadAs.spec s r rest) is = AreReadAs.spec s r (other_read _ _ item rest is)
-other_read {schema} _ _ item (AreReadAs.other s rest) is = AreReadAs.other s (other_read _ _ item rest is)
+-- no items are read as no entries
+pub none_read : (first : Found) → AreRead first [] []
+none_read first = record {
+  are = record { none_else = λ e s. absurd (nothing_stands e s); each = λ item ident s is. absurd (nothing_stands item s) };
+  rising = λ r before after e next is. absurd (nothing_stands e (before, next ∷ after, is));
+}
 
--- an item with an ident that is a name is an `elementSpec`
-pub with_ident : (word : List ℕ) (item : Tree) → IsSpecOf word item → is_spec item ≡ true
-with_ident word item h = named_one (codes "elementSpec") item h.0
+-- an item that has no ident gives no entry
+pub other_read : (first : Found) (items : List Tree) (es : List Entry) (item : Tree) → AreRead first items es → ((word : List ℕ) → IsSpecOf word item → ⊥)
+    → AreRead first (items ++ item ∷ []) es
+other_read first items es item read none = record {
+  are = record {
+    none_else = λ e s. let h = read.are.none_else e s in (h.0, (stands_push items item h.0).1 (inl h.1), h.2);
+    each = λ t ident s is. ⊎_elim (λ k. read.are.each t ident k is) (λ e. absurd (none ident (subst (IsSpecOf ident) (sym e) is))) ((stands_push items item t).0 s);
+  };
+  rising = λ r. read.rising (rises_first 0 items item r);
+}
 
--- an item that breaks no rule and has no such ident is none
-pub without_ident : (item : Tree) → ((rule : ℕ) → ItemFault item rule → ⊥) → ((word : List ℕ) → IsSpecOf word item → ⊥) → is_spec item ≡ false
-without_ident item sound none = false_from_ne_true (is_spec item) (λ is. at_ident (one_named (codes "elementSpec") item is) (given item (codes "ident")) refl)
+-- an item with an entry gives it
+pub entry_read : (first : Found) (items : List Tree) (es : List Entry) (item : Tree) (e : Entry) → AreRead first items es → IsEntryOf first item e
+    → AreRead first (items ++ item ∷ []) (es ++ e ∷ [])
+entry_read first items es item e read is = record {
+  are = record { none_else = from; each = to };
+  rising = rising;
+}
   where
-    at_ident : HasName (codes "elementSpec") item → (ident : Option (List ℕ)) → given item (codes "ident") ≡ ident → ⊥
-    at_ident named None e = sound 1 (ItemFault.spec named (SpecFault.ident (inl e)))
-    at_ident named (Some word) e = sound 1 (ItemFault.spec named (SpecFault.ident (inr (word, e, λ name. none word (named, e, name)))))
+    from : (f : Entry) → StandsIn (es ++ e ∷ []) f → (t : Tree) × StandsIn (items ++ item ∷ []) t × IsEntryOf first t f
+    from f s = ⊎_elim (λ k. let h = read.are.none_else f k in (h.0, (stands_push items item h.0).1 (inl h.1), h.2))
+        (λ same. (item, (stands_push items item item).1 (inr refl), subst (IsEntryOf first item) same is)) ((stands_push es e f).0 s)
+
+    to : (t : Tree) (ident : List ℕ) → StandsIn (items ++ item ∷ []) t → IsSpecOf ident t → (f : Entry) × StandsIn (es ++ e ∷ []) f × IsEntryOf first t f
+    to t ident s is_spec = ⊎_elim (λ k. let h = read.are.each t ident k is_spec in (h.0, (stands_push es e h.0).1 (inl h.1), h.2))
+        (λ same. (e, (stands_push es e e).1 (inr refl), subst (λ u. IsEntryOf first u e) same is)) ((stands_push items item t).0 s)
+
+    below : Rises 0 (items ++ item ∷ []) → (f : Entry) → StandsIn es f → place_of f < place_of e
+    below r f s =
+        let h = read.are.none_else f s in
+        let low = before_last 0 items item h.0 r h.1 in
+        subst (λ n. n < place_of e) (sym (entry_place first h.0 f h.2)) (subst (λ n. (out-Tree h.0).at < n) (sym (entry_place first item e is)) low)
+
+    rising : Rises 0 (items ++ item ∷ []) → PlacesRise (es ++ e ∷ [])
+    rising r before after f next parts =
+        elim (stands_around es e [] (before ++ f ∷ []) next after (parts ∙ sym (append_assoc before (f ∷ []) (next ∷ after)))) [
+          | standing.before c h ↦ read.rising (rises_first 0 items item r) before c f next (h ∙ append_assoc before (f ∷ []) (next ∷ c))
+          | standing.here h same ↦ subst (λ n. place_of f < place_of n) same (below r f (before, [], h))
+          | standing.after c h ↦ absurd (nothing_stands next (c, after, h))
+        ]

@@ -1,89 +1,112 @@
 -- When a file is read or refused: pending forms, and the offences of what the search finds.
-use Rattle.std.proofs.Common.{◌≡◌, ℕ, false, List, [], ◌∷◌, ◌++◌, ◌≤◌, Bor, map, length, get_or, take, drop, ◌-◌, refl, sym, ap, subst, ◌∙◌, arith}
+use Rattle.std.proofs.Common.{◌≡◌, ◌<◌, ℕ, List, [], ◌∷◌, ◌++◌, ◌≤◌, Bor, map, length, get_or, take, drop, ◌-◌, refl, sym, ap, subst, ◌∙◌, arith}
 use Rattle.std.proofs.lemmas.List.{take_all}
 use Rattle.odd_base.specs.declared.offence.Offence.{Offence}
 use Rattle.odd_base.specs.declared.offence.Who.TheVariants as who
 use Rattle.odd_reader.specs.Formed.{IsFormed}
-use Rattle.odd_reader.specs.declared.tree.Tree.{Tree, out-Tree}
+use Rattle.odd_reader.specs.declared.tree.Tree.{Tree}
+use Rattle.odd_decls.specs.declared.odd.OddDoc.{OddDoc}
 use Rattle.odd_decls.specs.declared.reading.Fault.{Fault}
-use Rattle.odd_decls.specs.Offences.{HasOffence, IsFirstOf, IsOffenceOf, IsRefusal, Offends}
-use Rattle.odd_decls.specs.Offences as offences
-use Rattle.odd_decls.specs.Pending.{HoldsForm, IsPending, form, no_schema}
-use Rattle.odd_decls.specs.Reading.{AddsFound, IsFirstFault, PlacesRise}
-use Rattle.odd_decls.specs.Search.{Finds}
+use Rattle.odd_decls.specs.declared.reading.Read.{Read}
+use Rattle.odd_decls.specs.declared.reading.Read.TheVariants as read
+use Rattle.odd_decls.specs.Declares.{Declares}
+use Rattle.odd_decls.specs.Offences.{HasOffence, IsOffenceOf, IsRefusal, Offends}
+use Rattle.odd_decls.specs.Pending.{HoldsForm, IsPending, form, no_schema, outermost}
+use Rattle.odd_decls.specs.Reading.{AddsFound, IsReadOrBroken}
+use Rattle.odd_decls.specs.Search.{Finds, Found}
 use Rattle.odd_decls.proofs.Rising.{places_rise}
-use Rattle.odd_decls.proofs.Searched.{one_search}
-use Rattle.odd_decls.proofs.Standing.{nothing_stands}
+use Rattle.odd_decls.proofs.Searched.{one_search, schemas_of}
 
--- a file that holds no such form, and in which the search finds a `schemaSpec`, is read whole
-pub all_read : (t schema : Tree) (others : List Tree) → (HoldsForm false t → ⊥) → Finds t (schema ∷ others) → IsPending t → ⊥
-all_read t schema others none found (form h) = none h
-all_read t schema others none found (no_schema f) = let e : [] ≡ schema ∷ others = one_search t [] (schema ∷ others) f found in cc
+-- the elements that references point to
+abbrev pointed : List (Bor Tree) → List Tree
+pointed = map (λ t. t.now)
 
--- an offence of the file is one of what the search finds
-offence_found : (t schema : Tree) (others : List Tree) (place rule : ℕ) → Finds t (schema ∷ others) → HasOffence t place rule → Offends schema others place rule
-offence_found t schema others place rule found h =
-    let e : h.schema ∷ h.others ≡ schema ∷ others = one_search t (h.schema ∷ h.others) (schema ∷ others) h.found found in
-    let one : h.schema ≡ schema = cc in
-    let rest : h.others ≡ others = cc in
-    subst (λ s. Offends s others place rule) one (subst (λ ts. Offends h.schema ts place rule) rest h.offends)
+-- a list that was filled by the search is of what it finds
+all_found : (t : Tree) (old new items : List (Bor Tree)) → old ≡ [] → AddsFound t (pointed old) (pointed new) → items ≡ new → (found : List Found) × Finds [] t found × (schemas_of found ≡ pointed items)
+all_found t old new items none adds same =
+    let f = adds [] in
+    (f.0, f.1, sym (ap pointed same ∙ f.2 ∙ ap (λ us. pointed us ++ schemas_of f.0) none))
 
--- where what the search finds breaks nothing, the file has no offence
-pub unoffended : (t schema : Tree) (others : List Tree) → Finds t (schema ∷ others) → ((place rule : ℕ) → Offends schema others place rule → ⊥)
-    → (place rule : ℕ) → HasOffence t place rule → ⊥
-unoffended t schema others found none place rule h = none place rule (offence_found t schema others place rule found h)
+-- in a file with an empty list nothing is found
+pub none_pending : (t : Tree) (old new items : List (Bor Tree)) → old ≡ [] → AddsFound t (pointed old) (pointed new) → items ≡ new → length items < 1 → IsPending t
+none_pending t old new items none adds same few = let f = all_found t old new items none adds same in at f.0 items f.1 f.2 few
+  where
+    at : (found : List Found) (us : List (Bor Tree)) → Finds [] t found → schemas_of found ≡ pointed us → length us < 1 → IsPending t
+    at [] us f e h = no_schema f
+    at (one ∷ fs) [] f e h = cc
+    at (one ∷ fs) (u ∷ us) f e h = absurd (omega (arith, h))
 
--- the first fault of what the search finds is the first offence of the file
-pub first_offence : (first end : ℕ) (t schema : Tree) (others : List Tree) (fault : Fault) → IsFormed first end t → Finds t (schema ∷ others)
-    → IsFirstFault (Offends schema others) (PlacesRise schema others) fault → IsFirstOf (HasOffence t) fault.at fault.rule
-first_offence first end t schema others fault formed found h = record {
-  is_one = record { schema = schema; others = others; found = found; offends = h.is_one };
-  first = λ place rule o. (h.first (places_rise first end t schema others formed found)).first place rule (offence_found t schema others place rule found o);
-}
+-- what is read of the first `schemaSpec` of a file that holds no form that is not read yet
+pub record IsFileRead (t : Tree) (all : Read) : Type 0 where
+  pub first : Found
+  pub others : List Found
+  pub none : HoldsForm outermost t → ⊥
+  pub found : Finds [] t (first ∷ others)
+  pub is : IsReadOrBroken first others all
+
+-- where the first of the list, with those after it, is read as it
+pub file_read : (t : Tree) (all : Read) (old new items : List (Bor Tree)) (schema : Bor Tree) → (HoldsForm outermost t → ⊥) → old ≡ [] → AddsFound t (pointed old) (pointed new) → items ≡ new
+    → 1 ≤ length items → schema ≡ get_or items 0 schema
+    → ((first : Found) (others : List Found) → Finds [] t (first ∷ others) → first.schema ≡ schema.now → schemas_of others ≡ pointed (take (length items - 1) (drop 1 items)) → IsReadOrBroken first others all)
+    → IsFileRead t all
+file_read t all old new items schema whole none adds same some is reads = let f = all_found t old new items none adds same in at f.0 items f.1 f.2 some is reads
+  where
+    at : (found : List Found) (us : List (Bor Tree)) → Finds [] t found → schemas_of found ≡ pointed us → 1 ≤ length us → schema ≡ get_or us 0 schema
+        → ((first : Found) (others : List Found) → Finds [] t (first ∷ others) → first.schema ≡ schema.now → schemas_of others ≡ pointed (take (length us - 1) (drop 1 us)) → IsReadOrBroken first others all)
+        → IsFileRead t all
+    at found [] f e h k reads = absurd (omega (arith, h))
+    at [] (u ∷ us) f e h k reads = cc
+    at (one ∷ fs) (u ∷ us) f e h k reads =
+        let head : one.schema ≡ u.now = cc in
+        let tail : schemas_of fs ≡ pointed us = cc in
+        let later : take (length (u ∷ us) - 1) us ≡ us = take_all (length (u ∷ us) - 1) us (omega arith) in
+        record { first = one; others = fs; none = whole; found = f; is = reads one fs f (head ∙ ap (λ v. v.now) (sym k)) (tail ∙ ap pointed (sym later)) }
+
+-- it has no pending form
+all_read : (t : Tree) (all : Read) → IsFileRead t all → IsPending t → ⊥
+all_read t all file (form h) = file.none h
+all_read t all file (no_schema f) = let e : [] ≡ file.first ∷ file.others = one_search [] t [] (file.first ∷ file.others) f file.found in cc
+
+-- an offence of it is one of what the search finds
+offence_found : (t : Tree) (all : Read) (file : IsFileRead t all) (place rule : ℕ) → HasOffence t place rule → Offends file.first file.others place rule
+offence_found t all file place rule h =
+    let e : h.first ∷ h.others ≡ file.first ∷ file.others = one_search [] t (h.first ∷ h.others) (file.first ∷ file.others) h.found file.found in
+    let one : h.first ≡ file.first = cc in
+    let rest : h.others ≡ file.others = cc in
+    subst (λ f. Offends f file.others place rule) one (subst (λ fs. Offends h.first fs place rule) rest h.offends)
 
 -- what a fault is told as
 abbrev pub told_as : ℕ → Fault → Offence
-told_as file fault = record { file = file; who = who.At fault.at; rule = fault.rule }
+told_as number fault = record { file = number; who = who.At fault.at; rule = fault.rule }
 
--- an offence of a file that is read whole is told as one
-pub offence_of : (t : Tree) (file : ℕ) (fault : Fault) (offence : Offence) → (IsPending t → ⊥) → HasOffence t fault.at fault.rule → told_as file fault ≡ offence
-    → IsOffenceOf t file offence
-offence_of t file fault offence whole has is =
-    subst (IsOffenceOf t file) is (record { all_read = whole; in_file = refl; place = fault.at; placed = refl; offends = has })
+-- a fault is told as an offence of the file
+abbrev told_offence : (t : Tree) (number : ℕ) (fault : Fault) → IsFileRead t (read.Broken fault) → IsOffenceOf t number (told_as number fault)
+told_offence t number fault file = record {
+  all_read = all_read t (read.Broken fault) file;
+  in_file = refl;
+  place = fault.at;
+  placed = refl;
+  offends = record { first = file.first; others = file.others; found = file.found; offends = file.is.is_one };
+}
 
--- the first offence of a file that is read whole refuses it
-pub refusal_of : (t : Tree) (file : ℕ) (fault : Fault) (offence : Offence) → (IsPending t → ⊥) → IsFirstOf (HasOffence t) fault.at fault.rule → told_as file fault ≡ offence
-    → IsRefusal t file offence
-refusal_of t file fault offence whole first is =
-    subst (IsRefusal t file) is (record {
-      is_one = record { all_read = whole; in_file = refl; place = fault.at; placed = refl; offends = first.is_one };
-      first = first.first;
-    })
+-- and so is an offence that is told as the fault
+pub offence_of : (t : Tree) (number : ℕ) (fault : Fault) (offence : Offence) → IsFileRead t (read.Broken fault) → told_as number fault ≡ offence → IsOffenceOf t number offence
+offence_of t number fault offence file is = subst (IsOffenceOf t number) is (told_offence t number fault file)
 
--- a `schemaSpec` that breaks nothing with those after it breaks nothing alone
-pub sound_alone : (schema : Tree) (others : List Tree) → ((place rule : ℕ) → Offends schema others place rule → ⊥) → (place rule : ℕ) → Offends schema [] place rule → ⊥
-sound_alone schema others none place rule (offences.itself f p) = none place rule (offences.itself f p)
-sound_alone schema others none place rule (offences.again other s p) = nothing_stands other s
-sound_alone schema others none place rule (offences.items h) = none place rule (offences.items h)
+-- and it refuses a file that is formed
+pub refusal_of : (first end : ℕ) (t : Tree) (number : ℕ) (fault : Fault) (offence : Offence) → IsFormed first end t → IsFileRead t (read.Broken fault) → told_as number fault ≡ offence
+    → IsRefusal t number offence
+refusal_of first end t number fault offence formed file is = subst (IsRefusal t number) is (record {
+  is_one = told_offence t number fault file;
+  first = λ place rule h. (file.is.first (places_rise first end t file.first file.others formed file.found)).first place rule (offence_found t (read.Broken fault) file place rule h);
+})
 
--- and none comes after it
-pub none_after : (schema : Tree) (others : List Tree) → ((place rule : ℕ) → Offends schema others place rule → ⊥) → others ≡ []
-none_after schema [] none = refl
-none_after schema (t ∷ ts) none = absurd (none (out-Tree t).at 4 (offences.again t ([], ts, refl) refl))
-
--- the `schemaSpec` of a list after its first
-abbrev pub later_ones : List (Bor Tree) → List Tree
-later_ones items = map (λ t. t.now) (take (length items - 1) (drop 1 items))
-
--- the list that the search has filled begins with the first `schemaSpec` that it finds
-pub schemas_found : (t : Tree) (old new items : List (Bor Tree)) (schema : Bor Tree) → old ≡ [] → AddsFound t (map (λ u. u.now) old) (map (λ u. u.now) new) → items ≡ new
-    → 1 ≤ length items → schema ≡ get_or items 0 schema → Finds t (schema.now ∷ later_ones items)
-schemas_found t old new items schema none (found, f, adds) same some is =
-    let all : found ≡ map (λ u. u.now) items = sym (ap (λ us. map (λ u. u.now) us) same ∙ adds ∙ ap (λ us. map (λ u. u.now) us ++ found) none) in
-    subst (Finds t) (all ∙ parts items some is) f
-  where
-    parts : (us : List (Bor Tree)) → 1 ≤ length us → schema ≡ get_or us 0 schema → map (λ u. u.now) us ≡ schema.now ∷ later_ones us
-    parts [] h e = absurd (omega (arith, h))
-    parts (u ∷ us) h e =
-        let whole : take (length (u ∷ us) - 1) us ≡ us = take_all (length (u ∷ us) - 1) us (omega arith) in
-        ap (λ v. v.now ∷ map (λ w. w.now) us) (sym e) ∙ ap (λ vs. schema.now ∷ map (λ w. w.now) vs) (sym whole)
+-- a file that is formed declares the doc that is read of it
+pub declares_of : (first end : ℕ) (t : Tree) (doc : OddDoc) → IsFormed first end t → IsFileRead t (read.Doc doc) → Declares t doc
+declares_of first end t doc formed file = record {
+  all_read = all_read t (read.Doc doc) file;
+  unoffended = λ place rule h. file.is.1 place rule (offence_found t (read.Doc doc) file place rule h);
+  first = file.first;
+  found = subst (λ fs. Finds [] t (file.first ∷ fs)) file.is.0 file.found;
+  is_doc = file.is.2 (places_rise first end t file.first file.others formed file.found);
+}

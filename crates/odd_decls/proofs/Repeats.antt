@@ -1,25 +1,23 @@
 -- The idents of the items so far, and what an item breaks that comes after them.
-use Rattle.std.proofs.Common.{◌≡◌, ◌↔◌, ◌≤◌, ℕ, Bool, true, false, not, cond, List, [], ◌∷◌, ◌++◌, Option, Some, None, inl, inr, ⊎_elim, IsTrue, refl, sym, ap, subst, ◌∙◌, arith}
+use Rattle.std.proofs.Common.{◌≡◌, ◌↔◌, ◌⊎◌, ℕ, Bool, true, false, not, cond, if◌then◌else◌, List, [], ◌∷◌, ◌++◌, Option, Some, None, inl, inr, ⊎_elim, IsTrue, refl, sym, ap, subst, ◌∙◌}
 use Rattle.std.proofs.Math.Bool.{not-not}
 use Rattle.std.proofs.lemmas.Bool.{both_ways}
 use Rattle.std.proofs.lemmas.Cmp.{nat_list_cmp_total}
 use Rattle.std.proofs.lemmas.Option.{same_Some}
 use Rattle.std.specs.BTreeSet.{BTreeSet, contains_by}
-use Rattle.std.specs.Bool.{then_some}
 use Rattle.std.specs.Borrow.{Bor}
 use Rattle.std.specs.Cmp.{Equal-is, tied_itself}
 use Rattle.std.specs.FinMap.{slice_cmp-IsAntisymmetric, nat_cmp-IsAntisymmetric}
 use Rattle.std.specs.List.{list_any}
-use Rattle.std.specs.Option.{option_or}
 use Rattle.std.specs.Ordering.{eq_by_cmp, is_eq}
 use Rattle.odd_base.specs.Text.{text_cmp}
+use Rattle.odd_base.specs.declared.name.Bind.{Bind}
 use Rattle.odd_reader.specs.declared.tree.Tree.{Tree}
-use Rattle.odd_decls.specs.Faults.{BreaksAfter, HoldsIdents, IsIdentIn}
-use Rattle.odd_decls.specs.Faults as breaks
-use Rattle.odd_decls.specs.Offences.{IsSpecOf, ItemFault, SpecFault}
-use Rattle.odd_decls.specs.Offences as offences
-use Rattle.odd_decls.specs.Reading.{IsLeast}
-use Rattle.odd_decls.proofs.Standing.{nothing_stands, once_push}
+use Rattle.odd_forms.specs.Least.{IsLeast, lesser_rule}
+use Rattle.odd_forms.proofs.Least.{least_if, least_or}
+use Rattle.odd_decls.specs.Faults.{HoldsIdents, IsIdentIn}
+use Rattle.odd_decls.specs.Offences.{IsSpecOf, ItemFault}
+use Rattle.odd_reader.proofs.InList.{nothing_stands, once_push}
 
 -- texts that tie are one text
 same_text : (a b : List ℕ) → eq_by_cmp text_cmp a b ≡ true → a ≡ b
@@ -62,55 +60,33 @@ idents_added items item old new key is updates h word = by_key (eq_by_cmp text_c
           λ i. same ∙ (h word).1 (⊎_elim (λ k. k) (λ s. absurd (other s)) ((once_push (IsSpecOf word) items item).0 i)),
         )
 
--- it is told whether the item has the ident of an earlier one
-abbrev pub IsTold : List Tree → Tree → Bool → Type 0
-IsTold items item again =
-    (again ≡ true → (word : List ℕ) × IsSpecOf word item × IsIdentIn items word) × (again ≡ false → (word : List ℕ) → IsSpecOf word item → IsIdentIn items word → ⊥)
+-- an earlier item has the item's ident
+abbrev pub IsAgain : List Tree → Tree → Type 0
+IsAgain items item = (word : List ℕ) × IsSpecOf word item × IsIdentIn items word
 
 -- the set tells it
-pub told_by_set : (items : List Tree) (item : Tree) (idents : BTreeSet (Bor (List ℕ))) (key : List ℕ) (added again : Bool) → IsSpecOf key item → HoldsIdents items idents
-    → added ≡ not (holds idents key) → again ≡ not added → IsTold items item again
-told_by_set items item idents key added again is h a b =
-    let held : again ≡ holds idents key = b ∙ ap not a ∙ not-not (holds idents key) in (
+pub told_by_set : (items : List Tree) (item : Tree) (idents : BTreeSet (Bor (List ℕ))) (key : List ℕ) (added : Bool) → IsSpecOf key item → HoldsIdents items idents
+    → added ≡ not (holds idents key) → IsTrue (not added) ↔ IsAgain items item
+told_by_set items item idents key added is h e =
+    let held : not added ≡ holds idents key = ap not e ∙ not-not (holds idents key) in (
       λ t. (key, is, (h key).0 (sym held ∙ t)),
-      λ f word s i. both_ways again f (held ∙ (h key).1 (subst (IsIdentIn items) (one_ident item word key s is) i)),
+      λ again. held ∙ (h key).1 (subst (IsIdentIn items) (one_ident item again.0 key again.1 is) again.2),
     )
 
--- an item without an ident has none of an earlier one
-pub told_by_none : (items : List Tree) (item : Tree) (again : Bool) → ((word : List ℕ) → IsSpecOf word item → ⊥) → again ≡ false → IsTold items item again
-told_by_none items item again none e = (λ t. absurd (both_ways again e t), λ f word s i. none word s)
+-- what an item breaks by itself, and by an earlier one with its ident
+abbrev pub BreaksAfter : List Bind → List Tree → Tree → ℕ → Type 0
+BreaksAfter around items item rule = ItemFault around item rule ⊎ (IsAgain items item × (rule ≡ 4))
 
--- the rules of an item go up to 4
-spec_bound : {item : Tree} {rule : ℕ} → SpecFault item rule → rule ≤ 4
-spec_bound (offences.SpecFault.ident h) = omega arith
-spec_bound (offences.of_module h) = omega arith
-spec_bound (offences.left_out h) = omega arith
-spec_bound (offences.constraint child h k) = omega arith
-spec_bound (offences.relax_ng t child h k l) = omega arith
-spec_bound (offences.child t child h k l) = omega arith
-spec_bound (offences.contents h) = omega arith
+-- the least rule that it breaks
+pub least_after : (around : List Bind) (items : List Tree) (item : Tree) (own repeated least : Option ℕ) (again : Bool) → IsLeast (ItemFault around item) own
+    → IsTrue again ↔ IsAgain items item → repeated ≡ (if again then Some 4 else None) → lesser_rule own repeated ≡ least → IsLeast (BreaksAfter around items item) least
+least_after around items item own repeated least again h told is e =
+    let Again : ℕ → Type 0 = λ rule. IsAgain items item × (rule ≡ 4) in
+    subst (IsLeast (BreaksAfter around items item)) (ap (lesser_rule own) (sym is) ∙ e)
+    (least_or (ItemFault around item) Again own (if again then Some 4 else None) h (least_if Again again 4 (λ t. (told.0 t, refl)) (λ other f. (told.1 f.0, f.1))))
 
-pub fault_bound : {item : Tree} {rule : ℕ} → ItemFault item rule → rule ≤ 4
-fault_bound (offences.ItemFault.spec h k) = spec_bound k
-fault_bound (offences.ItemFault.constraint h) = omega arith
-fault_bound (offences.ItemFault.relax_ng h) = omega arith
-fault_bound (offences.ItemFault.unknown h k l) = omega arith
-
--- the least rule that the item breaks by itself, or else by an earlier ident
-pub least_after : (items : List Tree) (item : Tree) (own : Option ℕ) (again : Bool) → IsLeast (ItemFault item) own → IsTold items item again
-    → IsLeast (BreaksAfter items item) (option_or own (then_some again 4))
-least_after items item (Some rule) again least told = (breaks.alone least.0, least_of)
-  where
-    least_of : (other : ℕ) → BreaksAfter items item other → rule ≤ other
-    least_of other (breaks.alone h) = least.1 other h
-    least_of other (breaks.twice word s i) = fault_bound least.0
-least_after items item None true least told = (breaks.twice (told.0 refl).0 (told.0 refl).1 (told.0 refl).2, least_of)
-  where
-    least_of : (other : ℕ) → BreaksAfter items item other → 4 ≤ other
-    least_of other (breaks.alone h) = absurd (least other h)
-    least_of other (breaks.twice word s i) = omega arith
-least_after items item None false least told = none_of
-  where
-    none_of : (other : ℕ) → BreaksAfter items item other → ⊥
-    none_of other (breaks.alone h) = least other h
-    none_of other (breaks.twice word s i) = told.1 refl word s i
+-- where the lesser of two rules is none, the first is none
+pub none_alone : (own other : Option ℕ) → lesser_rule own other ≡ None → own ≡ None
+none_alone None other e = refl
+none_alone (Some rule) None e = e
+none_alone (Some rule) (Some other) e = cc

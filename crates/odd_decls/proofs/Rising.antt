@@ -3,9 +3,11 @@ use Rattle.std.proofs.Common.{ℕ, suc, List, [], ◌∷◌}
 use Rattle.odd_reader.specs.Formed.{IsFormed}
 use Rattle.odd_reader.specs.Formed as formed
 use Rattle.odd_reader.specs.declared.tree.Tree.{Tree, out-Tree}
-use Rattle.odd_decls.specs.Reading.{PlacesRise, Rises}
-use Rattle.odd_decls.specs.Search.{Finds, children_of}
+use Rattle.odd_decls.specs.Reading.{AllRise, Rises}
+use Rattle.odd_decls.specs.Search.{Finds, Found}
+use Rattle.odd_reader.specs.Elements.{children_of}
 use Rattle.odd_decls.proofs.FoundFormed.{IsFormedSomewhere, LieIn, found_lie, nodes_lie}
+use Rattle.odd_decls.proofs.Searched.{schemas_of}
 
 -- places of elements that lie one after another rise
 lying_rise : (first end : ℕ) (ts : List Tree) → LieIn first end ts → Rises first ts
@@ -17,7 +19,7 @@ items_rise : (t : Tree) → IsFormedSomewhere t → Rises (suc (out-Tree t).at) 
 items_rise t (first, end, formed.element h tag apart inside) = lying_rise (suc (out-Tree t).at) end (children_of t) (nodes_lie inside)
 
 -- in a file that is formed the places of the first `schemaSpec`, of those after it and of its items rise
-pub places_rise : (first end : ℕ) (t schema : Tree) (others : List Tree) → IsFormed first end t → Finds t (schema ∷ others) → PlacesRise schema others
-places_rise first end t schema others f g =
-    let all : LieIn first end (schema ∷ others) = found_lie f g in
-    (lying_rise (suc (out-Tree schema).at) end others all.2, items_rise schema all.1)
+pub places_rise : (first end : ℕ) (t : Tree) (one : Found) (others : List Found) → IsFormed first end t → Finds [] t (one ∷ others) → AllRise one others
+places_rise first end t one others f g =
+    let all : LieIn first end (schemas_of (one ∷ others)) = found_lie f g in
+    (lying_rise (suc (out-Tree one.schema).at) end (schemas_of others) all.2, items_rise one.schema all.1)

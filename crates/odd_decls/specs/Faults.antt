@@ -4,18 +4,13 @@ use Rattle.std.specs.Borrow.{Bor}
 use Rattle.std.specs.BTreeSet.{BTreeSet, contains_by}
 use Rattle.odd_base.specs.Text.{text_cmp}
 use Rattle.odd_reader.specs.declared.tree.Tree.{Tree, out-Tree}
-use Rattle.odd_decls.specs.Odd.{StandsIn}
-use Rattle.odd_decls.specs.Offences.{IsNotBefore, IsSpecOf, ItemFault}
+use Rattle.odd_reader.specs.Elements.{StandsIn}
+use Rattle.odd_decls.specs.Offences.{IsNotBefore, IsSpecOf}
 use Rattle.odd_decls.specs.declared.reading.Fault.{Fault}
 
 -- one of the items has this ident
 abbrev pub IsIdentIn : List Tree → List ℕ → Type 0
 IsIdentIn items word = (item : Tree) × StandsIn items item × IsSpecOf word item
-
--- what an item breaks that stands after these: by itself, or with the ident of one of them
-pub data BreaksAfter (items : List Tree) (item : Tree) : ℕ → Type 0 where
-  alone : {rule : ℕ} → ItemFault item rule → BreaksAfter items item rule
-  twice : (word : List ℕ) → IsSpecOf word item → IsIdentIn items word → BreaksAfter items item 4
 
 -- the set holds the idents of the items, and nothing else
 abbrev pub HoldsIdents : List Tree → BTreeSet (Bor (List ℕ)) → Type 0

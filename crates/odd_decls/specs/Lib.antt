@@ -6,4 +6,3 @@ pub mod Offences
 pub mod Pending
 pub mod Reading
 pub mod Search
-pub mod Words

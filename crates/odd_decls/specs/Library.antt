@@ -5,8 +5,8 @@ use Rattle.std.specs.Int.{w64, from_be_bytes}
 use Rattle.std.specs.FinMap.{find, is_sorted}
 use Rattle.odd_base.specs.Key.{key_cmp}
 use Rattle.odd_base.specs.declared.key.Key.{Key}
-use Rattle.odd_decls.specs.Odd.{tei_namespace}
-use Rattle.odd_decls.specs.declared.content.Content.TheVariants as content
+use Rattle.odd_forms.specs.Names.{tei_namespace}
+use Rattle.odd_content.specs.declared.content.Content.TheVariants as content
 use Rattle.odd_decls.specs.declared.library.Component.{Component}
 use Rattle.odd_decls.specs.declared.library.Component.TheVariants as component
 use Rattle.odd_decls.specs.declared.library.Library.{Library}

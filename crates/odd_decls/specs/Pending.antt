@@ -1,33 +1,48 @@
 -- Which forms of an ODD file are not read yet. Elements are TEI's, and may stand anywhere in the file.
-use Rattle.std.specs.Prelude.{◌≡◌, ◌≤◌, Bool, true, false, [], ◌∷◌, length, filter, IsSome, codes, IsTrue}
-use Rattle.odd_reader.specs.declared.tree.Tree.{Tree, out-Tree}
-use Rattle.odd_decls.specs.Odd.{HasName, attribute_value}
-use Rattle.odd_decls.specs.Search.{Finds, StandsBelow, StandsWithin, children_of, is_one_of, is_tei}
+use Rattle.std.specs.Prelude.{◌≡◌, ◌≤◌, Bool, true, false, ◌||◌, [], ◌∷◌, count_by, IsSome, codes, IsTrue}
+use Rattle.odd_reader.specs.Elements.{StandsIn, children_of, given}
+use Rattle.odd_reader.specs.declared.tree.Tree.{Tree}
+use Rattle.odd_forms.specs.Names.{is_one_of, is_tei}
+use Rattle.odd_decls.specs.Search.{Finds}
 
--- not read wherever they stand
-abbrev pub is_pending : Tree → Bool
-is_pending = is_one_of (
-    codes "moduleRef" ∷ codes "elementRef" ∷ codes "classRef" ∷ codes "macroRef" ∷ codes "dataRef" ∷ codes "classSpec" ∷ codes "macroSpec" ∷ codes "dataSpec"
-    ∷ codes "classes" ∷ codes "attList" ∷ codes "altIdent" ∷ codes "datatype" ∷ codes "valList" ∷ codes "specGrp" ∷ codes "specGrpRef" ∷ []
-    )
+-- which elements stand around an element
+pub record Around : Type 0 where
+  pub content : Bool
+  pub datatype : Bool
 
--- not read below a `content`
-abbrev pub is_pending_in_content : Tree → Bool
-is_pending_in_content = is_one_of (codes "sequence" ∷ codes "alternate" ∷ codes "anyElement" ∷ [])
+abbrev pub outermost : Around
+outermost = record { content = false; datatype = false }
 
--- The element is a form that is not read yet. `in_content` tells whether a `content` is around it.
-pub data IsForm (in_content : Bool) (t : Tree) : Type 0 where
-  named : IsTrue (is_pending t) → IsForm in_content t
-  part : in_content ≡ true → IsTrue (is_pending_in_content t) → IsForm in_content t
-  parts : HasName (codes "content") t → 2 ≤ length (filter is_tei (children_of t)) → IsForm in_content t
-  mode : IsTrue (is_tei t) → IsSome (attribute_value (out-Tree t).attrs (codes "mode")) → IsForm in_content t
+-- the elements around the children of an element
+abbrev pub around_in : Around → Tree → Around
+around_in a t = record { content = a.content || is_one_of (codes "content" ∷ []) t; datatype = a.datatype || is_one_of (codes "datatype" ∷ []) t }
 
--- such a form stands in the element
-pub data HoldsForm (in_content : Bool) (t : Tree) : Type 0 where
-  here : (u : Tree) → StandsWithin t u → IsForm in_content u → HoldsForm in_content t
-  below : (content u : Tree) → StandsWithin t content → HasName (codes "content") content → StandsBelow content u → IsForm true u → HoldsForm in_content t
+-- An element that is not read yet, one sentence for each row.
+pub data IsForm (a : Around) (t : Tree) : Type 0 where
+  -- the parts of content models
+  parts : a.content ≡ true → IsTrue (is_one_of (codes "sequence" ∷ codes "alternate" ∷ codes "elementRef" ∷ codes "anyElement" ∷ []) t) → IsForm a t
+  several : IsTrue (is_one_of (codes "content" ∷ []) t) → 2 ≤ count_by is_tei (children_of t) → IsForm a t
+  -- references, modules and modes
+  modules : IsTrue (is_one_of (codes "moduleRef" ∷ []) t) → IsForm a t
+  references : (a.content || a.datatype) ≡ false → IsTrue (is_one_of (codes "elementRef" ∷ codes "classRef" ∷ codes "macroRef" ∷ codes "dataRef" ∷ []) t) → IsForm a t
+  modes : IsTrue (is_tei t) → IsSome (given t (codes "mode")) → IsForm a t
+  -- classes and macros
+  classes : IsTrue (is_one_of (codes "classSpec" ∷ codes "macroSpec" ∷ codes "classes" ∷ []) t) → IsForm a t
+  members : a.content ≡ true → IsTrue (is_one_of (codes "classRef" ∷ codes "macroRef" ∷ []) t) → IsForm a t
+  -- attributes
+  attributes : IsTrue (is_one_of (codes "attList" ∷ codes "altIdent" ∷ []) t) → IsForm a t
+  -- datatypes and values
+  datatypes : IsTrue (is_one_of (codes "dataSpec" ∷ codes "datatype" ∷ codes "valList" ∷ []) t) → IsForm a t
+  data_in_content : a.content ≡ true → IsTrue (is_one_of (codes "dataRef" ∷ []) t) → IsForm a t
+  -- groups
+  groups : IsTrue (is_one_of (codes "specGrp" ∷ codes "specGrpRef" ∷ []) t) → IsForm a t
+
+-- such a form is the element, or stands in it
+pub data HoldsForm : Around → Tree → Type 0 where
+  here : {a : Around} {t : Tree} → IsForm a t → HoldsForm a t
+  inside : {a : Around} {t : Tree} (child : Tree) → StandsIn (children_of t) child → HoldsForm (around_in a t) child → HoldsForm a t
 
 -- such a form stands in the file, or no `schemaSpec` is found in it
 pub data IsPending (t : Tree) : Type 0 where
-  form : HoldsForm false t → IsPending t
-  no_schema : Finds t [] → IsPending t
+  form : HoldsForm outermost t → IsPending t
+  no_schema : Finds [] t [] → IsPending t

@@ -1,56 +1,59 @@
 -- What the parts of the reading of an ODD file answer.
-use Rattle.std.specs.Prelude.{◌≡◌, ◌≤◌, ℕ, suc, true, false, List, [], ◌∷◌, ◌++◌, min, Option, Some, None, codes}
-use Rattle.odd_reader.specs.declared.tree.Tree.{Tree, out-Tree}
-use Rattle.odd_decls.specs.declared.reading.Fault.{Fault}
-use Rattle.odd_decls.specs.Odd.{HasName, StandsIn}
-use Rattle.odd_decls.specs.Offences.{IsFirstOf, IsSpecOf, is_part}
-use Rattle.odd_decls.specs.Search.{Finds, children_of, is_one_of, is_passed_over, is_relax_ng, is_tei}
-use Rattle.odd_decls.specs.declared.odd.Entry.{Entry}
-use Rattle.odd_decls.specs.declared.odd.Entry.TheVariants as entry
-use Rattle.odd_decls.specs.declared.spec.Spec.{Spec}
-use Rattle.odd_decls.specs.Declares.{IsReadAs}
-use Rattle.odd_decls.specs.Library.{declared_at}
+use Rattle.std.specs.Prelude.{◌≡◌, ◌≤◌, ℕ, suc, List, [], ◌∷◌, ◌++◌, map, reverse, Option, Some, None, codes, unwrap_or}
 use Rattle.odd_base.specs.declared.key.Key.{Key}
+use Rattle.odd_base.specs.declared.name.Bind.{Bind}
+use Rattle.odd_reader.specs.Elements.{StandsIn, all_binds, children_of, given, within}
+use Rattle.odd_reader.specs.declared.tree.Tree.{Tree, out-Tree}
+use Rattle.odd_content.specs.Breaking.{ContentFault}
+use Rattle.odd_content.specs.declared.content.Content.{Content}
+use Rattle.odd_forms.specs.Faults.{OwnFault}
+use Rattle.odd_forms.specs.Table.{form_at}
+use Rattle.odd_forms.specs.declared.element.Element.TheVariants as element
+use Rattle.odd_decls.specs.Declares.{AreEntriesOf, IsDocOf, IsEntryOf, PlacesRise, namespace_given}
+use Rattle.odd_decls.specs.Faults.{StandsAgain}
+use Rattle.odd_decls.specs.Library.{declared_at}
+use Rattle.odd_decls.specs.Odd.{element_key}
+use Rattle.odd_decls.specs.Offences.{IsContentChild, IsFirstOf, IsSpecOf, ItemOffends, Offends}
+use Rattle.odd_decls.specs.Pending.{Around as TheAround}
+use Rattle.odd_decls.specs.Search.{Finds, Found}
+use Rattle.odd_decls.specs.declared.odd.Entry.TheVariants as entry
+use Rattle.odd_decls.specs.declared.odd.Entry.{Entry}
+use Rattle.odd_decls.specs.declared.pending.Around.{Around}
+use Rattle.odd_decls.specs.declared.reading.Fault.{Fault}
+use Rattle.odd_decls.specs.declared.reading.Read.TheVariants as read
+use Rattle.odd_decls.specs.declared.reading.Read.{Read}
+use Rattle.odd_decls.specs.declared.reading.ReadItems.TheVariants as items
+use Rattle.odd_decls.specs.declared.reading.ReadItems.{ReadItems}
+
+abbrev pub the_around : Around → TheAround
+the_around a = record { content = a.content; datatype = a.datatype }
 
 -- what the search finds in the element is put after what was found
 abbrev pub AddsFound : Tree → List Tree → List Tree → Type 0
-AddsFound t old new = (found : List Tree) × Finds t found × (new ≡ old ++ found)
+AddsFound t old new = (around : List Bind) → (found : List Found) × Finds around t found × (new ≡ old ++ map (λ f. f.schema) found)
 
--- the least rule that is broken, where one is
-abbrev pub IsLeast : (ℕ → Type 0) → Option ℕ → Type 0
-IsLeast Broken None = (rule : ℕ) → Broken rule → ⊥
-IsLeast Broken (Some rule) = Broken rule × ((other : ℕ) → Broken other → rule ≤ other)
+-- the declarations between the element and the first that is found, the innermost first
+abbrev pub IsPathTo : List Bind → Option (List (List Bind)) → List Found → Type 0
+IsPathTo around None found = found ≡ []
+IsPathTo around (Some path) found = (first : Found) × (rest : List Found) × (found ≡ first ∷ rest) × (first.around ≡ around ++ all_binds (reverse path))
 
--- the lesser of two rules, where there are two
-abbrev pub lesser_rule : Option ℕ → Option ℕ → Option ℕ
-lesser_rule None other = other
-lesser_rule (Some rule) None = Some rule
-lesser_rule (Some rule) (Some other) = Some (min rule other)
+-- what a `content` of an `elementSpec` breaks
+abbrev pub ContentsFault : List Bind → Tree → ℕ → Type 0
+ContentsFault around spec rule = (child : Tree) × StandsIn (children_of spec) child × IsContentChild child × ContentFault (within around spec) child rule
 
--- what a child breaks below a `content`, where it has no place
-pub data StrayFault (child : Tree) : ℕ → Type 0 where
-  relax_ng : is_relax_ng child ≡ true → StrayFault child 2
-  other : is_relax_ng child ≡ false → is_passed_over child ≡ false → StrayFault child 3
+-- the entry of an `elementSpec` with this ident and this content
+abbrev pub entry_made : Tree → Tree → List ℕ → Option Content → Entry
+entry_made schema item ident content = entry.Spec (out-Tree item).at (record {
+  key = element_key ident;
+  «module» = unwrap_or (given item (codes "module")) [];
+  ns = Some (namespace_given schema item);
+  content = content;
+})
 
--- what the children of a part of a `content` break
-abbrev pub PartFault : Tree → ℕ → Type 0
-PartFault t rule = (child : Tree) × StandsIn (children_of t) child × StrayFault child rule
-
--- what a child of a `content` breaks
-pub data ContentChildFault (child : Tree) : ℕ → Type 0 where
-  part : {rule : ℕ} → is_part child ≡ true → PartFault child rule → ContentChildFault child rule
-  stray : {rule : ℕ} → is_part child ≡ false → StrayFault child rule → ContentChildFault child rule
-
--- what the children of a `content` break
-abbrev pub ContentFault : Tree → ℕ → Type 0
-ContentFault content rule = (child : Tree) × StandsIn (children_of content) child × ContentChildFault child rule
-
--- what a child of an `elementSpec` breaks
-pub data SpecChildFault (child : Tree) : ℕ → Type 0 where
-  content : {rule : ℕ} → HasName (codes "content") child → ContentFault child rule → SpecChildFault child rule
-  constraint : HasName (codes "constraintSpec") child → SpecChildFault child 2
-  relax_ng : is_relax_ng child ≡ true → SpecChildFault child 2
-  unknown : is_tei child ≡ true → is_one_of (codes "content" ∷ codes "constraintSpec" ∷ []) child ≡ false → is_passed_over child ≡ false → SpecChildFault child 3
+-- an item is read as the entry, and one that declares nothing gives none
+abbrev pub GivesEntry : Tree → List Bind → Tree → Option Entry → Type 0
+GivesEntry schema inside item None = (word : List ℕ) → IsSpecOf word item → ⊥
+GivesEntry schema inside item (Some e) = (first : Found) → first.schema ≡ schema → within first.around first.schema ≡ inside → IsEntryOf first item e
 
 -- places that rise, from one on
 abbrev pub Rises : ℕ → List Tree → Type 0
@@ -66,24 +69,42 @@ abbrev pub IsFirstIn : (ℕ → ℕ → Type 0) → Type 0 → Option Fault → 
 IsFirstIn HasOne AreRising None = (place rule : ℕ) → HasOne place rule → ⊥
 IsFirstIn HasOne AreRising (Some fault) = IsFirstFault HasOne AreRising fault
 
+-- the items are read as the entries, and the places of these rise where theirs do
+pub record AreRead (first : Found) (items : List Tree) (entries : List Entry) : Type 0 where
+  pub are : AreEntriesOf first items entries
+  pub rising : Rises 0 items → PlacesRise entries
+
+-- entries without an offence of the items, or the first offence
+abbrev pub AreItemsRead : Tree → List Bind → ReadItems → Type 0
+AreItemsRead schema inside (items.Broken fault) = IsFirstFault (ItemOffends inside (children_of schema)) (Rises 0 (children_of schema)) fault
+AreItemsRead schema inside (items.Entries es) =
+    ((place rule : ℕ) → ItemOffends inside (children_of schema) place rule → ⊥)
+    × ((first : Found) → first.schema ≡ schema → within first.around first.schema ≡ inside → AreRead first (children_of schema) es)
+
+-- a `schemaSpec` that breaks nothing by itself, with what its items are read as and the next one
+pub record ArePartsRead (first : Found) (others : List Found) (own : ReadItems) (other : Option Fault) : Type 0 where
+  pub sound : (rule : ℕ) → OwnFault (form_at element.SchemaSpec) first.schema rule → ⊥
+  pub items : AreItemsRead first.schema (within first.around first.schema) own
+  pub next : IsFirstIn (StandsAgain (map (λ f. f.schema) others)) (Rises 0 (map (λ f. f.schema) others)) other
+
+-- the places of a `schemaSpec`, of those after it and of its items rise
+abbrev pub AllRise : Found → List Found → Type 0
+AllRise first others = Rises (suc (out-Tree first.schema).at) (map (λ f. f.schema) others) × Rises (suc (out-Tree first.schema).at) (children_of first.schema)
+
+-- a doc without an offence, or the first offence
+abbrev pub IsReadOrBroken : Found → List Found → Read → Type 0
+IsReadOrBroken first others (read.Broken fault) = IsFirstFault (Offends first others) (AllRise first others) fault
+IsReadOrBroken first others (read.Doc doc) = (others ≡ []) × ((place rule : ℕ) → Offends first others place rule → ⊥) × (AllRise first others → IsDocOf first doc)
+
+-- what is read of the `schemaSpec`, wherever these are its parts
+abbrev pub IsJoined : Tree → ReadItems → Option Fault → Read → Type 0
+IsJoined schema own next read = (first : Found) (others : List Found) → first.schema ≡ schema → ArePartsRead first others own next → IsReadOrBroken first others read
+
 -- the element has an ident that is a name, and is an `elementSpec`
 abbrev pub IsIdentOf : Tree → Option (List ℕ) → Type 0
 IsIdentOf t None = (word : List ℕ) → IsSpecOf word t → ⊥
 IsIdentOf t (Some word) = IsSpecOf word t
 
--- an `elementSpec` is read as the entry
-abbrev pub IsEntryOf : Tree → Tree → Entry → Type 0
-IsEntryOf schema item e = (at : ℕ) × (spec : Spec) × (e ≡ entry.Spec at spec) × IsReadAs schema item at spec
-
--- the places of a `schemaSpec`, of those after it and of its items rise
-abbrev pub PlacesRise : Tree → List Tree → Type 0
-PlacesRise schema others = Rises (suc (out-Tree schema).at) others × Rises (suc (out-Tree schema).at) (children_of schema)
-
 -- at each key the same is declared
 abbrev pub DeclareTheSame : List Entry → List Entry → Type 0
 DeclareTheSame some others = (key : Key) → declared_at others key ≡ declared_at some key
-
--- a word that ends, where one has begun, before those that come later
-abbrev pub ended : List ℕ → List (List ℕ) → List (List ℕ)
-ended [] later = later
-ended (c ∷ cs) later = (c ∷ cs) ∷ later

@@ -3,18 +3,19 @@ ghost use Rattle.std.specs.Option.{option_copied};
 ghost use Rattle.std.specs.FinMap.{find, is_sorted};
 ghost use Rattle.odd_base.specs.Key.{key_cmp};
 ghost use Rattle.odd_base.specs.declared.key.Key.{Key as AKey};
-ghost use Rattle.odd_decls.specs.Library.{IsEmptyLibrary, IsLibraryOf, entry_at, front_of, last_of};
+ghost use Rattle.odd_decls.specs.Library.{IsEmptyLibrary, IsLibraryOf, component_of as the_component_of, entry_at, front_of, last_of};
 ghost use Rattle.odd_decls.specs.Odd.{key_of as the_key_of};
 ghost use Rattle.odd_decls.specs.Reading.{DeclareTheSame};
 
-use crate::TEI;
-use crate::content::Content;
 use crate::odd::{Entry, OddDoc};
+use crate::spec::Spec;
 use odd_base::{Key, Map, NoMemory, Text, TryCopy, Words};
+use odd_content::Content;
+use odd_forms::TEI;
 use std::alloc::Global;
 
 /// An element of a library: its module, which may be empty, its namespace in documents and its content.
-#[derive(Debug, Drop, PartialEq, Eq)]
+#[derive(Drop)]
 pub struct ElementPart {
     pub module: Text,
     pub ns: Text,
@@ -25,16 +26,17 @@ impl TryCopy for ElementPart {
     fn copy(&self, alloc: Global) -> Result<ElementPart, NoMemory> {
         let module = self.module.copy(alloc)?;
         let ns = self.ns.copy(alloc)?;
+        let content = self.content.copy(alloc)?;
         Ok(ElementPart {
             module,
             ns,
-            content: self.content,
+            content,
         })
     }
 }
 
 /// A component of a library.
-#[derive(Debug, Drop, PartialEq, Eq)]
+#[derive(Drop)]
 pub enum Component {
     Element(ElementPart),
 }
@@ -136,6 +138,26 @@ fn key_of(entry: &Entry) -> &Key
     }
 }
 
+// What a spec declares, as a component.
+fn component_of(alloc: Global, spec: &Spec) -> Result<Component, NoMemory>
+    ensures { IfOk result (λ made. made ≡ the_component_of spec.now) }
+{
+    let module = spec.module.copy(alloc)?;
+    let ns = match &spec.ns {
+        Some(ns) => ns.copy(alloc)?,
+        None => Text::from_str(alloc, TEI)?,
+    };
+    let content = match &spec.content {
+        Some(content) => content.copy(alloc)?,
+        None => Content::Empty,
+    };
+    Ok(Component::Element(ElementPart {
+        module,
+        ns,
+        content,
+    }))
+}
+
 // Puts what an entry declares.
 fn declare(alloc: Global, parts: &mut Parts, entry: &Entry) -> Result<(), NoMemory>
     ensures rising { OnOk result (IsTrue (is_sorted key_cmp parts.new)) }
@@ -144,20 +166,8 @@ fn declare(alloc: Global, parts: &mut Parts, entry: &Entry) -> Result<(), NoMemo
     match entry {
         Entry::Spec { at: _, spec } => {
             let key = spec.key.copy(alloc)?;
-            let module = spec.module.copy(alloc)?;
-            let ns = match &spec.ns {
-                Some(ns) => ns.copy(alloc)?,
-                None => Text::from_str(alloc, TEI)?,
-            };
-            let content = spec.content.unwrap_or(Content::Empty);
-            parts.put(
-                key,
-                Component::Element(ElementPart {
-                    module,
-                    ns,
-                    content,
-                }),
-            )
+            let component = component_of(alloc, spec)?;
+            parts.put(key, component)
         }
     }
 }

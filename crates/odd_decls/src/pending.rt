@@ -1,80 +1,101 @@
-ghost use Rattle.std.specs.Prelude.{◌↔◌, ◌≤◌, length, filter, IsTrue};
-ghost use Rattle.odd_decls.specs.Pending.{HoldsForm, IsForm};
-ghost use Rattle.odd_decls.specs.Search.{children_of, is_tei as the_is_tei};
+ghost use Rattle.std.specs.Prelude.{◌≡◌, ◌↔◌, ◌&&◌, [], ◌∷◌, codes, count_by, is_some, map, nat_le, IsTrue};
+ghost use Rattle.std.specs.List.{list_any};
+ghost use Rattle.odd_forms.specs.Names.{is_one_of as the_is_one_of, is_tei as the_is_tei};
+ghost use Rattle.odd_reader.specs.Elements.{children_of, given};
+ghost use Rattle.odd_decls.specs.Pending.{HoldsForm, IsForm, around_in};
+ghost use Rattle.odd_decls.specs.Reading.{the_around};
 
-use crate::searching::{attribute, is_one_of, is_tei};
-use odd_reader::{Node, Tree};
+use odd_forms::{is_one_of, is_tei};
+use odd_reader::{Node, Tree, attribute, elements};
 
-// TEI's elements that are not read yet, wherever they stand.
-const EVERYWHERE: [&str; 15] = [
-    "moduleRef",
-    "elementRef",
-    "classRef",
-    "macroRef",
-    "dataRef",
-    "classSpec",
-    "macroSpec",
-    "dataSpec",
-    "classes",
-    "attList",
-    "altIdent",
-    "datatype",
-    "valList",
-    "specGrp",
-    "specGrpRef",
-];
+/// Which elements stand around an element.
+#[derive(Clone, Copy)]
+pub struct Around {
+    pub content: bool,
+    pub datatype: bool,
+}
 
-// Those that are not read yet below a `content`.
-const IN_CONTENT: [&str; 3] = ["sequence", "alternate", "anyElement"];
+impl Around {
+    // The elements around the children of an element.
+    fn inside(self, tree: &Tree) -> Around
+        ensures { the_around result ≡ around_in (the_around self) tree.now }
+    {
+        Around {
+            content: self.content || is_one_of(tree, &["content"]),
+            datatype: self.datatype || is_one_of(tree, &["datatype"]),
+        }
+    }
+}
 
-/// Whether an element holds a form that is not read yet, or is one. `in_content` tells whether a `content` is around it.
-pub fn is_pending(tree: &Tree, in_content: bool) -> bool
-    ensures { IsTrue result ↔ HoldsForm in_content tree.now }
+/// Whether an element holds a form that is not read yet, or is one.
+pub fn is_pending(tree: &Tree, around: Around) -> bool
+    ensures { IsTrue result ↔ HoldsForm (the_around around) tree.now }
 {
-    if is_form(tree, in_content) {
+    if is_form(tree, around) {
         return true;
     }
-    let around = in_content || is_one_of(tree, &["content"]);
+    let inside = around.inside(tree);
     for node in tree.children.as_slice() {
-        if let Node::Element(child) = node {
-            if is_pending(child, around) {
-                return true;
-            }
+        let Node::Element(child) = node else {
+            continue;
+        };
+        if is_pending(child, inside) {
+            return true;
         }
     }
     false
 }
 
-// Whether an element is a form that is not read yet. `in_content` tells whether a `content` is around it.
-fn is_form(tree: &Tree, in_content: bool) -> bool
-    ensures { IsTrue result ↔ IsForm in_content tree.now }
+// Whether an element is a form that is not read yet.
+fn is_form(tree: &Tree, around: Around) -> bool
+    ensures { IsTrue result ↔ IsForm (the_around around) tree.now }
 {
-    if is_one_of(tree, &EVERYWHERE) {
-        return true;
-    }
-    if in_content && is_one_of(tree, &IN_CONTENT) {
-        return true;
-    }
-    if is_tei(tree) && attribute(&tree.attrs, "mode").is_some() {
-        return true;
-    }
-    is_one_of(tree, &["content"]) && holds_two(tree)
+    let outside = !(around.content || around.datatype);
+    // whether a row speaks of an element that stands here, and its names
+    let rows: [(bool, &[&str]); 9] = [
+        (
+            around.content,
+            &["sequence", "alternate", "elementRef", "anyElement"],
+        ),
+        (true, &["moduleRef"]),
+        (outside, &["elementRef", "classRef", "macroRef", "dataRef"]),
+        (true, &["classSpec", "macroSpec", "classes"]),
+        (around.content, &["classRef", "macroRef"]),
+        (true, &["attList", "altIdent"]),
+        (true, &["dataSpec", "datatype", "valList"]),
+        (around.content, &["dataRef"]),
+        (true, &["specGrp", "specGrpRef"]),
+    ];
+    is_in_row(&rows, tree) || has_mode(tree) || is_several(tree)
+}
+
+// Whether an element is one of a row that speaks of it where it stands.
+fn is_in_row(rows: &[(bool, &[&str])], tree: &Tree) -> bool
+    ensures { result ≡ list_any (λ row. row.0 && the_is_one_of (map (λ l. l.now) row.1.now) tree.now) rows.now }
+{
+    rows.iter().any(|row| row.0 && is_one_of(tree, row.1))
+}
+
+// Whether an element of TEI has a `mode`.
+fn has_mode(tree: &Tree) -> bool
+    ensures { result ≡ (the_is_tei tree.now && is_some (given tree.now (codes "mode"))) }
+{
+    is_tei(tree) && attribute(&tree.attrs, "mode").is_some()
+}
+
+// Whether an element is a content with several children of TEI.
+fn is_several(tree: &Tree) -> bool
+    ensures { result ≡ (the_is_one_of (codes "content" ∷ []) tree.now && nat_le 2 (count_by the_is_tei (children_of tree.now))) }
+{
+    is_one_of(tree, &["content"]) && has_two(tree)
 }
 
 // Whether an element has two children of TEI or more.
-fn holds_two(tree: &Tree) -> bool
-    ensures { IsTrue result ↔ (2 ≤ length (filter the_is_tei (children_of tree.now))) }
+fn has_two(tree: &Tree) -> bool
+    ensures { result ≡ nat_le 2 (count_by the_is_tei (children_of tree.now)) }
 {
-    let mut any = false;
-    for node in tree.children.as_slice() {
-        if let Node::Element(child) = node {
-            if is_tei(child) {
-                if any {
-                    return true;
-                }
-                any = true;
-            }
-        }
-    }
-    false
+    elements(tree)
+        .filter(|child| is_tei(child))
+        .nth(1)
+        .is_some()
 }

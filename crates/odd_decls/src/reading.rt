@@ -1,26 +1,24 @@
-ghost use Rattle.std.specs.Prelude.{◌≡◌, ℕ, List, [], ◌∷◌, ◌++◌, map, Err, Some, IfOk, OnOk, codes};
-ghost use Rattle.std.specs.Option.{option_copied};
+ghost use Rattle.std.specs.Prelude.{◌≡◌, ◌↔◌, ℕ, List, [], ◌∷◌, ◌++◌, map, Err, Some, IfOk, OnOk, IsTrue, codes, unwrap_or};
+ghost use Rattle.odd_base.specs.Text.{text_cmp};
 ghost use Rattle.odd_base.specs.declared.offence.Offence.{Offence as AnOffence};
+ghost use Rattle.odd_reader.specs.Elements.{StandsIn, all_binds, given};
 ghost use Rattle.odd_reader.specs.Formed.{IsFormed};
 ghost use Rattle.odd_reader.specs.declared.tree.Tree.{Tree as ATree};
-ghost use Rattle.odd_decls.specs.Declares.{AreReadAs, AreSorted, Declares, IsDocOf, content_given, namespace_given, parts_give, start_of};
-ghost use Rattle.odd_decls.specs.Faults.{BreaksAfter, HoldsIdents, IsEarlier, StandsAgain};
-ghost use Rattle.odd_decls.specs.Odd.{StandsIn};
-ghost use Rattle.odd_decls.specs.Offences.{IsOffenceOf, IsRefusal, IsSpecOf, ItemFault, ItemOffends, Offends};
+ghost use Rattle.odd_forms.specs.Sorted.{IsSet};
+ghost use Rattle.odd_decls.specs.Declares.{Declares, start_of};
+ghost use Rattle.odd_decls.specs.Faults.{HoldsIdents, IsEarlier, IsIdentIn, StandsAgain};
+ghost use Rattle.odd_decls.specs.Offences.{IsOffenceOf, IsRefusal, IsSpecOf};
 ghost use Rattle.odd_decls.specs.Pending.{IsPending};
-ghost use Rattle.odd_decls.specs.Reading.{IsEntryOf, IsFirstIn, IsIdentOf, IsLeast, PlacesRise, Rises};
-ghost use Rattle.odd_decls.specs.Search.{children_of};
+ghost use Rattle.odd_decls.specs.Search.{Finds, Found as AFound};
+ghost use Rattle.odd_decls.specs.Reading.{AreItemsRead, IsFirstIn, IsJoined, IsReadOrBroken, Rises};
 
-use crate::TEI;
-use crate::content::Content;
-use crate::forms::{TWICE, item_fault, schema_fault};
-use crate::odd::{Entries, Entry, OddDoc};
-use crate::pending::is_pending;
-use crate::searching::{attribute, find_schemas, is_one_of};
-use crate::spec::Spec;
-use crate::words::words_of;
-use odd_base::{Key, Kind, NoMemory, Offence, Text, TryCopy, Who, Words};
-use odd_reader::{Node, Tree, is_ncname};
+use crate::items::{ReadItem, read_item, spec_ident};
+use crate::odd::{Entries, OddDoc};
+use crate::pending::{Around, is_pending};
+use crate::searching::{binds_along, find_schemas, path_to_first};
+use odd_base::{NoMemory, Offence, Scope, Text, TryCopy, Who, Words};
+use odd_forms::{Element, fault_where, lesser, own_fault, sorted, words_of};
+use odd_reader::{Bindings, Tree, attribute, elements};
 use std::alloc::Global;
 use std::collections::BTreeSet;
 
@@ -44,18 +42,25 @@ impl From<NoMemory> for OddRefusal {
     }
 }
 
+// Twice in one place.
+const TWICE: u8 = 4;
+
 /// What the tree of an ODD file declares. `file` is its number, counted from 1. With `aside` constraints are
 /// taken out; that comes later.
 ///
 /// NotYet comes where the file has a form that is not read yet (docs/odd-files.md), and before any offence. Offence
 /// comes at the first offence of form, by place and then by rule.
 pub fn read_odd(alloc: Global, tree: &Tree, file: u32, _aside: bool) -> Result<OddDoc, OddRefusal>
-    ensures ok { IfOk result (Declares tree.now) }
+    ensures ok { IfOk result (λ doc. (first end : ℕ) → IsFormed first end tree.now → Declares tree.now doc) }
     ensures offends { (offence : AnOffence) → result ≡ Err (OddRefusal.Offence offence) → IsOffenceOf tree.now file offence }
     ensures offence { (offence : AnOffence) (first end : ℕ) → IsFormed first end tree.now → result ≡ Err (OddRefusal.Offence offence) → IsRefusal tree.now file offence }
     ensures not_yet { result ≡ Err OddRefusal.NotYet → IsPending tree.now }
 {
-    if is_pending(tree, false) {
+    let outermost = Around {
+        content: false,
+        datatype: false,
+    };
+    if is_pending(tree, outermost) {
         return Err(OddRefusal::NotYet);
     }
     let mut schemas = Vec::new(alloc);
@@ -63,15 +68,14 @@ pub fn read_odd(alloc: Global, tree: &Tree, file: u32, _aside: bool) -> Result<O
     let [schema, others @ ..] = schemas.as_slice() else {
         return Err(OddRefusal::NotYet);
     };
-    let start = start_words(alloc, schema)?;
-    if let Some(fault) = first_fault(alloc, schema, others, start.as_slice())? {
-        return Err(OddRefusal::Offence(Offence {
+    match read_schema(alloc, tree, schema, others)? {
+        Read::Doc(doc) => Ok(doc),
+        Read::Broken(fault) => Err(OddRefusal::Offence(Offence {
             file,
             who: Who::At(fault.at),
             rule: fault.rule,
-        }));
+        })),
     }
-    Ok(declared(alloc, schema, start)?)
 }
 
 // A rule that is broken at a byte.
@@ -81,38 +85,98 @@ struct Fault {
     rule: u8,
 }
 
-// The words of `start`, as they are written; `TEI` where it is absent.
-fn start_words(alloc: Global, schema: &Tree) -> Result<Words, NoMemory>
-    ensures { IfOk result (λ words. words ≡ start_of schema.now) }
-{
-    match attribute(&schema.attrs, "start") {
-        Some(value) => words_of(alloc, value.as_str()),
-        None => words_of(alloc, "TEI"),
-    }
+// What a file declares, or its first fault.
+#[derive(Drop)]
+enum Read {
+    Doc(OddDoc),
+    Broken(Fault),
 }
 
-// The first fault of a `schemaSpec` and its items, and of those `schemaSpec` that come after it.
-fn first_fault(
+// What items declare, or their first fault.
+#[derive(Drop)]
+enum ReadItems {
+    Entries(Entries),
+    Broken(Fault),
+}
+
+// What the first `schemaSpec` of a file declares, or the first fault of it, its items and those `schemaSpec` after it.
+fn read_schema(
     alloc: Global,
+    tree: &Tree,
     schema: &Tree,
     others: &[&Tree],
-    start: &[Text],
-) -> Result<Option<Fault>, NoMemory>
-    requires { start.now ≡ start_of schema.now }
-    ensures { IfOk result (IsFirstIn (Offends schema.now (map (λ t. t.now) others.now)) (PlacesRise schema.now (map (λ t. t.now) others.now))) }
+) -> Result<Read, NoMemory>
+    ensures { IfOk result (λ read. (first : AFound) (rest : List AFound) → Finds [] tree.now (first ∷ rest) → first.schema ≡ schema.now → map (λ f. f.schema) rest ≡ map (λ t. t.now) others.now → IsReadOrBroken first rest read) }
 {
-    if let Some(rule) = schema_fault(schema, start) {
-        return Ok(Some(Fault {
+    if let Some(rule) = own_fault(alloc, Element::SchemaSpec.form(), schema)? {
+        return Ok(Read::Broken(Fault {
             at: schema.at,
             rule,
         }));
     }
-    let first = first_item_fault(alloc, schema)?;
-    Ok(match (first, next_schema(others)) {
-        (Some(one), Some(other)) => Some(earlier(one, other)),
-        (Some(one), None) => Some(one),
-        (None, other) => other,
-    })
+    let outside = around_first(alloc, tree)?;
+    let own = Bindings::new(alloc, schema.binds.copy(alloc)?)?;
+    let items = read_items(alloc, schema, &[&outside, &own])?;
+    joined(alloc, schema, items, next_schema(others))
+}
+
+// What a `schemaSpec` declares that breaks nothing by itself, or the earlier of the first fault of its items and of the next
+// `schemaSpec`.
+fn joined(
+    alloc: Global,
+    schema: &Tree,
+    items: ReadItems,
+    next: Option<Fault>,
+) -> Result<Read, NoMemory>
+    ensures { IfOk result (IsJoined schema.now items next) }
+{
+    match (items, next) {
+        (ReadItems::Broken(one), Some(other)) => Ok(Read::Broken(earlier(one, other))),
+        (ReadItems::Broken(one), None) => Ok(Read::Broken(one)),
+        (ReadItems::Entries(_), Some(other)) => Ok(Read::Broken(other)),
+        (ReadItems::Entries(entries), None) => Ok(Read::Doc(doc(alloc, schema, entries)?)),
+    }
+}
+
+// The declarations of the elements around the first `schemaSpec`.
+fn around_first(alloc: Global, tree: &Tree) -> Result<Bindings, NoMemory>
+    ensures { IfOk result (λ outside. (first : AFound) (rest : List AFound) → Finds [] tree.now (first ∷ rest) → outside ≡ first.around) }
+{
+    let around = match path_to_first(alloc, tree)? {
+        Some(path) => binds_along(alloc, &path)?,
+        None => Scope::new(alloc),
+    };
+    Bindings::new(alloc, around)
+}
+
+// What the items of a `schemaSpec` declare, or the first fault of one of them.
+fn read_items(alloc: Global, schema: &Tree, around: &[&Bindings]) -> Result<ReadItems, NoMemory>
+    ensures { IfOk result (AreItemsRead schema.now (all_binds (map (λ b. b.now) around.now))) }
+{
+    let mut idents = BTreeSet::new(alloc);
+    let mut entries = Entries::new(alloc);
+    for item in elements(schema) {
+        let ReadItem { entry, fault } = read_item(alloc, schema, item, around)?;
+        let again = is_again(&mut idents, item)?;
+        if let Some(rule) = lesser(fault, fault_where(again, TWICE)) {
+            return Ok(ReadItems::Broken(Fault { at: item.at, rule }));
+        }
+        if let Some(entry) = entry {
+            entries.push(entry)?;
+        }
+    }
+    Ok(ReadItems::Entries(entries))
+}
+
+// Whether an item has one of these idents, to which its own is added.
+fn is_again<'a>(idents: &mut BTreeSet<&'a str>, item: &'a Tree) -> Result<bool, NoMemory>
+    ensures again { IfOk result (λ again. (items : List ATree) → HoldsIdents items idents.old → IsTrue again ↔ ((word : List ℕ) × IsSpecOf word item.now × IsIdentIn items word)) }
+    ensures idents { OnOk result ((items : List ATree) → HoldsIdents items idents.old → HoldsIdents (items ++ item.now ∷ []) idents.new) }
+{
+    match spec_ident(item) {
+        Some(ident) => Ok(!idents.insert(ident.as_str())?),
+        None => Ok(false),
+    }
 }
 
 // The earlier of two faults, by place and then by rule.
@@ -133,56 +197,15 @@ fn next_schema(others: &[&Tree]) -> Option<Fault>
     })
 }
 
-// The first item that breaks a rule, or has the ident of an earlier one.
-fn first_item_fault(alloc: Global, schema: &Tree) -> Result<Option<Fault>, NoMemory>
-    ensures { IfOk result (IsFirstIn (ItemOffends (children_of schema.now)) (Rises 0 (children_of schema.now))) }
-{
-    let mut idents = BTreeSet::new(alloc);
-    for node in schema.children.as_slice() {
-        if let Node::Element(item) = node {
-            if let Some(rule) = broken_rule(&mut idents, item)? {
-                return Ok(Some(Fault { at: item.at, rule }));
-            }
-        }
-    }
-    Ok(None)
-}
-
-// The least rule that an item breaks after those of these idents, to which its own is added.
-fn broken_rule<'a>(idents: &mut BTreeSet<&'a str>, item: &'a Tree) -> Result<Option<u8>, NoMemory>
-    ensures least { IfOk result (λ rule. (items : List ATree) → HoldsIdents items idents.old → IsLeast (BreaksAfter items item.now) rule) }
-    ensures idents { OnOk result ((items : List ATree) → HoldsIdents items idents.old → HoldsIdents (items ++ item.now ∷ []) idents.new) }
-{
-    let again = match spec_ident(item) {
-        Some(ident) => !idents.insert(ident.as_str())?,
-        None => false,
-    };
-    Ok(item_fault(item).or(again.then_some(TWICE)))
-}
-
-// The ident of an `elementSpec`, where it is an NCName.
-fn spec_ident(item: &Tree) -> Option<&Text>
-    ensures { IsIdentOf item.now (option_copied result) }
-{
-    if !is_one_of(item, &["elementSpec"]) {
-        return None;
-    }
-    let ident = attribute(&item.attrs, "ident")?;
-    if is_ncname(ident) { Some(ident) } else { None }
-}
-
-// What a `schemaSpec` without a fault declares. `start` are its start words, as they are written.
-fn declared(alloc: Global, schema: &Tree, start: Words) -> Result<OddDoc, NoMemory>
-    requires start { start ≡ start_of schema.now }
-    requires sound { (place rule : ℕ) → Offends schema.now [] place rule → ⊥ }
-    ensures { IfOk result (IsDocOf schema.now) }
+// What a `schemaSpec` with these entries declares.
+fn doc(alloc: Global, schema: &Tree, entries: Entries) -> Result<OddDoc, NoMemory>
+    ensures { IfOk result (λ doc. (doc.entries ≡ entries) × (doc.ident ≡ unwrap_or (given schema.now (codes "ident")) []) × IsSet text_cmp (StandsIn (start_of schema.now)) doc.start) }
 {
     let ident = match attribute(&schema.attrs, "ident") {
         Some(ident) => ident.copy(alloc)?,
         None => Text::new(alloc),
     };
-    let start = sorted(alloc, start)?;
-    let entries = entries(alloc, schema)?;
+    let start = sorted(alloc, start_words(alloc, schema)?)?;
     Ok(OddDoc {
         ident,
         start,
@@ -190,93 +213,12 @@ fn declared(alloc: Global, schema: &Tree, start: Words) -> Result<OddDoc, NoMemo
     })
 }
 
-// The entries that the items of a `schemaSpec` without a fault declare, in their order.
-fn entries(alloc: Global, schema: &Tree) -> Result<Entries, NoMemory>
-    requires { (item : ATree) → StandsIn (children_of schema.now) item → (rule : ℕ) → ItemFault item rule → ⊥ }
-    ensures { IfOk result (AreReadAs schema.now (children_of schema.now)) }
+// The words of `start`, as they are written; `TEI` where it is absent.
+fn start_words(alloc: Global, schema: &Tree) -> Result<Words, NoMemory>
+    ensures { IfOk result (λ words. words ≡ start_of schema.now) }
 {
-    let mut entries = Entries::new(alloc);
-    for node in schema.children.as_slice() {
-        if let Node::Element(item) = node {
-            if let Some(ident) = spec_ident(item) {
-                entries.push(entry(alloc, schema, item, ident)?)?;
-            }
-        }
+    match attribute(&schema.attrs, "start") {
+        Some(value) => words_of(alloc, value.as_str()),
+        None => words_of(alloc, "TEI"),
     }
-    Ok(entries)
-}
-
-// The words in the order of their bytes, each once.
-fn sorted(alloc: Global, words: Words) -> Result<Words, NoMemory>
-    ensures { IfOk result (AreSorted words) }
-{
-    let mut items = words.into_items();
-    items.sort_unstable();
-    items.dedup();
-    let mut sorted = Words::new(alloc);
-    for word in items {
-        sorted.push(word)?;
-    }
-    Ok(sorted)
-}
-
-// The entry that an `elementSpec` of this ident declares.
-fn entry(alloc: Global, schema: &Tree, item: &Tree, ident: &Text) -> Result<Entry, NoMemory>
-    requires { IsSpecOf ident.now item.now }
-    ensures { IfOk result (IsEntryOf schema.now item.now) }
-{
-    let module = match attribute(&item.attrs, "module") {
-        Some(module) => module.copy(alloc)?,
-        None => Text::new(alloc),
-    };
-    let ident = ident.copy(alloc)?;
-    let ns = namespace(alloc, schema, item)?;
-    Ok(Entry::Spec {
-        at: item.at,
-        spec: Spec {
-            key: Key {
-                kind: Kind::Element,
-                ident,
-            },
-            module,
-            ns: Some(ns),
-            content: content(item),
-        },
-    })
-}
-
-// The namespace of an element in documents: its own, else that of its `schemaSpec`, else TEI's.
-fn namespace(alloc: Global, schema: &Tree, item: &Tree) -> Result<Text, NoMemory>
-    ensures { IfOk result (λ ns. ns ≡ namespace_given schema.now item.now) }
-{
-    match attribute(&item.attrs, "ns").or(attribute(&schema.attrs, "ns")) {
-        Some(ns) => ns.copy(alloc),
-        None => Text::from_str(alloc, TEI),
-    }
-}
-
-// The content of an `elementSpec`, where it has one.
-fn content(item: &Tree) -> Option<Content>
-    ensures { result ≡ content_given (children_of item.now) }
-{
-    for node in item.children.as_slice() {
-        match node {
-            Node::Element(child) if is_one_of(child, &["content"]) => return Some(part(child)),
-            _ => {}
-        }
-    }
-    None
-}
-
-// What the parts of a `content` give.
-fn part(content: &Tree) -> Content
-    ensures { result ≡ parts_give (children_of content.now) }
-{
-    for node in content.children.as_slice() {
-        match node {
-            Node::Element(child) if is_one_of(child, &["textNode"]) => return Content::Text,
-            _ => {}
-        }
-    }
-    Content::Empty
 }

@@ -1,80 +1,14 @@
-ghost use Rattle.std.specs.Prelude.{◌≡◌, map, OnOk};
-ghost use Rattle.std.specs.Option.{option_copied};
-ghost use Rattle.odd_decls.specs.Odd.{attribute_value, is_named as the_is_named};
-ghost use Rattle.odd_decls.specs.Search.{is_one_of as the_is_one_of, is_passed_over as the_is_passed_over, is_relax_ng as the_is_relax_ng, is_tei as the_is_tei};
-ghost use Rattle.odd_decls.specs.Reading.{AddsFound};
+ghost use Rattle.std.specs.Prelude.{◌≡◌, ◌++◌, map, reverse, IfOk, OnOk, List};
+ghost use Rattle.std.specs.Option.{option_map};
+ghost use Rattle.odd_base.specs.declared.name.Bind.{Bind as ABind};
+ghost use Rattle.odd_reader.specs.Elements.{all_binds};
+ghost use Rattle.odd_decls.specs.Reading.{AddsFound, IsPathTo};
+ghost use Rattle.odd_decls.specs.Search.{Finds, Found as AFound};
 
-use crate::TEI;
-use odd_base::{NoMemory, Text};
-use odd_reader::{Attr, Attrs, Node, Tree};
-
-// The namespace of RELAX NG.
-const RELAX_NG: &str = "http://relaxng.org/ns/structure/1.0";
-
-// TEI's elements that are passed over wherever they stand.
-const PASSED_OVER: [&str; 11] = [
-    "gloss",
-    "desc",
-    "equiv",
-    "exemplum",
-    "remarks",
-    "listRef",
-    "model",
-    "modelGrp",
-    "modelSequence",
-    "moduleSpec",
-    "defaultVal",
-];
-
-/// Whether an element is TEI's.
-pub fn is_tei(tree: &Tree) -> bool
-    ensures { result ≡ the_is_tei tree.now }
-{
-    tree.name.ns.as_str() == TEI
-}
-
-/// Whether an element is RELAX NG's.
-pub fn is_relax_ng(tree: &Tree) -> bool
-    ensures { result ≡ the_is_relax_ng tree.now }
-{
-    tree.name.ns.as_str() == RELAX_NG
-}
-
-/// Whether an element is TEI's of one of these local names.
-pub fn is_one_of(tree: &Tree, locals: &[&str]) -> bool
-    ensures { result ≡ the_is_one_of (map (λ l. l.now) locals.now) tree.now }
-{
-    is_tei(tree)
-        && locals
-            .iter()
-            .any(|local| tree.name.local.as_str() == *local)
-}
-
-/// Whether an element is passed over wherever it stands.
-pub fn is_passed_over(tree: &Tree) -> bool
-    ensures { result ≡ the_is_passed_over tree.now }
-{
-    is_one_of(tree, &PASSED_OVER)
-}
-
-// Whether an attribute has this local name, and no namespace.
-fn is_named(attr: &Attr, local: &str) -> bool
-    ensures { result ≡ the_is_named attr.now local.now }
-{
-    attr.name.ns.as_str().is_empty() && attr.name.local.as_str() == local
-}
-
-/// The value of the first attribute of this local name that has no namespace.
-pub fn attribute<'a>(attrs: &'a Attrs, local: &str) -> Option<&'a Text>
-    ensures { option_copied result ≡ attribute_value attrs.entry.now local.now }
-{
-    for attr in attrs.as_slice() {
-        if is_named(attr, local) {
-            return Some(&attr.value);
-        }
-    }
-    None
-}
+use odd_base::{NoMemory, Scope, TryCopy};
+use odd_forms::{is_one_of, is_tei};
+use odd_reader::{Node, Tree};
+use std::alloc::Global;
 
 /// Adds every `schemaSpec` in the element around which all elements are TEI's, in document order.
 pub fn find_schemas<'a>(tree: &'a Tree, found: &mut Vec<&'a Tree>) -> Result<(), NoMemory>
@@ -87,9 +21,54 @@ pub fn find_schemas<'a>(tree: &'a Tree, found: &mut Vec<&'a Tree>) -> Result<(),
         found.push(tree)?;
     }
     for node in tree.children.as_slice() {
-        if let Node::Element(child) = node {
-            find_schemas(child, found)?;
+        let Node::Element(child) = node else {
+            continue;
+        };
+        find_schemas(child, found)?;
+    }
+    Ok(())
+}
+
+/// The declarations of the elements around the first `schemaSpec` that the search finds, the innermost first, where it
+/// finds one.
+pub fn path_to_first<'a>(alloc: Global, tree: &'a Tree) -> Result<Option<Vec<&'a Scope>>, NoMemory>
+    ensures { IfOk result (λ path. (around : List ABind) (found : List AFound) → Finds around tree.entry.now found → IsPathTo around (option_map (λ p. map (λ s. s.now) p.items) path) found) }
+{
+    if !is_tei(tree) {
+        return Ok(None);
+    }
+    if is_one_of(tree, &["schemaSpec"]) {
+        return Ok(Some(Vec::new(alloc)));
+    }
+    for node in tree.children.as_slice() {
+        let Node::Element(child) = node else {
+            continue;
+        };
+        if let Some(mut path) = path_to_first(alloc, child)? {
+            path.push(&tree.binds)?;
+            return Ok(Some(path));
         }
+    }
+    Ok(None)
+}
+
+/// The declarations along a path that has the innermost first, the outermost first.
+pub fn binds_along(alloc: Global, path: &[&Scope]) -> Result<Scope, NoMemory>
+    ensures { IfOk result (λ binds. binds ≡ all_binds (reverse (map (λ s. s.now) path.now))) }
+{
+    let mut binds = Scope::new(alloc);
+    for scope in path.iter().rev() {
+        add_binds(alloc, &mut binds, scope)?;
+    }
+    Ok(binds)
+}
+
+// Puts declarations at the end.
+fn add_binds(alloc: Global, binds: &mut Scope, added: &Scope) -> Result<(), NoMemory>
+    ensures { OnOk result (binds.new ≡ binds.old ++ added.now) }
+{
+    for bind in added.as_slice() {
+        binds.push(bind.copy(alloc)?)?;
     }
     Ok(())
 }

@@ -1,5 +1,5 @@
-use crate::content::Content;
 use odd_base::{Key, NoMemory, Text, TryCopy};
+use odd_content::Content;
 use std::alloc::Global;
 
 /// A declaration of a component. `module` is empty where none is given, and `ns` is the namespace of an element in
@@ -20,11 +20,15 @@ impl TryCopy for Spec {
             Some(ns) => Some(ns.copy(alloc)?),
             None => None,
         };
+        let content = match &self.content {
+            Some(content) => Some(content.copy(alloc)?),
+            None => None,
+        };
         Ok(Spec {
             key,
             module,
             ns,
-            content: self.content,
+            content,
         })
     }
 }

@@ -1,4 +1,6 @@
+pub mod AmongChildren
 pub mod Answered
+pub mod Attributes
 pub mod BuildingBindings
 pub mod BuildingChildren
 pub mod BuildingElements
@@ -15,6 +17,8 @@ pub mod FormedExamples
 pub mod FormedPlaces
 pub mod FormedTags
 pub mod FormedTexts
+pub mod InList
+pub mod Levels
 pub mod LongestFront
 pub mod Openings
 pub mod Places

@@ -1,10 +1,9 @@
 -- Small checks of what the definitions of this crate say: where they hold, and where they do not.
-use Rattle.std.proofs.Common.{◌≡◌, ◌≤◌, ℕ, false, List, [], ◌∷◌, length, Some, None, inr, refl, sym, ap, subst, ◌∙◌, arith, slice_get}
+use Rattle.std.proofs.Common.{◌≡◌, ◌≤◌, ℕ, false, List, [], ◌∷◌, length, Some, None, inr, refl, sym, ap, ◌∙◌, arith, slice_get}
 use Rattle.std.specs.Fmt.{digits}
-use Rattle.std.specs.Prelude.{◌≢◌, All, codes}
+use Rattle.std.specs.Prelude.{◌≢◌, codes}
 use Rattle.std.specs.FinMap as map
 use Rattle.std.proofs.lemmas.Cmp.{nat_list_cmp_total}
-use Rattle.std.proofs.lemmas.List.Elements.{All-nil, All-cons}
 use Rattle.std.proofs.lemmas.Option.{same_Some}
 use Rattle.odd_base.specs.Text.{text_cmp}
 use Rattle.odd_base.specs.Key.{key_cmp}
@@ -14,31 +13,35 @@ use Rattle.odd_base.specs.declared.key.Kind.TheVariants as kind
 use Rattle.odd_base.specs.declared.offence.Offence.{Offence}
 use Rattle.odd_base.specs.declared.offence.Who.TheVariants as who
 use Rattle.std.proofs.Math.Utf8.{encode}
-use Rattle.odd_base.specs.declared.name.Name.{Name}
 use Rattle.odd_tokens.specs.Characters.{is_char, is_name_char, is_name_start}
 use Rattle.odd_reader.specs.Spelled.{GivesTree}
 use Rattle.odd_reader.specs.declared.tree.Tree.{Tree, roll-Tree}
-use Rattle.odd_reader.specs.declared.tree.Node.{Element}
 use Rattle.odd_reader.proofs.Running.{empty_not_xml, literal_gives}
-use Rattle.odd_decls.specs.Declares.{AreReadAs, Declares, IsReadAs}
-use Rattle.odd_decls.specs.Odd.{StandsIn, element_key, tei_namespace}
-use Rattle.odd_decls.specs.Offences.{HasOffence, IsNotBefore, IsRefusal, IsSpecOf, ItemFault, ItemOffends, Offends, StandsTwice}
-use Rattle.odd_decls.specs.Search.{Finds, children_of, through}
+use Rattle.odd_decls.specs.Declares.{Declares, GivesContent, IsEntryOf}
+use Rattle.odd_decls.specs.Odd.{element_key}
+use Rattle.odd_forms.specs.Faults.{ChildFault}
+use Rattle.odd_forms.specs.Names.{tei, tei_namespace}
+use Rattle.odd_reader.specs.Elements.{StandsIn}
+use Rattle.odd_reader.proofs.InList.{nothing_stands, stands_first}
+use Rattle.odd_decls.specs.Offences.{HasOffence, IsNotBefore, IsRefusal, IsSpecOf, ItemFault, ItemOffends, Offends}
+use Rattle.odd_decls.specs.Pending.{IsPending, outermost}
+use Rattle.odd_decls.specs.Pending as pending
+use Rattle.odd_decls.specs.Search.{Finds}
 use Rattle.odd_decls.specs.Search as search
-use Rattle.odd_decls.specs.declared.content.Content.TheVariants as content
+use Rattle.odd_content.specs.declared.content.Content.TheVariants as content
 use Rattle.odd_decls.specs.declared.library.Component.TheVariants as component
 use Rattle.odd_decls.specs.declared.library.Library.{Library}
 use Rattle.odd_decls.specs.declared.odd.Entry.TheVariants as entry
 use Rattle.odd_decls.specs.declared.odd.OddDoc.{OddDoc}
 use Rattle.odd_decls.specs.declared.spec.Spec.{Spec}
-use Rattle.odd_decls.proofs.Examples.{AllWithin, IsBare, IsNamedSchema, IsPlain, IsSound, a_alone, bare_is_sound, elements_are, few, items_alone, leaf_within, no_offence, not_pending, one_item, one_within, one_word, other_breaks_three}
-use Rattle.odd_decls.proofs.Named.{is_name}
+use Rattle.odd_decls.proofs.SmallFiles.{HoldsNone, IsNamedSchema, IsNamedSpec, a_alone, alone, attribute, bare_is_sound, declares, each_such, element, elements_are, entry_more, few, few_rise, found_first, found_through, in_child, items_alone, no_entries, nodes, none_held, not_pending, one_item, only_child, other_breaks_three, plain}
+use Rattle.odd_forms.proofs.Named.{is_name}
 use Rattle.std.specs.declared.cmp.Ordering.TheVariants.{Less}
 use Rattle.compile_core.specs.Schema.{IsLeastMissing}
 use Rattle.odd_run.specs.Note.{code_of, note_text}
 use Rattle.odd_run.specs.Words.{Compiles, WordsMean, compile}
 use Rattle.odd_run.specs.declared.status.Status.{Status}
-use Rattle.odd_run.specs.Reply.{Reply, Reads, Gives, not_xml, offends, start_missing, no_job, no_file, too_long, refused, done}
+use Rattle.odd_run.specs.Reply.{Reply, Reads, Gives, not_xml, not_yet, offends, start_missing, no_job, no_file, too_long, refused, done}
 use Rattle.odd_run.specs.declared.words.Command.TheVariants as command
 use Rattle.odd_run.specs.declared.words.Job.{Job}
 use Rattle.odd_run.specs.declared.status.LimitKind.TheVariants as limit
@@ -207,29 +210,24 @@ one_element = codes "<schemaSpec xmlns=\"http://www.tei-c.org/ns/1.0\" ident=\"s
 abbrev schema : List ℕ
 schema = codes "<?xml version=\"1.0\" encoding=\"UTF-8\"?>\n<grammar xmlns=\"http://relaxng.org/ns/structure/1.0\" datatypeLibrary=\"http://www.w3.org/2001/XMLSchema-datatypes\">\n<start>\n<ref name=\"e.a\"/>\n</start>\n<define name=\"e.a\">\n<element name=\"a\" ns=\"http://www.tei-c.org/ns/1.0\">\n<empty/>\n</element>\n</define>\n</grammar>\n"
 
-abbrev tei_name : List ℕ → Name
-tei_name local = record { ns = tei_namespace; local = local }
-
-abbrev plain_name : List ℕ → Name
-plain_name local = record { ns = []; local = local }
-
-abbrev element_tree : Tree
-element_tree = roll-Tree (record {
-  name = tei_name (codes "elementSpec");
-  attrs = record { name = plain_name (codes "ident"); value = codes "a" } ∷ [];
-  binds = [];
-  children = [];
-  at = 68;
-})
-
-abbrev root_tree : Tree
-root_tree = roll-Tree (record {
-  name = tei_name (codes "schemaSpec");
-  attrs = record { name = plain_name (codes "ident"); value = codes "s" } ∷ record { name = plain_name (codes "start"); value = codes "a" } ∷ [];
-  binds = record { prefix = []; ns = codes "http://www.tei-c.org/ns/1.0" } ∷ [];
-  children = Element element_tree ∷ [];
+-- `<schemaSpec ident="s" start="a">` with these children
+abbrev root_of : List Tree → Tree
+root_of children = roll-Tree (record {
+  name = tei (codes "schemaSpec");
+  attrs = attribute (codes "ident") (codes "s") ∷ attribute (codes "start") (codes "a") ∷ [];
+  binds = record { prefix = []; ns = tei_namespace } ∷ [];
+  children = nodes children;
   at = 0;
 })
+
+root_named : (children : List Tree) → IsNamedSchema (codes "s") (codes "a") (root_of children)
+root_named children = record { is_schema = refl; ident = refl; name = is_name (codes "s") refl; asked = refl; names = a_alone }
+
+abbrev element_tree : Tree
+element_tree = element 68 (codes "elementSpec") (attribute (codes "ident") (codes "a") ∷ []) []
+
+abbrev root_tree : Tree
+root_tree = root_of (element_tree ∷ [])
 
 -- the reader ends with this tree
 one_element_read : GivesTree one_element root_tree
@@ -248,45 +246,25 @@ one_doc = record { ident = codes "s"; start = codes "a" ∷ []; entries = entry.
 abbrev one_library : Library
 one_library = record { ident = codes "s"; start = codes "a" ∷ []; parts = (a_key, component.Element (record { «module» = []; ns = tei_namespace; content = content.Empty })) ∷ [] }
 
-one_child : children_of root_tree ≡ element_tree ∷ []
-one_child = elements_are (element_tree ∷ [])
+element_named : IsNamedSpec (codes "a") element_tree
+element_named = record { is_spec = refl; ident = refl; name = is_name (codes "a") refl; no_module = refl; no_prefix = refl; no_source = refl }
 
--- it has no form that is not read yet, and no offence
-one_schema : Finds root_tree (root_tree ∷ [])
-one_schema = through [] refl (search.element [] [] (through [] refl search.nothing refl) search.nothing refl) refl
-
-one_element_plain : AllWithin IsPlain root_tree
-one_element_plain =
-    one_within IsPlain root_tree element_tree one_child (record { no_form = refl; no_content = refl; no_mode = λ is. refl })
-    (leaf_within IsPlain element_tree refl (record { no_form = refl; no_content = refl; no_mode = λ is. refl }))
-
-root_named : IsNamedSchema (codes "s") (codes "a") root_tree
-root_named = record { ident = refl; name = is_name (codes "s") refl; asked = refl; names = a_alone }
-
-element_bare : IsBare (codes "a") element_tree
-element_bare = record { is_spec = refl; ident = refl; name = is_name (codes "a") refl; no_module = refl; no_prefix = refl; no_source = refl; no_child = refl }
-
-one_element_sound : (place rule : ℕ) → HasOffence root_tree place rule → ⊥
-one_element_sound =
-    no_offence (codes "s") (codes "a") root_tree root_tree one_schema root_named
-    (subst (All IsSound) (sym one_child) (All-cons IsSound element_tree [] (bare_is_sound (codes "a") element_tree element_bare) (All-nil IsSound)))
-    (λ ident. subst (λ ts. StandsTwice (IsSpecOf ident) ts → ⊥) (sym one_child) (few (IsSpecOf ident) (element_tree ∷ []) (omega arith)))
-
-element_read : IsReadAs root_tree element_tree 68 element_spec
-element_read = record { ident = codes "a"; is_spec = (refl, refl, is_name (codes "a") refl); key = refl; of_module = refl; ns = refl; content = refl; placed = refl }
+element_read : IsEntryOf (alone root_tree) element_tree (entry.Spec 68 element_spec)
+element_read = IsEntryOf.spec (record {
+  ident = codes "a";
+  is_spec = (refl, refl, is_name (codes "a") refl);
+  key = refl;
+  of_module = refl;
+  ns = refl;
+  content = GivesContent.none (λ child s is. nothing_stands child s);
+})
 
 one_element_declares : Declares root_tree one_doc
-one_element_declares = record {
-  all_read = not_pending root_tree root_tree [] one_schema one_element_plain;
-  unoffended = one_element_sound;
-  schema = root_tree;
-  found = one_schema;
-  is_doc = record {
-    ident = refl;
-    start = one_word (codes "a");
-    entries = subst (λ ts. AreReadAs root_tree ts one_doc.entries) (sym one_child) (AreReadAs.spec refl element_read AreReadAs.nothing);
-  };
-}
+one_element_declares =
+    declares (codes "s") (codes "a") root_tree (element_tree ∷ []) _ (root_named (element_tree ∷ [])) refl (elements_are (element_tree ∷ []))
+    (found_first _ element_tree [] (found_through _ element_tree [] [] refl refl search.nothing)) refl
+    (none_held _ element_tree [] refl (plain _ _ refl (λ _. refl) (λ c. cc) (λ _. refl)) tt, tt) (bare_is_sound (codes "a") _ element_tree element_named refl, tt)
+    (λ one. few (IsSpecOf one) (element_tree ∷ []) (omega arith)) (entry_more _ element_tree [] _ [] element_read (no_entries _)) (few_rise _ (omega arith))
 
 one_element_gives : Gives one_element one_library
 one_element_gives = record {
@@ -297,10 +275,8 @@ one_element_gives = record {
   is_library = record { ident = refl; start = refl; rising = refl; holds = λ key. refl };
 }
 
-a_is_held : (word : List ℕ) → StandsIn one_library.start word → map.find key_cmp (element_key word) one_library.parts ≡ None → ⊥
-a_is_held word ([], after, e) missing = let is_word : word ≡ codes "a" = cc in let found = subst (λ w. map.find key_cmp (element_key w) one_library.parts ≡ None) is_word missing in cc
-a_is_held word (b ∷ [], after, e) missing = cc
-a_is_held word (b ∷ (c ∷ cs), after, e) missing = cc
+a_is_held : (word : List ℕ) → StandsIn (codes "a" ∷ []) word → map.find key_cmp (element_key word) one_library.parts ≡ None → ⊥
+a_is_held word s = each_such (λ w. map.find key_cmp (element_key w) one_library.parts ≡ None → ⊥) (codes "a" ∷ []) word ((λ missing. cc), tt) s
 
 done_reply : Reply compile_f (holding one_element) schema status.Done
 done_reply = done one_element one_library (f_reads one_element (omega arith)) one_element_gives a_is_held refl
@@ -314,55 +290,30 @@ done_is_not_refused text h = let same : status.Done ≡ status.NotYet 1 = one_st
 abbrev no_element : List ℕ
 no_element = codes "<schemaSpec xmlns=\"http://www.tei-c.org/ns/1.0\" ident=\"s\" start=\"a\"></schemaSpec>"
 
-abbrev empty_tree : Tree
-empty_tree = roll-Tree (record {
-  name = tei_name (codes "schemaSpec");
-  attrs = record { name = plain_name (codes "ident"); value = codes "s" } ∷ record { name = plain_name (codes "start"); value = codes "a" } ∷ [];
-  binds = record { prefix = []; ns = codes "http://www.tei-c.org/ns/1.0" } ∷ [];
-  children = [];
-  at = 0;
-})
-
-no_element_read : GivesTree no_element empty_tree
+no_element_read : GivesTree no_element (root_of [])
 unfolding encode is_char is_name_char is_name_start
-no_element_read = literal_gives no_element _ empty_tree refl refl (refl, refl)
-
-abbrev empty_doc : OddDoc
-empty_doc = record { ident = codes "s"; start = codes "a" ∷ []; entries = [] }
+no_element_read = literal_gives no_element _ (root_of []) refl refl (refl, refl)
 
 abbrev empty_library : Library
 empty_library = record { ident = codes "s"; start = codes "a" ∷ []; parts = [] }
 
-empty_schema : Finds empty_tree (empty_tree ∷ [])
-empty_schema = through [] refl search.nothing refl
-
-no_element_sound : (place rule : ℕ) → HasOffence empty_tree place rule → ⊥
-no_element_sound =
-    no_offence (codes "s") (codes "a") empty_tree empty_tree empty_schema (record { ident = refl; name = is_name (codes "s") refl; asked = refl; names = a_alone })
-    (All-nil IsSound) (λ ident. few (IsSpecOf ident) [] (omega arith))
-
 no_element_gives : Gives no_element empty_library
 no_element_gives = record {
-  tree = empty_tree;
+  tree = root_of [];
   given = no_element_read;
-  doc = empty_doc;
-  declared = record {
-    all_read = not_pending empty_tree empty_tree [] empty_schema (leaf_within IsPlain empty_tree refl (record { no_form = refl; no_content = refl; no_mode = λ is. refl }));
-    unoffended = no_element_sound;
-    schema = empty_tree;
-    found = empty_schema;
-    is_doc = record { ident = refl; start = one_word (codes "a"); entries = AreReadAs.nothing };
-  };
+  doc = record { ident = codes "s"; start = codes "a" ∷ []; entries = [] };
+  declared =
+      declares (codes "s") (codes "a") (root_of []) [] [] (root_named []) refl refl search.nothing refl tt tt (λ one. few (IsSpecOf one) [] (omega arith)) (no_entries _)
+      (few_rise [] (omega arith));
   is_library = record { ident = refl; start = refl; rising = refl; holds = λ key. refl };
 }
 
 a_is_least : IsLeastMissing empty_library empty_library.start (codes "a")
-a_is_least = record { among = ([], [], refl); missing = refl; least = least }
-  where
-    least : (other : List ℕ) → StandsIn empty_library.start other → map.find key_cmp (element_key other) empty_library.parts ≡ None → text_cmp other (codes "a") ≡ Less → ⊥
-    least other ([], after, e) missing less = let is_word : other ≡ codes "a" = cc in let tied = subst (λ w. text_cmp w (codes "a") ≡ Less) is_word less in cc
-    least other (b ∷ [], after, e) missing less = cc
-    least other (b ∷ (c ∷ cs), after, e) missing less = cc
+a_is_least = record {
+  among = stands_first (codes "a") [];
+  missing = refl;
+  least = λ other s missing. each_such (λ w. text_cmp w (codes "a") ≡ Less → ⊥) (codes "a" ∷ []) other ((λ tied. cc), tt) s;
+}
 
 refused_reply : Reply compile_f (holding no_element) [] (status.Refused (record { file = 1; who = who.Start (codes "a"); rule = 20 }))
 refused_reply = refused no_element (f_reads no_element (omega arith)) (start_missing (codes "a") empty_library no_element_gives a_is_least refl)
@@ -373,48 +324,39 @@ abbrev one_p : List ℕ
 one_p = codes "<schemaSpec xmlns=\"http://www.tei-c.org/ns/1.0\" ident=\"s\" start=\"a\"><p/></schemaSpec>"
 
 abbrev p_tree : Tree
-p_tree = roll-Tree (record { name = tei_name (codes "p"); attrs = []; binds = []; children = []; at = 68 })
+p_tree = element 68 (codes "p") [] []
 
 abbrev offending_tree : Tree
-offending_tree = roll-Tree (record {
-  name = tei_name (codes "schemaSpec");
-  attrs = record { name = plain_name (codes "ident"); value = codes "s" } ∷ record { name = plain_name (codes "start"); value = codes "a" } ∷ [];
-  binds = record { prefix = []; ns = codes "http://www.tei-c.org/ns/1.0" } ∷ [];
-  children = Element p_tree ∷ [];
-  at = 0;
-})
+offending_tree = root_of (p_tree ∷ [])
 
 one_p_read : GivesTree one_p offending_tree
 unfolding encode is_char is_name_char is_name_start
 one_p_read = literal_gives one_p _ offending_tree refl refl (refl, refl)
 
-p_child : children_of offending_tree ≡ p_tree ∷ []
-p_child = elements_are (p_tree ∷ [])
+offending_schema : Finds [] offending_tree (alone offending_tree ∷ [])
+offending_schema =
+    found_through [] offending_tree (p_tree ∷ []) [] (elements_are (p_tree ∷ [])) refl (found_first _ p_tree [] (found_through _ p_tree [] [] refl refl search.nothing))
 
-offending_schema : Finds offending_tree (offending_tree ∷ [])
-offending_schema = through [] refl (search.element [] [] (through [] refl search.nothing refl) search.nothing refl) refl
-
-one_p_plain : AllWithin IsPlain offending_tree
-one_p_plain =
-    one_within IsPlain offending_tree p_tree p_child (record { no_form = refl; no_content = refl; no_mode = λ is. refl })
-    (leaf_within IsPlain p_tree refl (record { no_form = refl; no_content = refl; no_mode = λ is. refl }))
+one_p_held : HoldsNone outermost offending_tree
+one_p_held =
+    none_held _ offending_tree (p_tree ∷ []) (elements_are (p_tree ∷ [])) (plain _ _ refl (λ _. refl) (λ c. cc) (λ _. refl))
+    (none_held _ p_tree [] refl (plain _ _ refl (λ _. refl) (λ c. cc) (λ _. refl)) tt, tt)
 
 -- the `p` may not stand there
 p_offends : HasOffence offending_tree 68 3
 p_offends = record {
-  schema = offending_tree;
+  first = alone offending_tree;
   others = [];
   found = offending_schema;
-  offends = Offends.items (ItemOffends.alone p_tree ([], [], p_child) (ItemFault.unknown refl refl refl) refl);
+  offends = Offends.items (ItemOffends.alone p_tree (only_child p_tree) (ItemFault.misplaced (ChildFault.unknown refl refl refl refl refl)) refl);
 }
 
 -- the file has no other offence
 p_alone : (place rule : ℕ) → HasOffence offending_tree place rule → IsNotBefore 68 3 place rule
 p_alone place rule h =
-    let offends = items_alone (codes "s") (codes "a") offending_tree offending_tree offending_schema
-    (record { ident = refl; name = is_name (codes "s") refl; asked = refl; names = a_alone }) place rule h in
-    let fault = one_item p_tree place rule (subst (λ ts. ItemOffends ts place rule) p_child offends) in
-    let three : rule ≡ 3 = other_breaks_three p_tree rule refl refl fault.0 in
+    let fault = one_item _ p_tree place rule
+    (items_alone (codes "s") (codes "a") offending_tree offending_tree (p_tree ∷ []) offending_schema (root_named (p_tree ∷ [])) (elements_are (p_tree ∷ [])) place rule h) in
+    let three : rule ≡ 3 = other_breaks_three _ p_tree rule refl refl refl fault.0 in
     inr (sym fault.1, omega (arith, three))
 
 abbrev p_offence : Offence
@@ -422,7 +364,7 @@ p_offence = record { file = 1; who = who.At 68; rule = 3 }
 
 p_refusal : IsRefusal offending_tree 1 p_offence
 p_refusal = record {
-  is_one = record { all_read = not_pending offending_tree offending_tree [] offending_schema one_p_plain; in_file = refl; place = 68; placed = refl; offends = p_offends };
+  is_one = record { all_read = not_pending offending_tree (alone offending_tree) [] offending_schema one_p_held; in_file = refl; place = 68; placed = refl; offends = p_offends };
   first = p_alone;
 }
 
@@ -436,3 +378,29 @@ offending_has_one text s h = one_status compile_f (holding one_p) text [] s (sta
 -- so no schema is its reply
 offending_is_not_done : (text : List ℕ) → Reply compile_f (holding one_p) text status.Done → ⊥
 offending_is_not_done text h = let same : status.Done ≡ status.Refused p_offence = offending_has_one text status.Done h in cc
+
+-- With an `elementRef` in its `content` it is not read yet.
+
+abbrev one_reference : List ℕ
+one_reference = codes "<schemaSpec xmlns=\"http://www.tei-c.org/ns/1.0\" ident=\"s\" start=\"a\"><elementSpec ident=\"a\"><content><elementRef key=\"a\"/></content></elementSpec></schemaSpec>"
+
+abbrev reference_tree : Tree
+reference_tree = element 100 (codes "elementRef") (attribute (codes "key") (codes "a") ∷ []) []
+
+abbrev content_tree : Tree
+content_tree = element 91 (codes "content") [] (reference_tree ∷ [])
+
+abbrev holder_tree : Tree
+holder_tree = element 68 (codes "elementSpec") (attribute (codes "ident") (codes "a") ∷ []) (content_tree ∷ [])
+
+one_reference_read : GivesTree one_reference (root_of (holder_tree ∷ []))
+unfolding encode is_char is_name_char is_name_start
+one_reference_read = literal_gives one_reference _ (root_of (holder_tree ∷ [])) refl refl (refl, refl)
+
+reference_pending : IsPending (root_of (holder_tree ∷ []))
+reference_pending =
+    IsPending.form (in_child outermost _ _ (elements_are (holder_tree ∷ [])) (in_child _ _ _ (elements_are (content_tree ∷ []))
+    (in_child _ _ _ (elements_are (reference_tree ∷ [])) (pending.here (pending.parts refl refl)))))
+
+not_yet_reply : Reply compile_f (holding one_reference) [] (status.NotYet 1)
+not_yet_reply = refused one_reference (f_reads one_reference (omega arith)) (not_yet (root_of (holder_tree ∷ [])) one_reference_read reference_pending)

@@ -2,8 +2,11 @@
 use Rattle.std.proofs.Common.{◌≡◌, ◌≤◌, ◌<◌, ℕ, List, length, arith, [], ◌∷◌, Option, Some, None, Result, Ok, Err, refl, sym, ap, subst, ◌∙◌, slice_get, inl, inr}
 use Rattle.std.specs.Prelude.{codes, IfOk, IfErr, Bool, IsTrue}
 use Rattle.std.specs.FinMap as map
+use Rattle.std.specs.FinMap.{slice_cmp-IsAntisymmetric, nat_cmp-IsAntisymmetric}
+use Rattle.std.proofs.lemmas.Cmp.{nat_list_cmp_total}
 use Rattle.std.proofs.lemmas.Option.{same_Some}
 use Rattle.odd_base.specs.Shelf.{FileMap, Held, NotHeld}
+use Rattle.odd_base.specs.Text.{text_cmp}
 use Rattle.odd_base.specs.declared.offence.Offence.{Offence}
 use Rattle.odd_reader.specs.declared.tree.Tree.{Tree}
 use Rattle.odd_reader.specs.Spelled.{GivesTree, IsNotXml}
@@ -17,8 +20,8 @@ use Rattle.odd_decls.specs.Offences.{IsRefusal}
 use Rattle.odd_decls.specs.Pending.{IsPending}
 use Rattle.odd_decls.proofs.OneLibrary.{one_doc, one_library}
 use Rattle.odd_decls.proofs.OneOffence.{one_offence}
-use Rattle.odd_decls.proofs.SortedWords.{neither_below}
-use Rattle.compile_core.specs.Schema.{schema_text, HoldsStart, IsLeastMissing}
+use Rattle.odd_forms.proofs.OneSet.{neither_below}
+use Rattle.compile_core.specs.Schema.{AreWritten, schema_text, HoldsStart, IsLeastMissing}
 use Rattle.odd_run.specs.declared.status.Status.{Status}
 use Rattle.odd_run.specs.declared.status.Status.TheVariants as status
 use Rattle.odd_run.specs.declared.status.LimitKind.TheVariants as limit
@@ -53,17 +56,17 @@ one_text words files t u (refused b p f) q = elim f [ ]
 one_text words files t u (done b l p g h e) (refused c q f) = elim f [ ]
 
 -- why a library has no schema is why its file has none
-pub start_refusals : (bytes : List ℕ) (library : Library) (r : Result (List ℕ) Status) → Gives bytes library → IfErr r (IsStartError library) → IfErr r (IsRefusalOf bytes)
-start_refusals bytes library (Ok text) g s = tt
-start_refusals bytes library (Err status.NoMemory) g s = inl refl
-start_refusals bytes library (Err (status.Refused offence)) g s = inr (start_missing s.0 library g s.1 s.2)
-start_refusals bytes library (Err status.Done) g s = absurd s
-start_refusals bytes library (Err (status.NotXml file at)) g s = absurd s
-start_refusals bytes library (Err status.Usage) g s = absurd s
-start_refusals bytes library (Err (status.Limit kind)) g s = absurd s
-start_refusals bytes library (Err (status.ReadFault file)) g s = absurd s
-start_refusals bytes library (Err status.WriteFault) g s = absurd s
-start_refusals bytes library (Err (status.NotYet file)) g s = absurd s
+pub start_refusals : (bytes : List ℕ) (library : Library) (r : Result (List ℕ) Status) → Gives bytes library → AreWritten library → IfErr r (λ s. AreWritten library → IsStartError library s) → IfErr r (IsRefusalOf bytes)
+start_refusals bytes library (Ok text) g w s = tt
+start_refusals bytes library (Err status.NoMemory) g w s = inl refl
+start_refusals bytes library (Err (status.Refused offence)) g w s = let h = s w in inr (start_missing h.0 library g h.1 h.2)
+start_refusals bytes library (Err status.Done) g w s = absurd (s w)
+start_refusals bytes library (Err (status.NotXml file at)) g w s = absurd (s w)
+start_refusals bytes library (Err status.Usage) g w s = absurd (s w)
+start_refusals bytes library (Err (status.Limit kind)) g w s = absurd (s w)
+start_refusals bytes library (Err (status.ReadFault file)) g w s = absurd (s w)
+start_refusals bytes library (Err status.WriteFault) g w s = absurd (s w)
+start_refusals bytes library (Err (status.NotYet file)) g w s = absurd (s w)
 
 module _ (words : List (List ℕ)) (files : FileMap) (bytes : List ℕ) (reads : Reads words files bytes) where
   pub schema_replies : (r : Result (List ℕ) Status) → IfOk r (IsSchemaOf bytes) → IfOk r (λ text. Reply words files text status.Done)
@@ -110,7 +113,7 @@ too_long_but words files f b c p h l r =
 -- the least of some words is one word
 one_least : (library : Library) (start : List (List ℕ)) (v w : List ℕ) → IsLeastMissing library start v → IsLeastMissing library start w → v ≡ w
 one_least library start v w p q =
-    neither_below v w (q.least v p.among p.missing) (p.least w q.among q.missing)
+    neither_below text_cmp nat_list_cmp_total (slice_cmp-IsAntisymmetric nat_cmp-IsAntisymmetric) v w (q.least v p.among p.missing) (p.least w q.among q.missing)
 
 -- a file has one refusal, and none where it gives a library that holds its start words
 

@@ -5,7 +5,7 @@ use Rattle.odd_base.specs.Shelf.{FileMap, Held, NotHeld, LeavesSuffix}
 use Rattle.odd_decls.specs.declared.library.Library.{Library}
 use Rattle.odd_reader.specs.declared.tree.Tree.{Tree}
 use Rattle.compile_core.specs.Acceptance.{Accepts}
-use Rattle.compile_core.specs.Admission.{Admits}
+use Rattle.odd_meaning.specs.Admission.{Admits}
 use Rattle.compile_core.specs.Denoting.{DenotesOnly}
 use Rattle.compile_core.specs.declared.grammar.Grammar.{Grammar}
 use Rattle.compile_core.specs.Schema.{schema_text, HoldsStart, IsLeastMissing}

@@ -3,7 +3,7 @@ ghost use Rattle.odd_base.specs.Count.{HasRisen, next_count};
 ghost use Rattle.odd_base.specs.Shelf.{FileMap, NotHeld};
 ghost use Rattle.odd_base.specs.Sink.{IsPartWritten};
 ghost use Rattle.odd_decls.specs.declared.library.Library.{Library as ALibrary};
-ghost use Rattle.compile_core.specs.Schema.{HoldsStart, IsFormed, schema_text};
+ghost use Rattle.compile_core.specs.Schema.{AreWritten, HoldsStart, IsFormed, schema_text};
 ghost use Rattle.odd_run.specs.Note.{note_text};
 ghost use Rattle.odd_run.specs.Words.{Compiles, WordsMean};
 ghost use Rattle.odd_run.specs.declared.words.Job.{Job as AJob};
@@ -131,6 +131,7 @@ fn schema_of_file(alloc: Global, bytes: &Bytes) -> Result<Text, Status>
 fn library_of_file(alloc: Global, bytes: &Bytes) -> Result<Library, Status>
     ensures ok { IfOk result (Gives bytes.now) }
     ensures formed { IfOk result IsFormed }
+    ensures written { IfOk result AreWritten }
     ensures err { IfErr result (IsRefusalOf bytes.now) }
 {
     let tree = match read_tree(alloc, bytes.as_slice()) {
@@ -157,13 +158,14 @@ fn library_of_file(alloc: Global, bytes: &Bytes) -> Result<Library, Status>
 fn schema_of_library(alloc: Global, library: &Library) -> Result<Text, Status>
     ensures ok { IfOk result (λ text. HoldsStart library.now library.now.start × (text ≡ schema_text library.now library.now.start)) }
     ensures accepts { IfOk result (λ text. IsFormed library.now → AcceptsAdmitted library.now text) }
-    ensures err { IfErr result (IsStartError library.now) }
+    ensures err { IfErr result (λ status. AreWritten library.now → IsStartError library.now status) }
 {
     let grammar = match compile(alloc, library, &library.start) {
         Ok(grammar) => grammar,
         Err(CompileRefusal::Offence(offence)) => {
             return Err(Status::Refused(in_file(offence, 1)));
         }
+        Err(CompileRefusal::NotYet) => return Err(Status::NotYet { file: 1 }),
         Err(CompileRefusal::NoMemory) => return Err(Status::NoMemory),
     };
     match print_rng(alloc, &grammar) {

@@ -3,7 +3,9 @@
 use crate::making::{key, many_words, text};
 use compile_core::{CompileRefusal, compile, print_rng};
 use odd_base::{Kind, NoMemory, Text, TryCopy, Who, Words};
-use odd_decls::{Component, Content, ElementPart, Library, Spec};
+use odd_content::{Content, Contents};
+use odd_decls::{Component, ElementPart, Library, Spec};
+use rng_values::Bounds;
 use std::alloc::Global;
 use std::test::Fail;
 
@@ -45,6 +47,7 @@ fn schema_from(alloc: Global, library: &Library, start: &Words) -> Result<Text, 
             Who::Start(word) => Ok(word),
             _ => text(alloc, "another offence"),
         },
+        Err(CompileRefusal::NotYet) => text(alloc, "not yet"),
         Err(CompileRefusal::NoMemory) => Err(NoMemory),
     }
 }
@@ -95,7 +98,9 @@ fn the_empty_library_has_a_start_word_alone(rt: HostRuntime) -> Result<(), Fail>
 #[test]
 fn components_and_specs_are_copied(rt: HostRuntime) -> Result<(), Fail> {
     let component = Component::Element(element(rt.alloc(), Content::Text)?);
-    assert!(rt; component.copy(rt.alloc())? == component);
+    let Component::Element(part) = &component.copy(rt.alloc())?;
+    assert_eq!(rt; part.ns.as_str(), TEI);
+    assert!(rt; part.module.as_str().is_empty() && matches!(part.content, Content::Text));
     let spec = Spec {
         key: key(rt.alloc(), Kind::Element, "a")?,
         module: text(rt.alloc(), "m")?,
@@ -105,5 +110,29 @@ fn components_and_specs_are_copied(rt: HostRuntime) -> Result<(), Fail> {
     let copy = spec.copy(rt.alloc())?;
     assert!(rt; copy.key == spec.key);
     assert_eq!(rt; copy.module.as_str(), "m");
+    assert!(rt; matches!(copy.content, Some(Content::Text)));
+    Ok(())
+}
+
+#[test]
+fn a_content_whose_schema_is_not_written_yet_is_told(rt: HostRuntime) -> Result<(), Fail> {
+    let words = words_of(rt.alloc(), "a b")?;
+    let mut library = library_with(rt.alloc(), words.copy(rt.alloc())?)?;
+    let content = Content::Sequence {
+        parts: Contents::new(rt.alloc()),
+        bounds: Bounds {
+            min: 1,
+            max: Some(1),
+        },
+    };
+    let part = Component::Element(element(rt.alloc(), content)?);
+    library
+        .parts
+        .put(key(rt.alloc(), Kind::Element, "c")?, part)?;
+    let told = schema_from(rt.alloc(), &library, &words)?;
+    assert_eq!(rt; told.as_str(), "not yet");
+    let missing = words_of(rt.alloc(), "a d")?;
+    let refused = schema_from(rt.alloc(), &library, &missing)?;
+    assert_eq!(rt; refused.as_str(), "d");
     Ok(())
 }

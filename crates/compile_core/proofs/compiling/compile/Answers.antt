@@ -1,7 +1,7 @@
 use Rattle.std.proofs.Common.{◌≡◌, ◌↔◌, ◌∙◌, ap, subst, sym}
 use Rattle.std.specs.Option.{option_copied}
 use Rattle.compile_core.specs.Acceptance.{Accepts}
-use Rattle.compile_core.specs.Admission.{Admits}
+use Rattle.odd_meaning.specs.Admission.{Admits}
 use Rattle.compile_core.specs.Compiled.{grammar_of}
 use Rattle.compile_core.specs.Denoting.{DenotesOnly}
 use Rattle.compile_core.specs.Grammar.{grammar_text}
@@ -25,4 +25,4 @@ returns-clause-denotes c = λ f.
     subst (DenotesOnly (schema_text c.args.library.now c.args.start.now)) (sym (compiled c)) (schema_denotes c.args.library.now c.args.start.now f (subst (λ o. IsLeast c.args.library.now c.args.start.now (option_copied o)) c.in_default.is c.in_ok-word.ensures))
 
 pub returns-clause-accepts : goal.returns-clause-accepts
-returns-clause-accepts c = λ f t. subst (λ g. Accepts g t ↔ Admits c.args.library.now c.args.start.now t) (sym (compiled c)) (accepts_admitted c.args.library.now c.args.start.now f t)
+returns-clause-accepts c = λ f t. subst (λ g. Accepts g t ↔ Admits c.args.library.now c.args.start.now t) (sym (compiled c)) (accepts_admitted c.args.library.now c.args.start.now f (c.are_written.ensures.0 c.if-not-are_written.false) t)

@@ -4,7 +4,7 @@ use Rattle.std.specs.FinMap.{find}
 use Rattle.std.specs.Option.{option_copied}
 use Rattle.odd_base.specs.Key.{key_cmp}
 use Rattle.odd_decls.specs.Odd.{element_key}
-use Rattle.odd_decls.proofs.Standing.{nothing_stands}
+use Rattle.odd_reader.proofs.InList.{nothing_stands}
 use Rattle.compile_core.specs.Schema.{IsLeast}
 use Rattle.compile_core.proofs.Missing.{held_more, missing_more, nothing_found, something_found}
 use Rattle.compile_core.proofs.compiling.least_missing.Goals as goal

@@ -1,52 +1,48 @@
-use Rattle.std.proofs.Common.{◌||◌, [], ◌∷◌, codes, ap, subst, ◌∙◌, sym, refl}
-use Rattle.std.proofs.lemmas.Bool.{false≢true, or_left}
-use Rattle.odd_decls.specs.Pending.{HoldsForm}
-use Rattle.odd_decls.specs.Search.{is_one_of}
-use Rattle.odd_decls.proofs.Elements.{child_stands, text_shown}
-use Rattle.odd_decls.proofs.Holding.{around_children, child_form, none_first, none_held, none_more, none_seen, none_text, own_form}
-use Rattle.odd_decls.proofs.pending.+is_pending.Goals.{then-in_content, else-in_content, in-Element+else-is_pending, in_default}
+use Rattle.std.proofs.Common.{ap, refl, subst, sym, ◌∙◌}
+use Rattle.std.proofs.lemmas.Bool.{false≢true}
+use Rattle.std.proofs.lemmas.List.{drop_all}
+use Rattle.odd_reader.specs.Elements.{children_of, elements_of}
+use Rattle.odd_reader.proofs.AmongChildren.{child_stands}
+use Rattle.odd_reader.proofs.InList.{nothing_stands}
+use Rattle.odd_content.proofs.Parts.{element_first}
+use Rattle.odd_decls.specs.Pending.{HoldsForm, here, inside}
+use Rattle.odd_decls.specs.Reading.{the_around}
+use Rattle.odd_decls.proofs.Finding.{text_first}
+use Rattle.odd_decls.proofs.Holding.{SomeHolds, none_held, none_holds}
 use Rattle.odd_decls.proofs.pending.+is_pending.Goals as goal
 
 pub returns-then-is_form : goal.returns-then-is_form
-returns-then-is_form t c = (λ h. own_form c.args.in_content c.args.tree.now (c.is_form.ensures.0 c.if-is_form.true), λ h. refl)
+returns-then-is_form t c = (λ h. here (c.is_form.ensures.0 c.if-is_form.true), λ h. refl)
 
 pub loop-node-init : goal.loop-node-init
-loop-node-init t c = record {
-  around_is = elim c.if-in_content.branch [
-    | then-in_content w ↦ w.around-is ∙ w.if-in_content.true ∙ sym (or_left _ _ w.if-in_content.true)
-    | else-in_content w ↦ w.around-is ∙ w.is_one_of-around.ensures ∙ ap (λ b. b || is_one_of (codes "content" ∷ []) c.args.tree.now) (sym w.if-in_content.false)
-  ];
-  none = none_first c.if-in_content.around;
-}
+loop-node-init t c = subst (SomeHolds (the_around c.inside-inside.result)) (ap elements_of (sym c.as_slice-node-items.ensures))
+
+pub loop-node-preserved-in_default : goal.loop-node-preserved-in_default
+loop-node-preserved-in_default t c = λ holds.
+    subst (SomeHolds (the_around c.inside-inside.result))
+    (text_first c.as_slice-node-items.result.now c.loop-node.node-index c.node-item.result _ c.loop-node-test.true c.node-item.is c.in_default.is) (c.loop-node.invariant holds)
 
 pub returns-then-is_pending : goal.returns-then-is_pending
-returns-then-is_pending t c =
-    let child = c.in-Element.child in
-    let holds : HoldsForm (around_children c.args.in_content c.args.tree.now) child =
-    subst (λ b. HoldsForm b child) c.loop-node.invariant.around_is (c.is_pending.ensures.0 c.if-is_pending.true) in (
-      λ h. child_form c.args.in_content c.args.tree.now child
-          (child_stands c.as_slice-node-items.result.now _ c.loop-node.node-index c.node-item.result child c.as_slice-node-items.ensures c.loop-node-test.true c.node-item.is c.in-Element.is) holds,
-      λ h. refl,
-    )
+returns-then-is_pending t c = (
+  λ h. inside c.in-Element.child
+      (child_stands c.as_slice-node-items.result.now _ c.loop-node.node-index c.node-item.result c.in-Element.child c.as_slice-node-items.ensures c.loop-node-test.true c.node-item.is c.in-Element.is)
+      (subst (λ a. HoldsForm a c.in-Element.child) c.inside-inside.ensures (c.is_pending.ensures.0 c.if-is_pending.true)),
+  λ h. refl,
+)
 
 pub loop-node-preserved : goal.loop-node-preserved
 loop-node-preserved t c =
-    let around = c.if-in_content.around in
-    let ns = c.as_slice-node-items.result.now in
-    let i = c.loop-node.node-index in
-    let n = c.node-item.result in
-    record {
-      around_is = c.loop-node.invariant.around_is;
-      none = elim c.match-node.branch [
-        | in-Element+else-is_pending w ↦ none_more around ns i n w.in-Element.child c.loop-node-test.true c.node-item.is w.in-Element.is c.loop-node.invariant.none
-            (λ holds. false≢true (sym w.if-is_pending.false ∙ w.is_pending.ensures.1 holds))
-        | in_default w ↦ none_text around ns i n c.loop-node-test.true c.node-item.is (text_shown _ _ w.in_default.is) c.loop-node.invariant.none
-      ];
-    }
+    let first = element_first c.as_slice-node-items.result.now c.loop-node.node-index c.node-item.result c.in-Element.child c.loop-node-test.true c.node-item.is c.in-Element.is in
+    none_holds (the_around c.inside-inside.result) (children_of c.args.tree.now) _ _ c.in-Element.child c.loop-node.invariant first
+    (λ holds. false≢true (sym c.if-is_pending.false ∙ c.is_pending.ensures.1 holds))
 
 pub returns : goal.returns
-returns t c = (
-  λ h. absurd (false≢true h),
-  λ holds. absurd (none_held c.args.in_content c.args.tree.now (λ form. false≢true (sym c.if-is_form.false ∙ c.is_form.ensures.1 form))
-      (none_seen _ _ c.as_slice-node-items.result.now _ c.loop-node.node-index c.loop-node.invariant.around_is c.as_slice-node-items.ensures c.loop-node-test.false c.loop-node.invariant.none) holds),
-)
+returns t c =
+    let done = ap elements_of (drop_all c.loop-node.node-index c.as_slice-node-items.result.now c.loop-node-test.false) in
+    let none : SomeHolds (the_around c.inside-inside.result) (children_of c.args.tree.now) → ⊥ = λ holds.
+    let left = subst (SomeHolds (the_around c.inside-inside.result)) done (c.loop-node.invariant holds) in nothing_stands left.0 left.1
+    in (
+      λ h. absurd (false≢true h),
+      λ holds. absurd (none_held (the_around c.args.around) c.args.tree.now (λ form. false≢true (sym c.if-is_form.false ∙ c.is_form.ensures.1 form))
+          (subst (λ a. SomeHolds a (children_of c.args.tree.now) → ⊥) c.inside-inside.ensures none) holds),
+    )

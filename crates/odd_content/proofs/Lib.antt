@@ -1,0 +1,6 @@
+pub mod Faults
+pub mod OneContent
+pub mod PartKinds
+pub mod Parts
+pub mod Prefixed
+pub mod Sorting

@@ -1,0 +1,131 @@
+-- The words of `except`, sorted into namespaces, names and those with a prefix that is not bound.
+use Rattle.std.proofs.Common.{◌≡◌, ◌↔◌, ℕ, Bool, true, false, List, [], ◌∷◌, ◌++◌, refl, sym, subst, ◌∙◌, ⊎_elim, inl, inr}
+use Rattle.std.specs.Prelude.{IsTrue, codes}
+use Rattle.std.specs.declared.cmp.Ordering.{Ordering}
+use Rattle.odd_base.specs.declared.name.Bind.{Bind}
+use Rattle.odd_base.specs.declared.name.Name.{Name}
+use Rattle.odd_base.specs.NameOrder.{name_cmp}
+use Rattle.odd_base.specs.Text.{text_cmp}
+use Rattle.odd_reader.specs.Elements.{StandsIn}
+use Rattle.odd_reader.specs.declared.tree.Tree.{Tree}
+use Rattle.odd_reader.proofs.InList.{StandsOnce, nothing_stands, once_push, stands_push}
+use Rattle.odd_forms.specs.Sorted.{IsSet}
+use Rattle.odd_content.specs.Excepting.{IsExceptedName, IsExceptedSpace, IsNameOf, IsReadAs, IsSpace, IsUnbound, words_given}
+use Rattle.odd_content.specs.declared.excepted.Excepted.TheVariants as excepted
+use Rattle.odd_content.proofs.Prefixed.{name_bound, one_name}
+
+-- what a word is that is read so
+space_read : (binds : List Bind) (word space : List ℕ) → IsReadAs binds word (excepted.Space space) → (word ≡ space) × IsSpace word
+space_read binds word space (IsReadAs.is_space h) = (refl, h)
+
+name_read : (binds : List Bind) (word : List ℕ) (name : Name) → IsReadAs binds word (excepted.Name name) → IsNameOf binds word name
+name_read binds word name (IsReadAs.is_name n h) = h
+
+unbound_read : (binds : List Bind) (word : List ℕ) → IsReadAs binds word excepted.Unbound → IsUnbound binds word
+unbound_read binds word (IsReadAs.is_unbound h) = h
+
+-- these are all that some words give
+abbrev pub ArePicked : {X : Type 0} → (List ℕ → X → Type 0) → List (List ℕ) → List X → Type 0
+ArePicked {X} Gives words picked = (x : X) → StandsIn picked x ↔ StandsOnce (λ w. Gives w x) words
+
+-- with a word more that gives one
+picked_more : {X : Type 0} (Gives : List ℕ → X → Type 0) (words : List (List ℕ)) (picked : List X) (word : List ℕ) (x : X) → ArePicked Gives words picked → Gives word x
+    → ((y : X) → Gives word y → x ≡ y) → ArePicked Gives (words ++ word ∷ []) (picked ++ x ∷ [])
+picked_more {X} Gives words picked word x before gives once y = (into, back)
+  where
+    into : StandsIn (picked ++ x ∷ []) y → StandsOnce (λ w. Gives w y) (words ++ word ∷ [])
+    into s = (once_push (λ w. Gives w y) words word).1 (⊎_elim (λ h. inl ((before y).0 h)) (λ e. inr (subst (Gives word) e gives)) ((stands_push picked x y).0 s))
+
+    back : StandsOnce (λ w. Gives w y) (words ++ word ∷ []) → StandsIn (picked ++ x ∷ []) y
+    back o = (stands_push picked x y).1 (⊎_elim (λ h. inl ((before y).1 h)) (λ g. inr (once y g)) ((once_push (λ w. Gives w y) words word).0 o))
+
+-- and with one that gives none
+picked_same : {X : Type 0} (Gives : List ℕ → X → Type 0) (words : List (List ℕ)) (picked : List X) (word : List ℕ) → ArePicked Gives words picked → ((y : X) → Gives word y → ⊥)
+    → ArePicked Gives (words ++ word ∷ []) picked
+picked_same Gives words picked word before never y = (
+  λ s. (once_push (λ w. Gives w y) words word).1 (inl ((before y).0 s)),
+  λ o. ⊎_elim (λ h. (before y).1 h) (λ g. absurd (never y g)) ((once_push (λ w. Gives w y) words word).0 o),
+)
+
+-- a word that is a namespace gives itself
+abbrev pub GivesSpace : List ℕ → List ℕ → Type 0
+GivesSpace word space = (word ≡ space) × IsSpace word
+
+-- what some words give
+pub record AreSorted (binds : List Bind) (words spaces : List (List ℕ)) (names : List Name) (has_unbound : Bool) : Type 0 where
+  pub spaces_picked : ArePicked GivesSpace words spaces
+  pub names_picked : ArePicked (IsNameOf binds) words names
+  pub some_unbound : IsTrue has_unbound ↔ StandsOnce (IsUnbound binds) words
+
+-- the same, of what is equal
+pub same_sorted : (binds : List Bind) (words some spaces others : List (List ℕ)) (names more : List Name) (b d : Bool) → some ≡ words → others ≡ spaces → more ≡ names → d ≡ b
+    → AreSorted binds words spaces names b → AreSorted binds some others more d
+same_sorted binds words some spaces others names more b d e f g h all = rw (e, f, g, h) all
+
+-- at first there is no word
+pub none_sorted : (binds : List Bind) → AreSorted binds [] [] [] false
+none_sorted binds = record {
+  spaces_picked = λ x. (λ s. absurd (nothing_stands x s), λ o. absurd (nothing_stands o.0 o.1));
+  names_picked = λ x. (λ s. absurd (nothing_stands x s), λ o. absurd (nothing_stands o.0 o.1));
+  some_unbound = (λ h. cc, λ o. absurd (nothing_stands o.0 o.1));
+}
+
+bound_more : (binds : List Bind) (words : List (List ℕ)) (word : List ℕ) (b : Bool) → (IsTrue b ↔ StandsOnce (IsUnbound binds) words) → (IsUnbound binds word → ⊥)
+    → IsTrue b ↔ StandsOnce (IsUnbound binds) (words ++ word ∷ [])
+bound_more binds words word b before bound = (
+  λ h. (once_push (IsUnbound binds) words word).1 (inl (before.0 h)),
+  λ o. ⊎_elim (λ p. before.1 p) (λ u. absurd (bound u)) ((once_push (IsUnbound binds) words word).0 o),
+)
+
+-- a namespace more
+pub space_sorted : (binds : List Bind) (words spaces : List (List ℕ)) (names : List Name) (b : Bool) (word space : List ℕ) → AreSorted binds words spaces names b
+    → IsReadAs binds word (excepted.Space space) → AreSorted binds (words ++ word ∷ []) (spaces ++ space ∷ []) names b
+space_sorted binds words spaces names b word space before read =
+    let g = space_read binds word space read in
+    record {
+      spaces_picked = picked_more GivesSpace words spaces word space before.spaces_picked g (λ y h. sym g.0 ∙ h.0);
+      names_picked = picked_same (IsNameOf binds) words names word before.names_picked (λ n h. g.1 h.prefix n.local h.prefixed);
+      some_unbound = bound_more binds words word b before.some_unbound (λ u. g.1 u.prefix u.local u.prefixed);
+    }
+
+-- a name more
+pub name_sorted : (binds : List Bind) (words spaces : List (List ℕ)) (names : List Name) (b : Bool) (word : List ℕ) (name : Name) → AreSorted binds words spaces names b
+    → IsReadAs binds word (excepted.Name name) → AreSorted binds (words ++ word ∷ []) spaces (names ++ name ∷ []) b
+name_sorted binds words spaces names b word name before read =
+    let is = name_read binds word name read in
+    record {
+      spaces_picked = picked_same GivesSpace words spaces word before.spaces_picked (λ y g. g.1 is.prefix name.local is.prefixed);
+      names_picked = picked_more (IsNameOf binds) words names word name before.names_picked is (λ n g. one_name binds word name n is g);
+      some_unbound = bound_more binds words word b before.some_unbound (name_bound binds word name is);
+    }
+
+-- a prefix more that is not bound
+pub unbound_sorted : (binds : List Bind) (words spaces : List (List ℕ)) (names : List Name) (b : Bool) (word : List ℕ) → AreSorted binds words spaces names b
+    → IsReadAs binds word excepted.Unbound → AreSorted binds (words ++ word ∷ []) spaces names true
+unbound_sorted binds words spaces names b word before read =
+    let u = unbound_read binds word read in
+    record {
+      spaces_picked = picked_same GivesSpace words spaces word before.spaces_picked (λ y g. g.1 u.prefix u.local u.prefixed);
+      names_picked = picked_same (IsNameOf binds) words names word before.names_picked (λ n g. name_bound binds word n g u);
+      some_unbound = (λ _. (once_push (IsUnbound binds) words word).1 (inr u), λ _. refl);
+    }
+
+-- the set of what is such is that of what is such by other words
+set_same : {A : Type 0} (order : A → A → Ordering) (P Q : A → Type 0) (items : List A) → ((x : A) → P x ↔ Q x) → IsSet order P items → IsSet order Q items
+set_same order P Q items same h = record {
+  rising = h.rising;
+  none_else = λ x s. (same x).0 (h.none_else x s);
+  each = λ x q. h.each x ((same x).1 q);
+}
+
+-- the namespaces and the names of all words, as sets
+pub spaces_set : (binds : List Bind) (t : Tree) (spaces sorted : List (List ℕ)) (names : List Name) (b : Bool) → AreSorted binds (words_given t (codes "except")) spaces names b
+    → IsSet text_cmp (StandsIn spaces) sorted → IsSet text_cmp (IsExceptedSpace t) sorted
+spaces_set binds t spaces sorted names b all = set_same text_cmp (StandsIn spaces) (IsExceptedSpace t) sorted (λ x. (
+  λ s. let o = (all.spaces_picked x).0 s in (subst (StandsIn (words_given t (codes "except"))) o.2.0 o.1, subst IsSpace o.2.0 o.2.1),
+  λ h. (all.spaces_picked x).1 (x, h.0, (refl, h.1)),
+))
+
+pub names_set : (binds : List Bind) (t : Tree) (spaces : List (List ℕ)) (names sorted : List Name) (b : Bool) → AreSorted binds (words_given t (codes "except")) spaces names b
+    → IsSet name_cmp (StandsIn names) sorted → IsSet name_cmp (IsExceptedName binds t) sorted
+names_set binds t spaces names sorted b all = set_same name_cmp (StandsIn names) (IsExceptedName binds t) sorted all.names_picked

@@ -1,0 +1,14 @@
+use Rattle.std.proofs.Common.{Some, ap, ◌∙◌}
+use Rattle.odd_content.specs.Giving.{IsPart}
+use Rattle.odd_content.proofs.PartKinds.{empty_part}
+use Rattle.odd_content.proofs.reading.plain_content.Goals as goal
+
+pub returns-in_ok-key_given-in-ElementRef : goal.returns-in_ok-key_given-in-ElementRef
+returns-in_ok-key_given-in-ElementRef c = λ around. rw (c.in_ok-key_given-in-ElementRef.ensures, c.bounds_given.ensures) (IsPart.element (c.requires.part ∙ ap Some c.in-ElementRef.is))
+
+pub returns-in-TextNode : goal.returns-in-TextNode
+returns-in-TextNode c = λ around. IsPart.text (c.requires.part ∙ ap Some c.in-TextNode.is)
+
+pub returns-in_default : goal.returns-in_default
+returns-in_default c =
+    λ around. IsPart.empty (empty_part c.args.tree.now c.args.part c.requires.part c.requires.flat c.requires.other c.in_default.not-ElementRef c.in_default.not-TextNode)

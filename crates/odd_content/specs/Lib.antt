@@ -1,0 +1,3 @@
+pub mod Breaking
+pub mod Excepting
+pub mod Giving

@@ -1,0 +1,37 @@
+ghost use Rattle.std.specs.Prelude.{IfOk, map};
+ghost use Rattle.odd_reader.specs.Elements.{all_binds};
+ghost use Rattle.odd_content.specs.Excepting.{IsReadAs};
+
+use odd_base::{Name, NoMemory, Text, TryCopy};
+use odd_reader::{Bindings, is_ncname, namespace_of};
+use std::alloc::Global;
+
+/// What a word of `except` names.
+#[derive(Drop)]
+pub enum Excepted {
+    /// A namespace.
+    Space(Text),
+    /// A name whose prefix is bound.
+    Name(Name),
+    /// A name whose prefix is not bound.
+    Unbound,
+}
+
+/// What a word of `except` names under these declarations: a word of the form NCName, colon, NCName is a prefixed name,
+/// and any other is a namespace.
+pub fn read_excepted(alloc: Global, around: &[&Bindings], word: &Text) -> Result<Excepted, NoMemory>
+    ensures { IfOk result (IsReadAs (all_binds (map (λ b. b.now) around.now)) word.now) }
+{
+    let Some((prefix, local)) = word.as_str().split_once(':') else {
+        return Ok(Excepted::Space(word.copy(alloc)?));
+    };
+    let prefix = Text::from_str(alloc, prefix)?;
+    let local = Text::from_str(alloc, local)?;
+    if !is_ncname(&prefix) || !is_ncname(&local) {
+        return Ok(Excepted::Space(word.copy(alloc)?));
+    }
+    match namespace_of(alloc, around, &prefix)? {
+        Some(ns) => Ok(Excepted::Name(Name { ns, local })),
+        None => Ok(Excepted::Unbound),
+    }
+}

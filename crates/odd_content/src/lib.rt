@@ -1,0 +1,10 @@
+//! The content models of an ODD file: what a `content` says, and what breaks its form.
+#![tactic(auto)]
+
+mod condition;
+mod content;
+mod excepted;
+mod reading;
+
+pub use content::{Condition, Content, Contents};
+pub use reading::{ContentRefusal, read_content, read_content_in};

@@ -1,0 +1,66 @@
+-- The items of a `schemaSpec`, read one after the other.
+use Rattle.std.proofs.Common.{◌≡◌, ℕ, List, [], ◌∷◌, ◌++◌, Option, Some, None, sym, ap, subst, ◌∙◌, append_assoc}
+use Rattle.std.specs.BTreeSet.{BTreeSet}
+use Rattle.std.specs.Borrow.{Bor}
+use Rattle.odd_base.specs.declared.name.Bind.{Bind}
+use Rattle.odd_reader.specs.Elements.{children_of, within}
+use Rattle.odd_reader.specs.declared.tree.Tree.{Tree, out-Tree}
+use Rattle.odd_forms.specs.Least.{IsLeast}
+use Rattle.odd_decls.specs.Faults.{HoldsIdents}
+use Rattle.odd_decls.specs.Reading.{AreItemsRead, AreRead, GivesEntry}
+use Rattle.odd_decls.specs.Search.{Found}
+use Rattle.odd_decls.specs.declared.odd.Entry.{Entry}
+use Rattle.odd_decls.specs.declared.reading.ReadItems.TheVariants as items
+use Rattle.odd_decls.proofs.FirstFaults.{NoneOffends, first_broken, none_more, none_offends}
+use Rattle.odd_decls.proofs.ReadAs.{entry_read, none_read, other_read}
+use Rattle.odd_decls.proofs.Repeats.{BreaksAfter, no_idents}
+
+-- the items that were passed without an offence, their idents and their entries, where the rest is still to come
+pub record ItemsSoFar (schema : Tree) (around : List Bind) (rest : List Tree) (idents : BTreeSet (Bor (List ℕ))) (entries : List Entry) : Type 0 where
+  pub passed : List Tree
+  pub parted : children_of schema ≡ passed ++ rest
+  pub none : NoneOffends around passed
+  pub held : HoldsIdents passed idents
+  pub read : (first : Found) → first.schema ≡ schema → within first.around first.schema ≡ around → AreRead first passed entries
+
+-- at first no item was passed
+pub no_items : (schema : Tree) (around : List Bind) (rest : List Tree) (idents : BTreeSet (Bor (List ℕ))) (entries : List Entry) → rest ≡ children_of schema → idents.keys ≡ [] → entries ≡ []
+    → ItemsSoFar schema around rest idents entries
+no_items schema around rest idents entries all empty none = record {
+  passed = [];
+  parted = sym all;
+  none = none_offends around;
+  held = no_idents idents empty;
+  read = λ first is binds. subst (AreRead first []) (sym none) (none_read first);
+}
+
+-- entries, with the one that an item gives
+abbrev pub with_entry : List Entry → Option Entry → List Entry
+with_entry entries None = entries
+with_entry entries (Some e) = entries ++ e ∷ []
+
+-- the entries with one item more
+entry_more : (schema : Tree) (around : List Bind) (first : Found) (passed : List Tree) (entries : List Entry) (item : Tree) (given : Option Entry) → first.schema ≡ schema
+    → within first.around first.schema ≡ around → AreRead first passed entries → GivesEntry schema around item given → AreRead first (passed ++ item ∷ []) (with_entry entries given)
+entry_more schema around first passed entries item None is binds read gives = other_read first passed entries item read gives
+entry_more schema around first passed entries item (Some e) is binds read gives = entry_read first passed entries item e read (gives first is binds)
+
+-- an item is passed
+pub item_passed : (schema : Tree) (around : List Bind) (rest later : List Tree) (idents more : BTreeSet (Bor (List ℕ))) (entries new : List Entry) (item : Tree) (given : Option Entry)
+    → (so_far : ItemsSoFar schema around rest idents entries) → rest ≡ item ∷ later → IsLeast (BreaksAfter around so_far.passed item) None → HoldsIdents (so_far.passed ++ item ∷ []) more
+    → GivesEntry schema around item given → new ≡ with_entry entries given → ItemsSoFar schema around later more new
+item_passed schema around rest later idents more entries new item given so_far is sound held gives e = record {
+  passed = so_far.passed ++ item ∷ [];
+  parted = so_far.parted ∙ ap (λ ts. so_far.passed ++ ts) is ∙ sym (append_assoc so_far.passed (item ∷ []) later);
+  none = none_more around so_far.passed item so_far.none sound;
+  held = held;
+  read = λ first same binds. subst (AreRead first (so_far.passed ++ item ∷ [])) (sym e)
+      (entry_more schema around first so_far.passed entries item given same binds (so_far.read first same binds) gives);
+}
+
+-- an item that breaks a rule gives the first fault
+pub item_broken : (schema : Tree) (around : List Bind) (rest later : List Tree) (idents : BTreeSet (Bor (List ℕ))) (entries : List Entry) (item : Tree) (rule : ℕ)
+    → (so_far : ItemsSoFar schema around rest idents entries) → rest ≡ item ∷ later → IsLeast (BreaksAfter around so_far.passed item) (Some rule)
+    → AreItemsRead schema around (items.Broken (record { at = (out-Tree item).at; rule = rule }))
+item_broken schema around rest later idents entries item rule so_far is least =
+    first_broken around so_far.passed item later (children_of schema) rule (so_far.parted ∙ ap (λ ts. so_far.passed ++ ts) is) so_far.none least

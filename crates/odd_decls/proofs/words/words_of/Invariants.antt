@@ -1,6 +1,0 @@
-use Rattle.std.proofs.Common.{◌≡◌, [], ◌++◌}
-use Rattle.odd_decls.proofs.Spaced.{words_after}
-use Rattle.odd_decls.proofs.words.words_of.Given as goal
-
-abbrev pub invariant-loop-c : goal.invariant-loop-c
-invariant-loop-c l = l.words ++ words_after l.word l.c-iterator.rest.now ≡ words_after [] l.value

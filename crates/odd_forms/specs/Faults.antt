@@ -1,0 +1,52 @@
+-- What an element breaks by its form: rule 1, a needed attribute is absent or one is malformed; 2, a form that is left out; 3, a child that may not
+-- stand there, or what contradicts itself; 4, twice in one place.
+use Rattle.std.specs.Prelude.{◌≡◌, ◌≤◌, ◌<◌, ℕ, true, false, ◌||◌, List, [], ◌∷◌, ◌++◌, find, count_by, Option, Some, None, IsSome, IsTrue}
+use Rattle.odd_reader.specs.Elements.{StandsIn, children_of, given}
+use Rattle.odd_reader.specs.declared.tree.Tree.{Tree}
+use Rattle.odd_forms.specs.Form.{AttributeForm, Demand, Form, Suits, in_order, number_told}
+use Rattle.odd_forms.specs.Names.{is_one_of, is_passed_over, is_relax_ng, is_tei}
+use Rattle.odd_forms.specs.Table.{form_at}
+use Rattle.odd_forms.specs.Words.{is_among}
+use Rattle.odd_forms.specs.declared.element.Element.{Element}
+
+-- the element of the table that an element is, among these
+abbrev pub element_among : List Element → Tree → Option Element
+element_among elements t = find (λ e. is_one_of ((form_at e).name ∷ []) t) elements
+
+-- the element of the table that a child is, where it may stand there
+abbrev pub child_in : Form → Tree → Option Element
+child_in form child = element_among (form.many ++ form.once) child
+
+-- what a value breaks that is given for an attribute
+pub data ValueFault (a : AttributeForm) (value : List ℕ) : ℕ → Type 0 where
+  left_out : IsTrue (is_among a.left_out value) → ValueFault a value 2
+  malformed : is_among a.left_out value ≡ false → (Suits a.kind value → ⊥) → ValueFault a value a.rule
+
+-- what an element breaks by an attribute that it may have
+pub data AttributeFault (a : AttributeForm) (t : Tree) : ℕ → Type 0 where
+  absent : a.needed ≡ true → given t a.local ≡ None → AttributeFault a t 1
+  value : {rule : ℕ} (value : List ℕ) → given t a.local ≡ Some value → ValueFault a value rule → AttributeFault a t rule
+
+-- what it breaks by what must also hold of it
+pub data DemandFault : Demand → Tree → ℕ → Type 0 where
+  out_of_order : {least most : List ℕ} {t : Tree} (m n : ℕ) → number_told (given t least) ≡ Some m → number_told (given t most) ≡ Some n → n < m → DemandFault (in_order least most) t 3
+
+-- what it breaks beside its children
+pub data OwnFault (form : Form) (t : Tree) : ℕ → Type 0 where
+  attribute : {rule : ℕ} (a : AttributeForm) → StandsIn form.attributes a → AttributeFault a t rule → OwnFault form t rule
+  left_out : (local : List ℕ) → StandsIn form.left_out local → IsSome (given t local) → OwnFault form t 2
+  demand : {rule : ℕ} (d : Demand) → StandsIn form.demands d → DemandFault d t rule → OwnFault form t rule
+
+-- What a child breaks by standing there: it is RELAX NG's or left out; or it is neither named nor passed over, and it is TEI's, or nothing else may
+-- stand there.
+pub data ChildFault (form : Form) (child : Tree) : ℕ → Type 0 where
+  relax_ng : is_relax_ng child ≡ true → ChildFault form child 2
+  left_out : is_one_of form.left_out_children child ≡ true → ChildFault form child 2
+  unknown : (form.closed || is_tei child) ≡ true → is_relax_ng child ≡ false → is_one_of form.left_out_children child ≡ false → child_in form child ≡ None
+      → (is_passed_over child || is_one_of form.passed_over child) ≡ false → ChildFault form child 3
+
+-- what an element breaks by its form
+pub data FormFault (form : Form) (t : Tree) : ℕ → Type 0 where
+  own : {rule : ℕ} → OwnFault form t rule → FormFault form t rule
+  child : {rule : ℕ} (child : Tree) → StandsIn (children_of t) child → ChildFault form child rule → FormFault form t rule
+  twice : (e : Element) → StandsIn form.once e → 2 ≤ count_by (is_one_of ((form_at e).name ∷ [])) (children_of t) → FormFault form t 4

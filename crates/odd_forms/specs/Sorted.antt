@@ -1,0 +1,15 @@
+-- Lists in rising order, each item once.
+use Rattle.std.specs.Prelude.{◌≡◌, List, ◌∷◌, ◌++◌}
+use Rattle.std.specs.declared.cmp.Ordering.{Ordering}
+use Rattle.std.specs.declared.cmp.Ordering.TheVariants.{Less}
+use Rattle.odd_reader.specs.Elements.{StandsIn}
+
+-- each item is below the next
+abbrev pub AreRising : {A : Type 0} → (A → A → Ordering) → List A → Type 0
+AreRising {A} order items = (before after : List A) (item next : A) → items ≡ before ++ item ∷ (next ∷ after) → order item next ≡ Less
+
+-- what is such, in rising order, each once, and nothing else
+pub record IsSet {A : Type 0} (order : A → A → Ordering) (Is : A → Type 0) (items : List A) : Type 0 where
+  pub rising : AreRising order items
+  pub none_else : (item : A) → StandsIn items item → Is item
+  pub each : (item : A) → Is item → StandsIn items item

@@ -1,0 +1,65 @@
+-- The form of each element. An attribute that is not listed is passed over, and so is text.
+use Rattle.std.specs.Prelude.{ℕ, true, false, List, [], ◌∷◌, codes}
+use Rattle.odd_forms.specs.Form.{AttributeForm, Demand, Form, Kind, name, names, digits, count, one_of, in_order}
+use Rattle.odd_forms.specs.declared.element.Element.TheVariants as elements
+use Rattle.odd_forms.specs.declared.element.Element.{Element}
+
+-- an attribute that is needed, and one that is not
+abbrev pub needed : List ℕ → Kind → AttributeForm
+needed local kind = record { local = local; needed = true; kind = kind; left_out = []; rule = 1 }
+
+abbrev pub optional : List ℕ → Kind → AttributeForm
+optional local kind = record { local = local; needed = false; kind = kind; left_out = []; rule = 1 }
+
+-- one of the words: one that is left out breaks rule 2, and any other breaks the rule
+abbrev pub word : List ℕ → (words left_out : List (List ℕ)) → ℕ → AttributeForm
+word local words left_out rule = record { local = local; needed = false; kind = one_of words; left_out = left_out; rule = rule }
+
+-- how often a part of a content may stand
+abbrev pub min : AttributeForm
+min = optional (codes "minOccurs") digits
+
+abbrev pub max : AttributeForm
+max = optional (codes "maxOccurs") count
+
+abbrev pub bounds : Demand
+bounds = in_order (codes "minOccurs") (codes "maxOccurs")
+
+-- what a content model is made of
+abbrev pub parts : List Element
+parts = elements.Sequence ∷ elements.Alternate ∷ elements.ElementRef ∷ elements.AnyElement ∷ elements.TextNode ∷ elements.Empty ∷ []
+
+-- with no attributes and no children
+abbrev pub plain : List ℕ → Form
+plain local = record { name = local; attributes = []; left_out = []; many = []; once = []; left_out_children = []; passed_over = []; demands = []; closed = false }
+
+abbrev pub form_at : Element → Form
+form_at elements.SchemaSpec = record (plain (codes "schemaSpec")) {
+  attributes = needed (codes "ident") name ∷ optional (codes "start") names ∷ [];
+  many = elements.ElementSpec ∷ [];
+  left_out_children = codes "constraintSpec" ∷ [];
+  passed_over = codes "altIdent" ∷ [];
+}
+form_at elements.ElementSpec = record (plain (codes "elementSpec")) {
+  attributes = needed (codes "ident") name ∷ optional (codes "module") name ∷ [];
+  left_out = codes "prefix" ∷ codes "source" ∷ [];
+  once = elements.Content ∷ [];
+  left_out_children = codes "constraintSpec" ∷ [];
+}
+form_at elements.Content = record (plain (codes "content")) { many = parts; closed = true }
+form_at elements.Sequence = record (plain (codes "sequence")) {
+  attributes = min ∷ max ∷ word (codes "preserveOrder") (codes "true" ∷ codes "1" ∷ []) (codes "false" ∷ codes "0" ∷ []) 1 ∷ [];
+  many = parts;
+  demands = bounds ∷ [];
+  closed = true;
+}
+form_at elements.Alternate = record (plain (codes "alternate")) { attributes = min ∷ max ∷ []; many = parts; demands = bounds ∷ []; closed = true }
+form_at elements.ElementRef = record (plain (codes "elementRef")) {
+  attributes = needed (codes "key") name ∷ min ∷ max ∷ [];
+  left_out = codes "source" ∷ [];
+  demands = bounds ∷ [];
+  closed = true;
+}
+form_at elements.AnyElement = record (plain (codes "anyElement")) { attributes = min ∷ max ∷ []; demands = bounds ∷ []; closed = true }
+form_at elements.TextNode = record (plain (codes "textNode")) { closed = true }
+form_at elements.Empty = record (plain (codes "empty")) { closed = true }

@@ -1,0 +1,113 @@
+ghost use Rattle.std.specs.Prelude.{◌≡◌, ◌↔◌, IfOk, IsTrue, Some};
+ghost use Rattle.std.specs.Char.{is_ascii_digit};
+ghost use Rattle.std.specs.List.{list_all};
+ghost use Rattle.odd_reader.specs.Elements.{given};
+ghost use Rattle.odd_forms.specs.Faults.{AttributeFault, DemandFault, ValueFault};
+ghost use Rattle.odd_forms.specs.Form.{AreNames, Suits, are_digits as the_are_digits, number_told};
+ghost use Rattle.odd_forms.specs.Least.{IsLeast};
+ghost use Rattle.odd_forms.specs.Seen as seen;
+
+use crate::faults::{LEFT_OUT, MALFORMED, UNKNOWN, fault_where};
+use crate::form::{AttributeForm, Demand, Kind};
+use crate::words::{is_among, words_of};
+use odd_base::{NoMemory, Text};
+use odd_reader::{Tree, attribute, is_ncname};
+use std::alloc::Global;
+
+/// The least rule that an element breaks by an attribute that it may have.
+pub fn attribute_fault(
+    alloc: Global,
+    form: &AttributeForm,
+    tree: &Tree,
+) -> Result<Option<u8>, NoMemory>
+    ensures { IfOk result (IsLeast (AttributeFault (seen.attribute form.now) tree.now)) }
+{
+    match attribute(&tree.attrs, form.local()) {
+        Some(value) => value_fault(alloc, form, value),
+        None => Ok(fault_where(form.is_needed(), MALFORMED)),
+    }
+}
+
+// The least rule that a value breaks that is given for an attribute.
+fn value_fault(alloc: Global, form: &AttributeForm, value: &Text) -> Result<Option<u8>, NoMemory>
+    ensures { IfOk result (IsLeast (ValueFault (seen.attribute form.now) value.now)) }
+{
+    match form {
+        AttributeForm::Needed(_, kind) | AttributeForm::Optional(_, kind) => {
+            Ok(fault_where(!suits(alloc, kind, value)?, MALFORMED))
+        }
+        AttributeForm::Word { left_out, .. } if is_among(left_out, value) => Ok(Some(LEFT_OUT)),
+        AttributeForm::Word { words, rule, .. } => Ok(fault_where(!is_among(words, value), *rule)),
+    }
+}
+
+// Whether a value is of the kind.
+fn suits(alloc: Global, kind: &Kind, value: &Text) -> Result<bool, NoMemory>
+    ensures { IfOk result (λ b. IsTrue b ↔ Suits (seen.kind kind.now) value.now) }
+{
+    match kind {
+        Kind::Name => Ok(is_ncname(value)),
+        Kind::Names => Ok(are_names(words_of(alloc, value.as_str())?.as_slice())),
+        Kind::Digits => Ok(are_digits(value)),
+        Kind::Count => Ok(are_digits(value) || value.as_str() == "unbounded"),
+    }
+}
+
+// Whether these are one or more NCNames.
+fn are_names(words: &[Text]) -> bool
+    ensures { IsTrue result ↔ AreNames words.now }
+{
+    for word in words {
+        if !is_ncname(word) {
+            return false;
+        }
+    }
+    !words.is_empty()
+}
+
+// Whether a value is 1 to 9 digits.
+fn are_digits(value: &Text) -> bool
+    ensures { result ≡ the_are_digits value.now }
+{
+    let bytes = value.as_str().as_bytes();
+    !bytes.is_empty() && bytes.len() <= 9 && are_all_digits(bytes)
+}
+
+// Whether each byte is a digit.
+fn are_all_digits(bytes: &[u8]) -> bool
+    ensures { result ≡ list_all is_ascii_digit bytes.now }
+{
+    bytes.iter().all(|b| b.is_ascii_digit())
+}
+
+/// The number that an attribute tells: 1 where it is absent, and none where it is not 1 to 9 digits.
+pub fn number(tree: &Tree, local: &str) -> Option<u32>
+    ensures { result ≡ number_told (given tree.now local.now) }
+{
+    match attribute(&tree.attrs, local) {
+        Some(value) => number_of(value),
+        None => Some(1),
+    }
+}
+
+// The number that 1 to 9 digits tell.
+fn number_of(value: &Text) -> Option<u32>
+    ensures { result ≡ number_told (Some value.now) }
+{
+    if are_digits(value) {
+        value.as_str().parse::<u32>().ok()
+    } else {
+        None
+    }
+}
+
+/// The rule that an element breaks by what must also hold of it.
+pub fn demand_fault(demand: &Demand, tree: &Tree) -> Option<u8>
+    ensures { IsLeast (DemandFault (seen.demand demand.now) tree.now) result }
+{
+    let Demand::InOrder(least, most) = demand;
+    match (number(tree, least), number(tree, most)) {
+        (Some(m), Some(n)) => fault_where(n < m, UNKNOWN),
+        _ => None,
+    }
+}

@@ -1,0 +1,160 @@
+ghost use Rattle.std.specs.Prelude.{◌≡◌, [], ◌∷◌, count_by, if◌then◌else◌, IfOk, Some, None, map, is_some, nat_le};
+ghost use Rattle.std.specs.List.{list_any};
+ghost use Rattle.odd_reader.specs.Elements.{children_of, given};
+ghost use Rattle.odd_forms.specs.Faults.{AttributeFault, ChildFault, DemandFault, FormFault, OwnFault, child_in, element_among as the_element_among};
+ghost use Rattle.odd_forms.specs.Least.{Among, IsLeast, lesser_rule};
+ghost use Rattle.odd_forms.specs.Names.{is_one_of as the_is_one_of};
+ghost use Rattle.odd_forms.specs.Seen as seen;
+ghost use Rattle.odd_forms.specs.Table.{form_at};
+
+use crate::attributes::{attribute_fault, demand_fault};
+use crate::element::Element;
+use crate::form::{AttributeForm, Demand, Form};
+use crate::names::{is_one_of, is_passed_over, is_relax_ng, is_tei};
+use odd_base::NoMemory;
+use odd_reader::{Tree, attribute, elements};
+use std::alloc::Global;
+
+/// A needed attribute is absent, or one is malformed.
+pub const MALFORMED: u8 = 1;
+/// A form that is left out.
+pub const LEFT_OUT: u8 = 2;
+/// A child that may not stand there, or what contradicts itself.
+pub const UNKNOWN: u8 = 3;
+/// Twice in one place.
+pub const TWICE: u8 = 4;
+
+/// The lesser of two rules, where there are two.
+pub fn lesser(one: Option<u8>, other: Option<u8>) -> Option<u8>
+    ensures { result ≡ lesser_rule one other }
+{
+    match (one, other) {
+        (Some(a), Some(b)) => Some(a.min(b)),
+        (Some(a), None) => Some(a),
+        (None, b) => b,
+    }
+}
+
+/// The rule, where there is a fault.
+pub fn fault_where(is_fault: bool, rule: u8) -> Option<u8>
+    ensures { result ≡ (if is_fault then Some rule else None) }
+{
+    if is_fault { Some(rule) } else { None }
+}
+
+// The least rule that an element breaks by the attributes that it may have.
+fn attributes_fault(
+    alloc: Global,
+    forms: &[AttributeForm],
+    tree: &Tree,
+) -> Result<Option<u8>, NoMemory>
+    ensures { IfOk result (IsLeast (Among (λ a. AttributeFault a tree.now) (map seen.attribute forms.now))) }
+{
+    let mut least = None;
+    for form in forms {
+        least = lesser(least, attribute_fault(alloc, form, tree)?);
+    }
+    Ok(least)
+}
+
+// Whether an element has an attribute whose meaning is left out.
+fn has_left_out(locals: &[&str], tree: &Tree) -> bool
+    ensures { result ≡ list_any (λ l. is_some (given tree.now l.now)) locals.now }
+{
+    locals
+        .iter()
+        .any(|local| attribute(&tree.attrs, local).is_some())
+}
+
+// The least rule that an element breaks by what must also hold of it.
+fn demands_fault(demands: &[Demand], tree: &Tree) -> Option<u8>
+    ensures { IsLeast (Among (λ d. DemandFault d tree.now) (map seen.demand demands.now)) result }
+{
+    let mut least = None;
+    for demand in demands {
+        least = lesser(least, demand_fault(demand, tree));
+    }
+    least
+}
+
+/// The least rule that an element breaks beside its children. NoMemory is answered for want of memory.
+pub fn own_fault(alloc: Global, form: &Form, tree: &Tree) -> Result<Option<u8>, NoMemory>
+    ensures { IfOk result (IsLeast (OwnFault (seen.form form.now) tree.now)) }
+{
+    let attributes = attributes_fault(alloc, form.attributes, tree)?;
+    let left_out = fault_where(has_left_out(form.left_out, tree), LEFT_OUT);
+    let demands = demands_fault(form.demands, tree);
+    Ok(lesser(attributes, lesser(left_out, demands)))
+}
+
+// The element of the table that an element is, among these.
+fn element_among(elements: &[Element], tree: &Tree) -> Option<Element>
+    ensures { result ≡ the_element_among elements.now tree.now }
+{
+    elements
+        .iter()
+        .copied()
+        .find(|element| is_one_of(tree, &[element.form().name]))
+}
+
+/// The element of the table that a child is, where it may stand there.
+pub fn child_of(form: &Form, child: &Tree) -> Option<Element>
+    ensures { result ≡ child_in (seen.form form.now) child.now }
+{
+    element_among(form.many, child).or(element_among(form.once, child))
+}
+
+/// The least rule that a child breaks by standing there.
+pub fn child_fault(form: &Form, child: &Tree) -> Option<u8>
+    ensures { IsLeast (ChildFault (seen.form form.now) child.now) result }
+{
+    if is_relax_ng(child) || is_one_of(child, form.left_out_children) {
+        return Some(LEFT_OUT);
+    }
+    if child_of(form, child).is_some()
+        || is_passed_over(child)
+        || is_one_of(child, form.passed_over)
+    {
+        return None;
+    }
+    fault_where(form.closed || is_tei(child), UNKNOWN)
+}
+
+// The least rule that the children of an element break by standing there.
+fn children_fault(form: &Form, tree: &Tree) -> Option<u8>
+    ensures { IsLeast (Among (ChildFault (seen.form form.now)) (children_of tree.now)) result }
+{
+    let mut least = None;
+    for child in elements(tree) {
+        least = lesser(least, child_fault(form, child));
+    }
+    least
+}
+
+// Whether an element has two children or more of this name.
+fn has_two(local: &str, tree: &Tree) -> bool
+    ensures { result ≡ nat_le 2 (count_by (the_is_one_of (local.now ∷ [])) (children_of tree.now)) }
+{
+    elements(tree)
+        .filter(|child| is_one_of(child, &[local]))
+        .nth(1)
+        .is_some()
+}
+
+// Whether a child that may stand once stands twice.
+fn has_twice(once: &[Element], tree: &Tree) -> bool
+    ensures { result ≡ list_any (λ e. nat_le 2 (count_by (the_is_one_of ((form_at e).name ∷ [])) (children_of tree.now))) once.now }
+{
+    once.iter()
+        .any(|element| has_two(element.form().name, tree))
+}
+
+/// The least rule that an element breaks by its form. NoMemory is answered for want of memory.
+pub fn form_fault(alloc: Global, form: &Form, tree: &Tree) -> Result<Option<u8>, NoMemory>
+    ensures { IfOk result (IsLeast (FormFault (seen.form form.now) tree.now)) }
+{
+    let own = own_fault(alloc, form, tree)?;
+    let children = children_fault(form, tree);
+    let twice = fault_where(has_twice(form.once, tree), TWICE);
+    Ok(lesser(own, lesser(children, twice)))
+}
