@@ -8,13 +8,18 @@ writes files into FOLDER (a new one under /tmp where none is given):
 - an ODD file of 15 MB with 20,000 elementSpec among comments, prose, references and CDATA sections;
 - 14 MB of empty elements, and nothing else;
 - 140 KB with a namespace of 100 KB, which 10,000 elements have;
-- 400,000 elementSpec and nothing else, with their idents rising, falling and shuffled;
+- 333,000 elementSpec and nothing else, with their idents rising, falling and shuffled;
+- 10,000 elementSpec with a content of 30 parts each, in a sequence or an alternate, with bounds of all forms;
+- one elementSpec with a content of 100,000 parts, with the same bounds;
 - a root with 200,000 attributes.
+
+The two files with contents are also made at half their size, for the growth.
 
 Then it runs `PROGRAM compile FILE` and `xmllint --noout FILE` in turn, five times each, and prints the least processor time
 (user and system) in seconds, the greatest memory in MB, how many times the file that is, and how many times xmllint's time
-and memory the program takes. The program compiles the first and the declarations, and answers the others with code 10 or
-2. The last file goes to PROGRAM alone: xmllint compares its attributes in pairs, for many minutes.
+and memory the program takes; where there is a half, also how many times the time and the memory that the half takes. The
+program compiles the first, the declarations and the contents, and answers the others with code 10. The last file goes to
+PROGRAM alone: xmllint compares its attributes in pairs, for many minutes.
 
 GNU time (Debian's package `time`) starts each run and tells its memory: the peak of a program that this interpreter starts
 counts what the interpreter held.
@@ -28,9 +33,23 @@ import tempfile
 SPECS = 20_000
 EMPTY = 3_500_000
 IN_NAMESPACE = 10_000
-DECLARATIONS = 400_000
+DECLARATIONS = 333_000
+MODELS = 10_000
+PARTS_OF_EACH = 30
+PARTS_OF_ONE = 100_000
 ATTRIBUTES = 200_000
 RUNS = 5
+# Small bounds of all forms: a part with them has three elements of the schema on an average.
+BOUNDS = (
+    "",
+    ' minOccurs="0"',
+    ' minOccurs="0" maxOccurs="unbounded"',
+    ' maxOccurs="unbounded"',
+    ' minOccurs="2" maxOccurs="2"',
+    ' maxOccurs="2"',
+    ' minOccurs="2" maxOccurs="unbounded"',
+    ' minOccurs="0" maxOccurs="2"',
+)
 WORDS = "the name of a person, place or thing as it stands in the source".split()
 
 
@@ -69,15 +88,39 @@ def namespace_file():
     return f'<a xmlns="urn:{"x" * 100_000}">' + "<a/>" * IN_NAMESPACE + "</a>\n"
 
 
+def schema_file(specs):
+    return f'<schemaSpec xmlns="http://www.tei-c.org/ns/1.0" ident="s" start="a000000">{"".join(specs)}</schemaSpec>\n'
+
+
 def declarations_file(numbers):
-    specs = "".join(f'<elementSpec ident="a{number:06}"/>\n' for number in numbers)
-    return f'<schemaSpec xmlns="http://www.tei-c.org/ns/1.0" ident="s" start="a000000">{specs}</schemaSpec>\n'
+    return schema_file(f'<elementSpec ident="a{number:06}"/>\n' for number in numbers)
 
 
 def shuffled():
     numbers = list(range(DECLARATIONS))
     random.Random(1).shuffle(numbers)
     return numbers
+
+
+def part(key, number):
+    return f'<elementRef key="a{key:06}"{BOUNDS[number % len(BOUNDS)]}/>\n'
+
+
+def model_spec(number, models):
+    """An element with a content of its own, whose parts are any of so many elements."""
+    kind = ("sequence", "alternate")[number % 2]
+    parts = "".join(part((number * 7919 + index * 31) % models, number + index) for index in range(PARTS_OF_EACH))
+    return f'<elementSpec ident="a{number:06}"><content><{kind}>\n{parts}</{kind}></content></elementSpec>\n'
+
+
+def models_file(models):
+    return schema_file(model_spec(number, models) for number in range(models))
+
+
+def parts_file(count):
+    """One element whose content has so many parts."""
+    parts = "".join(part(0, number) for number in range(count))
+    return schema_file([f'<elementSpec ident="a000000"><content>\n{parts}</content></elementSpec>\n'])
 
 
 def wide_file():
@@ -99,6 +142,7 @@ def run(words):
     return usage.ru_utime + usage.ru_stime, memory / 1024, os.waitstatus_to_exitcode(status)
 
 
+# The name of a file, how it is made, and whether xmllint reads it too. A half stands before its whole.
 FILES = (
     ("large.odd", odd_file, True),
     ("empty.xml", empty_file, True),
@@ -106,8 +150,27 @@ FILES = (
     ("rising.odd", lambda: declarations_file(range(DECLARATIONS)), True),
     ("falling.odd", lambda: declarations_file(reversed(range(DECLARATIONS))), True),
     ("shuffled.odd", lambda: declarations_file(shuffled()), True),
+    ("contents-half.odd", lambda: models_file(MODELS // 2), True),
+    ("contents.odd", lambda: models_file(MODELS), True),
+    ("parts-half.odd", lambda: parts_file(PARTS_OF_ONE // 2), True),
+    ("parts.odd", lambda: parts_file(PARTS_OF_ONE), True),
     ("wide.xml", wide_file, False),
 )
+
+
+def measured(readers):
+    """The least time, the most memory and the exit codes of each reader, over all runs."""
+    runs = [[] for _ in readers]
+    for _ in range(RUNS):
+        for which, words in enumerate(readers):
+            runs[which].append(run(words))
+    for each in runs:
+        seconds, memory, codes = zip(*each)
+        yield min(seconds), max(memory), sorted(set(codes))
+
+
+def compared(title, one, other):
+    print(f"  against {title}: {one[0] / other[0]:.2f} times the time, {one[1] / other[1]:.2f} times the memory")
 
 
 def main():
@@ -119,6 +182,7 @@ def main():
     program = sys.argv[1]
     folder = sys.argv[2] if len(sys.argv) == 3 else tempfile.mkdtemp(prefix="odd-bench-")
     os.makedirs(folder, exist_ok=True)
+    own = {}
     for name, make, beside in FILES:
         path = os.path.join(folder, name)
         with open(path, "w", encoding="utf-8", newline="") as file:
@@ -128,17 +192,15 @@ def main():
         readers = [[program, "compile", path]]
         if beside:
             readers.append(["xmllint", "--huge", "--noout", path])
-        runs = [[] for _ in readers]
-        for _ in range(RUNS):
-            for which, words in enumerate(readers):
-                runs[which].append(run(words))
-        least = [min(r[0] for r in each) for each in runs]
-        most = [max(r[1] for r in each) for each in runs]
-        for words, each, seconds, memory in zip(readers, runs, least, most):
-            codes = sorted({r[2] for r in each})
+        results = list(measured(readers))
+        for words, (seconds, memory, codes) in zip(readers, results):
             print(f"  {os.path.basename(words[0])}: {seconds:.3f} s, {memory:.0f} MB, {memory * 1048576 / size:.1f} times the file, codes {codes}")
         if beside:
-            print(f"  against xmllint: {least[0] / least[1]:.2f} times the time, {most[0] / most[1]:.2f} times the memory")
+            compared("xmllint", *results)
+        own[name] = results[0]
+        half = own.get(name.replace(".", "-half."))
+        if half:
+            compared("the half", results[0], half)
         sys.stdout.flush()
 
 

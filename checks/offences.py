@@ -1,17 +1,19 @@
 #!/usr/bin/env python3
-"""Compares what the program answers to ODD files that were made at random with what docs/odd-files.md says.
+"""Compares what the program answers to ODD files that were made at random with what the documents say of them:
+docs/odd-files.md, docs/content.md and docs/schema.md.
 
     checks/offences.py PROGRAM [COUNT]
 
 PROGRAM is the built program odd, COUNT how many files are made (20,000 where it is not given), from a fixed seed. The
-answer is worked out here, apart from the program: the line on standard error, and where the schema is written the
-element, the namespace and the content of each define. Ends with 1 where one of them differs.
+answer is worked out here, apart from the program: the exit code, the line on standard error, and the whole schema where
+one is written. Ends with 1 where one of them differs. A run has 2 GiB of memory at most, and no file needs as much.
 """
 
 import collections
 import pathlib
 import random
 import re
+import resource
 import subprocess
 import sys
 import tempfile
@@ -19,110 +21,232 @@ import xml.parsers.expat
 
 TEI = "http://www.tei-c.org/ns/1.0"
 RELAX_NG = "http://relaxng.org/ns/structure/1.0"
+DATATYPES = "http://www.w3.org/2001/XMLSchema-datatypes"
+XML = "http://www.w3.org/XML/1998/namespace"
 OTHER = "urn:x"
 PASSED_OVER = set("gloss desc equiv exemplum remarks listRef model modelGrp modelSequence moduleSpec defaultVal".split())
 PENDING = set(
-    "moduleRef elementRef classRef macroRef dataRef classSpec macroSpec dataSpec classes attList altIdent datatype"
-    " valList specGrp specGrpRef".split()
+    "moduleRef classRef macroRef dataRef classSpec macroSpec dataSpec classes attList altIdent datatype valList specGrp"
+    " specGrpRef".split()
 )
-PENDING_IN_CONTENT = {"sequence", "alternate", "anyElement"}
+LEVELS = {"sequence", "alternate"}
+BOUNDED = LEVELS | {"elementRef", "anyElement"}
+PARTS = BOUNDED | {"textNode", "empty"}
+MOST_LEVELS = 60
+MOST_NODES = 1_000_000
+MOST_MEMORY = 2 << 30
 NAME = re.compile(r"[A-Za-z_\u00e9][A-Za-z0-9_.\u00e9-]*\Z")
+DIGITS = re.compile(r"[0-9]{1,9}\Z")
 
-Element = collections.namedtuple("Element", "ns local attrs at inside")
+Answer = collections.namedtuple("Answer", "code note schema")
+Element = collections.namedtuple("Element", "ns local attrs prefixes at inside")
+# An element of a schema: its parts with how often each stands in turn, and how many elements it has.
+Markup = collections.namedtuple("Markup", "tag pairs parts text size")
+
 
 # How a file is made: names with their weights, by what is around.
+
 ANYWHERE = "elementSpec:8 content:3 empty:2 textNode:2 desc:2 exemplum:1 remarks:1 constraintSpec:1 p:1 schemaSpec:1"
+IN_CONTENT = (
+    "elementRef:600 anyElement:180 sequence:260 alternate:260 textNode:160 empty:120 desc:100"
+    " p:2 x:2 rng:2 content:2 constraintSpec:1 elementSpec:1"
+)
+IN_LEAF = "desc:20 p:1 x:1 rng:1 textNode:1 elementRef:1 sequence:1"
 CHILDREN = {
     "schemaSpec": "elementSpec:90 desc:6 p:1 constraintSpec:1 content:1 schemaSpec:1 x:3 rng:1",
-    "elementSpec": "content:40 desc:20 exemplum:9 p:1 constraintSpec:1 elementSpec:1 x:6 rng:1 empty:1",
-    "content": "empty:30 textNode:30 desc:8 p:1 x:1 rng:1 content:1 sequence:1",
-    "empty": "desc:6 p:1 x:1 rng:1",
+    "elementSpec": "desc:400 exemplum:100 x:100 content:12 p:4 constraintSpec:4 elementSpec:3 rng:4 empty:3",
+    **dict.fromkeys(["content", *LEVELS], IN_CONTENT),
+    **dict.fromkeys(["elementRef", "anyElement", "textNode", "empty"], IN_LEAF),
 }
-COUNTS = {"schemaSpec": [0, 2, 4, 6], "elementSpec": [0, 1, 1, 2, 3], "content": [0, *[1] * 20, 2]}
+COUNTS = {
+    "schemaSpec": [0, 2, 4, 6],
+    "elementSpec": [0, 0, 0, 1, 2],
+    "content": [0, 1, 1, 1, 2, 2, 3, 4],
+    **dict.fromkeys(LEVELS, [0, 1, 2, 2, 3, 3, 4]),
+    **dict.fromkeys(["elementRef", "anyElement", "textNode", "empty"], [*[0] * 30, 1]),
+}
+IDENTS = ["a", "b", "TEI", "\u00e9", *(letter + end for letter in "cdefghijklmnoPQRST" for end in ("", "-1", ".2", "_\u00e9", "1", "10"))]
+BAD_NAMES = ["1", "", " a", "a b", "a:b"]
 VALUES = {
-    "ident": [*"abcdefghijklmnopqrstuvwxyz", "TEI", "\u00e9", "1", "", " a", "a b", "a:b"],
+    "ident": [*IDENTS, *BAD_NAMES],
     "start": ["a", "a b", "TEI", " b\n a\t", "b a b", "", " ", "a 1", "a\u00a0b"],
     "module": ["core", "tei", "", "a b"],
-    "ns": [OTHER, "", TEI, 'a"<>&\'b'],
+    "ns": [OTHER, "", TEI, "a\"<>&'b", "a\tb\nc\rd"],
+    "key": [*["a", "b", "TEI"] * 20, *IDENTS, *BAD_NAMES],
+    "preserveOrder": ["true", "1", "false", "0", "", "True", " true"],
     "prefix": ["p"],
     "source": [""],
     "mode": ["add"],
     "rend": ["x"],
+    "minOccurs": ["2", "x"],
+    "maxOccurs": ["0", "unbounded"],
 }
-GOOD = {"ident": 28, "start": 5, "module": 2}
+# Where the front of these ends whose values are good. The others are drawn seldom.
+GOOD = {"ident": -5, "start": 5, "module": 2, "key": -5, "preserveOrder": 2}
+RARE = {"prefix": 0.002, "source": 0.002, "mode": 0.0005, "rend": 0.1}
+LIKELY = {
+    "elementSpec": {"ident": 0.985, "module": 0.3, "ns": 0.2},
+    "schemaSpec": {"ident": 0.985, "start": 0.8, "ns": 0.2},
+    "elementRef": {"key": 0.999},
+    "sequence": {"preserveOrder": 0.1},
+    "alternate": {"preserveOrder": 0.05},
+    "textNode": {"minOccurs": 0.05, "maxOccurs": 0.05},
+    "empty": {"minOccurs": 0.05, "maxOccurs": 0.05},
+}
+BOUNDS = (
+    "-,-:450 0,-:60 1,-:20 -,1:30 -,2:40 -,unbounded:60 0,0:15 0,1:60 1,1:15 0,unbounded:60 1,unbounded:60 0,2:20 1,2:20"
+    " 1,3:15 2,2:20 2,3:15 3,3:15 2,unbounded:20 3,unbounded:10 00,007:5 000000003,000000004:3 0,40:3 25,unbounded:3"
+    " 500,500:1 999999999,unbounded:1 0,999999999:1 2,-:1 -,0:1 3,2:1 1,0:1"
+)
+BAD_BOUNDS = ["", " 1", "1 ", "+1", "-1", "1.0", "x", "1234567890", "unbounded", "UNBOUNDED", "\u0661"]
+# What stands in a condition: namespaces, names, and names whose prefix is bound in few places.
+SPACES = "urn:a:b urn:a:c http://x.org/a urn: a 1:a p:1 x:* : p: :a a\"<>&'b \u00e9 a\u00a0b \ufb00 \U0001d6fc".split(" ") + [TEI]
+NAMES = "p:a p:b q:a q:\u00e9 x:x xml:lang r:text t:p".split()
+SELDOM_BOUND = ["z:a", "urn:x", "xmlns:a"]
+# The content of one element brings a schema near the limit, once it is known how much there is beside it.
+TIMES = "000000002"
+FULL = f'<elementSpec ident="full"><content><elementRef key="full" minOccurs="{TIMES}" maxOccurs="{TIMES}"/></content></elementSpec>'
 
 
 def escaped(value):
-    for character, name in (("&", "&amp;"), ("<", "&lt;"), ('"', "&quot;"), ("\n", "&#10;"), ("\t", "&#9;")):
+    for character, name in (("&", "&amp;"), ("<", "&lt;"), ('"', "&quot;"), ("\n", "&#10;"), ("\t", "&#9;"), ("\r", "&#13;")):
         value = value.replace(character, name)
     return value
 
 
 def chosen(rng, weighted):
-    names = [part.split(":") for part in weighted.split()]
+    names = [part.rsplit(":", 1) for part in weighted.split()]
     return rng.choices([name for name, _ in names], [int(weight) for _, weight in names])[0]
 
 
-def made_attributes(rng, local):
-    likely = {"elementSpec": {"ident": 0.97, "module": 0.3, "ns": 0.2}, "schemaSpec": {"ident": 0.97, "start": 0.8, "ns": 0.2}}
-    rare = {"prefix": 0.01, "source": 0.01, "mode": 0.003, "rend": 0.1}
-    for name, chance in {**likely.get(local, {}), **rare}.items():
+def made_bounds(rng):
+    for name, value in zip(("minOccurs", "maxOccurs"), chosen(rng, BOUNDS).split(",")):
+        if rng.random() < 0.002:
+            value = rng.choice(BAD_BOUNDS)
+        if value != "-":
+            yield f' {name}="{value}"'
+
+
+def made_words(rng):
+    for _ in range(rng.choice([0, 1, 1, 2, 3, 5])):
+        yield rng.choice(rng.choices([SPACES, NAMES, SELDOM_BOUND], [50, 50, 1])[0])
+        yield rng.choice([" ", " ", "\t", "\r\n "])
+
+
+def made_condition(rng):
+    for name, chance in (("require", 0.4), ("except", 0.6)):
         if rng.random() < chance:
-            pool = VALUES[name] if rng.random() < 0.1 else VALUES[name][: GOOD.get(name)]
+            yield f' {name}="{rng.choice(["", "", " "])}{escaped("".join(made_words(rng)))}"'
+
+
+def made_declarations(rng):
+    if rng.random() < 0.03:
+        yield f' xmlns:{rng.choice("pqyzzzz")}="{escaped(rng.choice([OTHER, TEI, *SPACES]))}"'
+    if rng.random() < 0.001:
+        yield f' xmlns="{rng.choice(["", OTHER])}"'
+
+
+def made_attributes(rng, local):
+    for name, chance in {**RARE, **LIKELY.get(local, {})}.items():
+        if rng.random() < chance:
+            pool = VALUES[name] if rng.random() < 0.05 else VALUES[name][: GOOD.get(name)]
             yield f' {rng.choice(["", "", "", "y:"]) if rng.random() < 0.05 else ""}{name}="{escaped(rng.choice(pool))}"'
+    if local in BOUNDED:
+        yield from made_bounds(rng)
+    if local == "anyElement":
+        yield from made_condition(rng)
+    if local != "schemaSpec":
+        yield from made_declarations(rng)
+
+
+def made_chain(rng):
+    """Sequences and alternates in one another, about as many as may stand so, and often a part beside them."""
+    chain = rng.choice([made(rng, "textNode", 0)] * 4 + [made(rng, "elementRef", 0)] * 4 + ["<elementRef/>", "<p/>"])
+    for _ in range(rng.choice([57, 58, 59, 59, 60, 60, 61, 62])):
+        local = rng.choice(sorted(LEVELS))
+        bounds = rng.choice([*[""] * 15, ' minOccurs="0"', ' maxOccurs="unbounded"', ' minOccurs="2" maxOccurs="3"'])
+        beside = made(rng, "elementRef", 0) if rng.random() < 0.05 else ""
+        chain = f"<{local}{bounds}>{chain}{beside}</{local}>"
+    return chain + rng.choice(["", made(rng, "textNode", 0), made(rng, "desc", 0)])
+
+
+def made_children(rng, local, levels):
+    for _ in range(rng.choice(COUNTS.get(local, [0, 1]))):
+        name = chosen(rng, CHILDREN.get(local, ANYWHERE))
+        if rng.random() < 0.001:
+            name = rng.choice(sorted(PENDING | PARTS))
+        yield rng.choice(["", " ", "t", "\u00e9\n"]) + made(rng, name, levels - 1)
+
+
+def made_inside(rng, local, levels):
+    """What stands in an element."""
+    if local == "content" and rng.random() < 0.01:
+        return made_chain(rng)
+    if local == "content" and rng.random() < 0.01:
+        return "".join(made(rng, "anyElement", 0) for _ in range(rng.randrange(8, 40)))
+    inside = ""
+    if local == "schemaSpec":
+        idents = [ident for ident in ("a", "b", "TEI") if rng.random() < 0.8]
+        inside = "".join(f'<elementSpec ident="{ident}">{made_inside(rng, "elementSpec", levels - 1)}</elementSpec>' for ident in idents)
+    if local == "elementSpec" and levels > 0 and rng.random() < 0.8:
+        inside = made(rng, "content", levels - 1)
+    if levels > 0 and local != "rng":
+        inside += "".join(made_children(rng, local, levels))
+    return inside
 
 
 def made(rng, local, levels):
-    if local == "x":
-        tag, opening = "x:x", "x:x"
-    elif local == "rng":
-        tag, opening = "r:text", "r:text"
-    else:
-        tag, opening = local, local
-    inside = "".join(f'<elementSpec ident="{ident}"/>' for ident in ("a", "b", "TEI") if local == "schemaSpec" and rng.random() < 0.8)
-    if levels and local != "rng":
-        for _ in range(rng.choice(COUNTS.get(local, [0, 1]))):
-            around = CHILDREN.get("empty" if local == "textNode" else local, ANYWHERE)
-            name = chosen(rng, around) if rng.random() < 0.995 else rng.choice(sorted(PENDING | PENDING_IN_CONTENT))
-            inside += rng.choice(["", " ", "t", "\u00e9\n"]) + made(rng, name, levels - 1)
+    tag = {"x": "x:x", "rng": "r:text"}.get(local, "t:" + local if rng.random() < 0.03 else local)
     attributes = "".join(made_attributes(rng, local))
-    return f"<{opening}{attributes}>{inside}</{tag}>"
+    return f"<{tag}{attributes}>{made_inside(rng, local, levels)}</{tag}>"
 
 
 def made_file(rng):
-    inner = made(rng, "schemaSpec", 4)
+    inner = made(rng, "schemaSpec", 6)
+    if rng.random() < 0.02:
+        end = inner.rindex("</")
+        inner = inner[:end] + FULL + inner[end:]
     if rng.random() < 0.5:
         before = made(rng, chosen(rng, ANYWHERE), 2) if rng.random() < 0.3 else "<p>prose</p>"
-        around = rng.choice(["p", "desc", "x", "body", "body", "body"])
-        tag = "x:x" if around == "x" else around
+        around = rng.choice(["p", "desc", "x:x", "body", "body", "body"])
         again = made(rng, "schemaSpec", 1) if rng.random() < 0.05 else ""
-        inner = f"<TEI>{before}<{tag}>{inner}</{tag}>{again}</TEI>"
+        inner = f"<TEI>{before}<{around}{''.join(made_declarations(rng))}>{inner}</{around}>{again}</TEI>"
     head = re.match(r"<[^ >]+", inner).group(0)
-    bound = f' xmlns="{TEI}" xmlns:x="{OTHER}" xmlns:r="{RELAX_NG}" xmlns:y="urn:y"'
+    names = {"": TEI, ":t": TEI, ":x": OTHER, ":r": RELAX_NG, ":y": "urn:y", ":p": "urn:a:b", ":q": OTHER}
+    bound = "".join(f' xmlns{prefix}="{ns}"' for prefix, ns in names.items())
     return (head + bound + inner[len(head) :]).encode()
 
 
+def brought_near(rng, data):
+    """The file with so large a number in its element `full` that its schema is about as large as a schema may be."""
+    root = read(data)
+    if TIMES.encode() not in data or answer(root).code:
+        return data
+    times = int(TIMES) + MOST_NODES - grammar_of(next(found(root))).size + rng.choice([-1, 0, 0, 1, 1, 2])
+    return data.replace(TIMES.encode(), f"{times:09}".encode())
+
+
+# How a file is read.
+
+
 def read(data):
-    """The root of the file, with the byte of each start tag."""
-    root, open_elements = [], []
+    """The root of the file, with the byte of each start tag and the prefixes that are in force in it."""
+    root, open_elements, bound = [], [], collections.defaultdict(list, xml=[XML])
     parser = xml.parsers.expat.ParserCreate(namespace_separator="|")
 
     def start(name, attrs):
         ns, _, local = name.rpartition("|")
-        element = Element(ns, local, attrs, parser.CurrentByteIndex, [])
+        prefixes = {prefix: names[-1] for prefix, names in bound.items() if names}
+        element = Element(ns, local, attrs, prefixes, parser.CurrentByteIndex, [])
         (open_elements[-1].inside if open_elements else root).append(element)
         open_elements.append(element)
 
+    parser.StartNamespaceDeclHandler = lambda prefix, ns: bound[prefix].append(ns)
+    parser.EndNamespaceDeclHandler = lambda prefix: bound[prefix].pop()
     parser.StartElementHandler = start
     parser.EndElementHandler = lambda name: open_elements.pop()
     parser.Parse(data, True)
     return root[0]
-
-
-def all_within(element):
-    yield element
-    for child in element.inside:
-        yield from all_within(child)
 
 
 def is_tei(element, *locals):
@@ -138,63 +262,122 @@ def found(element):
             yield from found(child)
 
 
-def is_pending(root):
-    for element in all_within(root):
-        if is_tei(element) and (element.local in PENDING or "mode" in element.attrs):
-            return True
-        if is_tei(element, "content"):
-            if sum(is_tei(child) for child in element.inside) > 1:
-                return True
-            if any(is_tei(inner, *PENDING_IN_CONTENT) for inner in all_within(element) if inner is not element):
-                return True
-    return not any(True for _ in found(root))
+def parts_of(element):
+    return [child for child in element.inside if is_tei(child, *PARTS)]
 
 
-def child_rules(element):
-    """The rules that the children of an element break, where it is read."""
-    named = {"elementSpec": {"content", "constraintSpec"}, "content": {"empty", "textNode"}}.get(element.local, set())
-    for child in element.inside:
-        if child.ns == RELAX_NG or (element.local == "elementSpec" and is_tei(child, "constraintSpec")):
-            yield 2
-        elif is_tei(child):
-            if child.local in named:
-                yield from child_rules(child)
-            elif child.local not in PASSED_OVER:
-                yield 3
-        elif element.local != "elementSpec":
-            yield 3
+def words_of(value):
+    return [word for word in re.split(r"[ \t\r\n]+", value) if word]
+
+
+def start_words(schema):
+    return words_of(schema.attrs.get("start", "TEI"))
 
 
 def is_name(value):
     return value is not None and NAME.match(value) is not None
 
 
-def item_rules(item):
-    if item.ns == RELAX_NG:
-        yield 2
-    if not is_tei(item) or item.local in PASSED_OVER:
-        return
-    if item.local == "constraintSpec":
-        yield 2
-    elif item.local != "elementSpec":
-        yield 3
-    else:
-        if not is_name(item.attrs.get("ident")) or not is_name(item.attrs.get("module", "m")):
-            yield 1
-        if "prefix" in item.attrs or "source" in item.attrs:
+def excepted(part):
+    """What each word of `except` names: a namespace, or a namespace and a local name. An unbound prefix has none."""
+    for word in words_of(part.attrs.get("except", "")):
+        prefix, colon, local = word.partition(":")
+        yield (part.prefixes.get(prefix), local) if colon and is_name(prefix) and is_name(local) else word
+
+
+# What is not read yet, and what is refused.
+
+
+def holds_pending(element, in_content=False):
+    if is_tei(element, *PENDING) or is_tei(element) and "mode" in element.attrs:
+        return True
+    if is_tei(element, "elementRef") and not in_content:
+        return True
+    return any(holds_pending(child, in_content or is_tei(element, "content")) for child in element.inside)
+
+
+def child_rules(element, named):
+    """The rules that children break by standing in an element, where these may stand in it."""
+    is_spec = element.local == "elementSpec"
+    for child in element.inside:
+        if child.ns == RELAX_NG or is_spec and is_tei(child, "constraintSpec"):
             yield 2
-        yield from child_rules(item)
-        if sum(is_tei(child, "content") for child in item.inside) > 1:
-            yield 4
+        elif is_tei(child):
+            if child.local not in named | PASSED_OVER:
+                yield 3
+        elif not is_spec:
+            yield 3
 
 
-def start_words(schema):
-    return re.split(r"[ \t\r\n]+", schema.attrs.get("start", "TEI").strip(" \t\r\n"))
+def bounds_rules(part):
+    least, greatest = (part.attrs.get(name, "1") for name in ("minOccurs", "maxOccurs"))
+    if not DIGITS.match(least) or not DIGITS.match(greatest) and greatest != "unbounded":
+        yield 1
+    if DIGITS.match(least) and DIGITS.match(greatest) and int(greatest) < int(least):
+        yield 3
+
+
+def own_rules(part):
+    """The rules that a part breaks by its attributes, but for its bounds."""
+    if part.local == "elementRef":
+        if not is_name(part.attrs.get("key")):
+            yield 1
+        if "source" in part.attrs:
+            yield 2
+    if part.local == "sequence":
+        order = part.attrs.get("preserveOrder", "true")
+        if order not in ("true", "1"):
+            yield 2 if order in ("false", "0") else 1
+    if part.local == "anyElement" and any(word[0] is None for word in excepted(part)):
+        yield 1
+
+
+def part_rules(part, levels):
+    """The rules that a part breaks, where so many levels may still open."""
+    yield from child_rules(part, PARTS if part.local in LEVELS else set())
+    yield from own_rules(part)
+    if part.local in BOUNDED:
+        yield from bounds_rules(part)
+    if part.local in LEVELS:
+        if levels <= 0:
+            yield 2
+        for inner in parts_of(part):
+            yield from part_rules(inner, levels - 1)
+
+
+def content_rules(content):
+    yield from child_rules(content, PARTS)
+    parts = parts_of(content)
+    for part in parts:
+        yield from part_rules(part, MOST_LEVELS - (len(parts) > 1))
+
+
+def spec_rules(spec):
+    if not is_name(spec.attrs.get("ident")) or not is_name(spec.attrs.get("module", "m")):
+        yield 1
+    if "prefix" in spec.attrs or "source" in spec.attrs:
+        yield 2
+    yield from child_rules(spec, {"content"})
+    contents = [child for child in spec.inside if is_tei(child, "content")]
+    if len(contents) > 1:
+        yield 4
+    for content in contents:
+        yield from content_rules(content)
+
+
+def item_rules(item):
+    if item.ns == RELAX_NG or is_tei(item, "constraintSpec"):
+        yield 2
+    elif is_tei(item, "elementSpec"):
+        yield from spec_rules(item)
+    elif is_tei(item) and item.local not in PASSED_OVER:
+        yield 3
 
 
 def offences(root):
     schema, *others = found(root)
-    if not is_name(schema.attrs.get("ident")) or not all(map(is_name, start_words(schema))):
+    words = start_words(schema)
+    if not is_name(schema.attrs.get("ident")) or not words or not all(map(is_name, words)):
         yield schema.at, 1
     for other in others:
         yield other.at, 4
@@ -208,51 +391,185 @@ def offences(root):
             seen.add(item.attrs["ident"])
 
 
+# The schema of a file without an offence.
+
+
+def markup(tag, parts=(), text="", **pairs):
+    """An element of the schema. Its parts are pairs of how often a part stands and the part."""
+    return Markup(tag, pairs, list(parts), text, 1 + sum(times * part.size for times, part in parts))
+
+
+def once(*parts):
+    return [(1, part) for part in parts]
+
+
+def reference(name):
+    return markup("ref", name=name)
+
+
+def joined(tag, none, parts):
+    """A group or a choice of the parts: of none it is the element `none`, and of one that part."""
+    parts = [(times, part) for times, part in parts if times]
+    if not parts:
+        return markup(none)
+    return parts[0][1] if len(parts) == 1 and parts[0][0] == 1 else markup(tag, parts)
+
+
+def bounds_of(part):
+    """The minimum and the maximum, which is None where there is none."""
+    least, greatest = (part.attrs.get(name, "1") for name in ("minOccurs", "maxOccurs"))
+    return int(least), None if greatest == "unbounded" else int(greatest)
+
+
+def repeated(part, least, greatest):
+    if (least, greatest) == (1, None):
+        return markup("oneOrMore", once(part))
+    if greatest is None:
+        return joined("group", "empty", [(least, part), (1, markup("zeroOrMore", once(part)))])
+    return joined("group", "empty", [(least, part), (greatest - least, markup("optional", once(part)))])
+
+
+def condition_of(part):
+    """The namespaces that are required and those and the names that are excepted, each in order and each once."""
+    words = set(excepted(part))
+    names = {word for word in words if isinstance(word, tuple)}
+    return tuple(tuple(sorted(some)) for some in (set(words_of(part.attrs.get("require", ""))), words - names, names))
+
+
+def conditions_in(element):
+    """The conditions of a content or of a part, at any depth."""
+    if element.local == "anyElement":
+        yield condition_of(element)
+    for part in parts_of(element):
+        yield from conditions_in(part)
+
+
+def pattern_of(part, held, numbers):
+    """The pattern of a part, where these elements are held and the conditions have these numbers."""
+    if part.local == "textNode":
+        return markup("text")
+    if part.local == "empty":
+        return markup("empty")
+    if part.local == "elementRef":
+        key = part.attrs["key"]
+        pattern = reference("e." + key) if key in held else markup("notAllowed")
+    elif part.local == "anyElement":
+        pattern = reference(f"a.{numbers[condition_of(part)]}")
+    else:
+        joint = ("group", "empty") if part.local == "sequence" else ("choice", "notAllowed")
+        pattern = joined(*joint, patterns_of(part, held, numbers))
+    return repeated(pattern, *bounds_of(part))
+
+
+def patterns_of(element, held, numbers):
+    return once(*(pattern_of(part, held, numbers) for part in parts_of(element)))
+
+
+def excepting(tag, parts, **pairs):
+    """A name class with what it leaves out."""
+    return markup(tag, once(markup("except", once(*parts))) if parts else (), **pairs)
+
+
+def names_among(names):
+    return [markup("name", text=local, ns=ns) for ns, local in names]
+
+
+def name_class(require, spaces, names):
+    """The name class of a condition, and None where no name meets it."""
+    if not require:
+        return excepting("anyName", [*(markup("nsName", ns=ns) for ns in spaces), *names_among(names)])
+    left = [ns for ns in require if ns not in spaces]
+    classes = [excepting("nsName", names_among(name for name in names if name[0] == ns), ns=ns) for ns in left]
+    return joined("choice", None, once(*classes)) if classes else None
+
+
+def condition_define(name, condition):
+    names = name_class(*condition)
+    attributes = markup("zeroOrMore", once(markup("attribute", once(markup("anyName")))))
+    inside = markup("zeroOrMore", once(markup("choice", once(markup("text"), reference(name)))))
+    body = markup("element", once(names, attributes, inside)) if names else markup("notAllowed")
+    return markup("define", once(body), name=name)
+
+
+def element_define(schema, spec, held, numbers):
+    ident, ns = spec.attrs["ident"], spec.attrs.get("ns", schema.attrs.get("ns", TEI))
+    contents = [child for child in spec.inside if is_tei(child, "content")]
+    patterns = [pattern for content in contents for pattern in patterns_of(content, held, numbers)]
+    body = markup("element", once(joined("group", "empty", patterns)), name=ident, ns=ns)
+    return markup("define", once(body), name="e." + ident)
+
+
+def specs_of(schema):
+    return {item.attrs["ident"]: item for item in schema.inside if is_tei(item, "elementSpec")}
+
+
+def grammar_of(schema):
+    specs = specs_of(schema)
+    contents = [child for spec in specs.values() for child in spec.inside if is_tei(child, "content")]
+    conditions = sorted({condition for content in contents for condition in conditions_in(content)})
+    numbers = {condition: number for number, condition in enumerate(conditions, 1)}
+    defines = [condition_define(f"a.{number}", condition) for condition, number in numbers.items()]
+    defines += [element_define(schema, spec, specs, numbers) for spec in specs.values()]
+    start = joined("choice", "notAllowed", once(*(reference("e." + word) for word in sorted(set(start_words(schema))))))
+    inside = [markup("start", once(start)), *sorted(defines, key=lambda define: define.pairs["name"])]
+    return markup("grammar", once(*inside), xmlns=RELAX_NG, datatypeLibrary=DATATYPES)
+
+
+def written(element):
+    """The text of an element of the schema."""
+    pairs = "".join(f' {name}="{escaped(value).replace(">", "&gt;")}"' for name, value in element.pairs.items())
+    if element.text:
+        return f"<{element.tag}{pairs}>{element.text}</{element.tag}>\n"
+    inside = "".join(written(part) * times for times, part in element.parts)
+    return f"<{element.tag}{pairs}>\n{inside}</{element.tag}>\n" if inside else f"<{element.tag}{pairs}/>\n"
+
+
 def answer(root):
-    """The line on the note, and the defines: ident, namespace and content of each."""
-    if is_pending(root):
-        return "odd: file 1: not yet\n", None
+    """What the documents say of the file."""
+    schema = next(found(root), None)
+    if schema is None or holds_pending(root):
+        return Answer(10, "odd: file 1: not yet\n", "")
     first = min(offences(root), default=None)
     if first:
-        return f"odd: file 1: byte {first[0]}: rule {first[1]}\n", None
-    schema = next(found(root))
-    specs = {item.attrs["ident"]: item for item in schema.inside if is_tei(item, "elementSpec")}
-    missing = [word for word in start_words(schema) if word not in specs]
+        return Answer(2, f"odd: file 1: byte {first[0]}: rule {first[1]}\n", "")
+    missing = set(start_words(schema)) - set(specs_of(schema))
     if missing:
-        return f"odd: start {min(missing)}: rule 20\n", None
-    defines = []
-    for ident in sorted(specs):
-        spec = specs[ident]
-        texts = any(is_tei(part, "textNode") for content in spec.inside if is_tei(content, "content") for part in content.inside)
-        defines.append((ident, spec.attrs.get("ns", schema.attrs.get("ns", TEI)), "text" if texts else "empty"))
-    return "", defines
+        return Answer(2, f"odd: start {min(missing)}: rule 20\n", "")
+    grammar = grammar_of(schema)
+    if grammar.size > MOST_NODES:
+        return Answer(5, "odd: limit nodes\n", "")
+    return Answer(0, "", '<?xml version="1.0" encoding="UTF-8"?>\n' + written(grammar))
 
 
-def defines_of(schema):
-    grammar = read(schema)
-    for define in grammar.inside:
-        if define.local == "define":
-            (element,) = define.inside
-            (content,) = element.inside
-            yield element.attrs["name"], element.attrs["ns"], content.local
+# The comparison.
+
+# What is looked for in the schemas, to tell how many have it.
+FORMS = [*"<group <choice <optional <zeroOrMore <oneOrMore <notAllowed <nsName <name".split(), 'define name="a.1"', 'define name="a.10"']
+
+
+def shown(text):
+    return text if len(text) < 5000 else f"{text[:5000]} .. of {len(text)} characters"
 
 
 def main(program, count):
-    rng, differing, told = random.Random(9), 0, collections.Counter()
+    resource.setrlimit(resource.RLIMIT_AS, (MOST_MEMORY, MOST_MEMORY))
+    rng, differing, told, forms = random.Random(9), 0, collections.Counter(), collections.Counter()
     with tempfile.TemporaryDirectory() as name:
         path = pathlib.Path(name) / "x.odd"
         for _ in range(count):
-            data = made_file(rng)
+            data = brought_near(rng, made_file(rng))
             path.write_bytes(data)
-            note, defines = answer(read(data))
+            wanted = answer(read(data))
             result = subprocess.run([program, "compile", path], capture_output=True)
-            written = list(defines_of(result.stdout)) if result.stdout else None
-            told[re.sub(r"byte \d+|start \S+", "..", note) or "the schema is written\n"] += 1
-            if result.stderr.decode() != note or written != defines:
+            given = Answer(result.returncode, result.stderr.decode(), result.stdout.decode())
+            told[re.sub(r"byte \d+|start \S+", "..", wanted.note) or "the schema is written\n"] += 1
+            forms.update(form for form in FORMS if form in wanted.schema)
+            if given != wanted:
                 differing += 1
-                print(data.decode(), repr(note), result.stderr.decode(), defines, written, sep="\n", end="\n\n")
+                print(data.decode(), *map(shown, map(str, [*wanted, *given])), sep="\n", end="\n\n")
     for line, number in told.most_common():
         print(number, line, end="")
+    print("schemas with", ", ".join(f"{form}: {forms[form]}" for form in FORMS))
     print(f"{count} files, {differing} that differ")
     return 1 if differing else 0
 

@@ -1,21 +1,33 @@
 -- The grammar of a library accepts what the library admits.
-use Rattle.std.proofs.Common.{◌↔◌, ℕ, List, refl, subst}
+use Rattle.std.proofs.Common.{◌≡◌, ◌↔◌, ℕ, List, [], ◌∷◌, sym, ap, subst, arith}
+use Rattle.odd_reader.specs.Significant.{Marking, depth}
+use Rattle.odd_reader.specs.declared.tree.Node.{Element}
 use Rattle.odd_reader.specs.declared.tree.Tree.{Tree}
 use Rattle.odd_decls.specs.declared.library.Library.{Library}
-use Rattle.odd_meaning.specs.Admission.{Admits, IsValidWithin}
-use Rattle.compile_core.specs.Acceptance.{Accepts, IsAcceptedWithin}
-use Rattle.odd_reader.specs.Significant.{depth}
-use Rattle.compile_core.specs.Compiled.{grammar_of}
-use Rattle.compile_core.specs.Schema.{AreWritten, IsFormed}
-use Rattle.compile_core.proofs.Joining.{joined, one_name}
+use Rattle.odd_meaning.specs.Admission.{Admits}
+use Rattle.rng_patterns.specs.Acceptance.{Accepts, IsAcceptedWithin}
+use Rattle.rng_patterns.specs.Patterns.{IsMatched}
+use Rattle.rng_patterns.specs.declared.grammar.Grammar.{Grammar}
+use Rattle.compile_core.specs.Compiled.{IsGrammarOf, start_pattern}
+use Rattle.compile_core.specs.Contents.{define_name}
+use Rattle.compile_core.specs.Schema.{IsFormed}
+use Rattle.compile_core.proofs.HeldDefines.{hold_elements}
+use Rattle.compile_core.proofs.Joining.{joined}
+use Rattle.compile_core.proofs.Leaves.{accepted_defined}
 use Rattle.compile_core.proofs.StartLaw.{start_law}
 
-pub accepts_admitted : (library : Library) (start : List (List ℕ)) → IsFormed library → AreWritten library → (t : Tree) → Accepts (grammar_of library start) t ↔ Admits library start t
-accepts_admitted library start f w t =
-    let law = start_law (λ u name. IsAcceptedWithin (depth u) (grammar_of library start) u name) start t in (
+-- by the start law for the root, and the joining induction for what is in it
+pub accepts_admitted : (library : Library) (start : List (List ℕ)) (g : Grammar) → IsFormed library → IsGrammarOf library start g
+    → (t : Tree) → Accepts g t ↔ Admits library start t
+accepts_admitted library start g f is t =
+    let counts : Marking (List ℕ) = λ u name. IsAcceptedWithin (depth u) g u name in
+    let starts : g.start ≡ start_pattern start = ap (λ (x : Grammar). x.start) is.grammar_is in
+    let law = start_law g (hold_elements library start g is f) counts start t in
+    let join = joined library start g is f (depth t) t (omega arith) in (
       λ a.
-          let s = law.0 a in
-          let v = (joined library start f w (depth t) t _).1 s.2 in
-          record { word = s.0; among = s.1; valid = subst (IsValidWithin (depth t) library t) (one_name v.0 s.0 v.1) v.2 },
-      λ v. law.1 (v.word, v.among, (joined library start f w (depth t) t _).0 (v.word, refl, v.valid)),
+          let s = law.0 (subst (λ p. IsMatched g counts p (Element t ∷ [])) starts a) in
+          record { word = s.0; among = s.1; valid = (join s.0).1 s.3 },
+      λ v.
+          let accepted = (join v.word).0 v.valid in
+          subst (λ p. IsMatched g counts p (Element t ∷ [])) (sym starts) (law.1 (v.word, v.among, accepted_defined (depth t) g t (define_name v.word) accepted, accepted)),
     )

@@ -1,8 +1,8 @@
 -- What stands in a list that was made from another, and in the entries of a map.
-use Rattle.std.proofs.Common.{◌≡◌, Bool, true, false, List, [], ◌∷◌, filter, map, Some, cond, inl, inr, refl, sym, ap, subst, ◌∙◌}
+use Rattle.std.proofs.Common.{◌≡◌, ◌⊎◌, Bool, true, false, List, [], ◌∷◌, ◌++◌, filter, map, Some, cond, inl, inr, refl, sym, ap, subst, ◌∙◌}
 use Rattle.std.specs.Prelude.{All, IsTrue}
 use Rattle.std.proofs.lemmas.Bool.{and_parts}
-use Rattle.std.proofs.lemmas.List.Elements.{All-nil, All-cons}
+use Rattle.std.proofs.lemmas.List.Elements.{All-nil, All-cons, Contains-append_cases, Contains-append_left, Contains-append_right}
 use Rattle.std.specs.Cmp.{IsTotalOrder, tied_itself}
 use Rattle.std.specs.FinMap.{find, is_sorted}
 use Rattle.std.specs.FinMap.Entries.{below_all}
@@ -10,7 +10,7 @@ use Rattle.std.specs.Ordering.{is_eq, is_lt, ordering_reverse}
 use Rattle.std.specs.declared.cmp.Ordering.{Ordering}
 use Rattle.std.specs.declared.cmp.Ordering.TheVariants.{Less, Equal, Greater}
 use Rattle.odd_reader.specs.Elements.{StandsIn}
-use Rattle.odd_reader.proofs.InList.{first_or_later, nothing_stands, stands_first, stands_later}
+use Rattle.odd_reader.proofs.InList.{contained, first_or_later, nothing_stands, standing, stands_first, stands_later}
 
 pub is_less : (o : Ordering) → IsTrue (is_lt o) → o ≡ Less
 is_less Less h = refl
@@ -31,6 +31,16 @@ map_stands f (w ∷ xs) x s = elim (first_or_later w x xs s) [
   | inl e ↦ rw e (stands_first (f w) (map f xs))
   | inr later ↦ stands_later (f w) (f x) (map f xs) (map_stands f xs x later)
 ]
+
+-- what stands in a list and a list after it stands in one of them
+pub stands_either : {A : Type 0} (xs ys : List A) (x : A) → StandsIn (xs ++ ys) x → StandsIn xs x ⊎ StandsIn ys x
+stands_either xs ys x s = elim (Contains-append_cases xs ys x (contained (xs ++ ys) x s)) [ inl h ↦ inl (standing xs x h) | inr h ↦ inr (standing ys x h) ]
+
+pub stands_left : {A : Type 0} (xs ys : List A) (x : A) → StandsIn xs x → StandsIn (xs ++ ys) x
+stands_left xs ys x s = standing (xs ++ ys) x (Contains-append_left xs ys x (contained xs x s))
+
+pub stands_right : {A : Type 0} (xs ys : List A) (x : A) → StandsIn ys x → StandsIn (xs ++ ys) x
+stands_right xs ys x s = standing (xs ++ ys) x (Contains-append_right xs ys x (contained ys x s))
 
 -- what passes a test is an item
 pub filter_stands : {A : Type 0} (test : A → Bool) (xs : List A) (y : A) → StandsIn (filter test xs) y → StandsIn xs y

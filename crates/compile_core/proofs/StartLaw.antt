@@ -1,63 +1,83 @@
 -- The start of a grammar matches the root where a start word names an element that the root counts for.
-use Rattle.std.proofs.Common.{◌≡◌, ◌↔◌, ℕ, List, [], ◌∷◌, map, refl, sym, subst, ◌∙◌, inl, inr}
+use Rattle.std.proofs.Common.{◌≡◌, ◌↔◌, ℕ, List, [], ◌∷◌, map, inl, inr, refl, sym, subst, ◌∙◌, rules}
 use Rattle.odd_reader.specs.declared.tree.Tree.{Tree}
 use Rattle.odd_reader.specs.declared.tree.Node.{Node, Element}
 use Rattle.odd_reader.specs.Elements.{StandsIn}
 use Rattle.odd_reader.specs.Significant.{Marking}
 use Rattle.odd_reader.proofs.AmongChildren.{element_shown}
 use Rattle.odd_reader.proofs.InList.{first_or_later, nothing_stands, stands_first}
-use Rattle.compile_core.specs.Acceptance.{IsMatched, empty, text, reference, choice}
-use Rattle.compile_core.specs.Compiled.{start_pattern}
-use Rattle.compile_core.specs.Compiled as Compiled
-use Rattle.compile_core.specs.Schema.{define_name}
-use Rattle.compile_core.specs.declared.grammar.Expr.{Expr}
-use Rattle.compile_core.specs.declared.grammar.Expr.TheVariants as expr
-use Rattle.compile_core.proofs.Choices.{same_parts}
+use Rattle.rng_patterns.proofs.Told.{choice_shown, ref_shown, told}
+use Rattle.rng_patterns.specs.Patterns as patterns
+use Rattle.rng_patterns.specs.Patterns.{DefinesElement, IsDefined, IsMatched}
+use Rattle.rng_patterns.specs.declared.grammar.Body.TheVariants as body
+use Rattle.rng_patterns.specs.declared.grammar.Expr as E
+use Rattle.rng_patterns.specs.declared.grammar.Expr.TheOpen as shape
+use Rattle.rng_patterns.specs.declared.grammar.Expr.TheVariants as expr
+use Rattle.rng_patterns.specs.declared.grammar.Expr.{Expr}
+use Rattle.rng_patterns.specs.declared.grammar.Grammar.{Grammar}
+use Rattle.compile_core.specs.Compiled.{reference, start_pattern}
+use Rattle.compile_core.specs.Contents.{define_name}
 use Rattle.compile_core.proofs.Standing.{map_stands, stands_map}
 
+-- equal nodes hold equal elements
 same_element : (t u : Tree) → Element t ∷ [] ≡ Element u ∷ [] → t ≡ u
 same_element t u e =
     let nodes : Element t ≡ Element u = cc in
     let shown : t ∷ [] ≡ u ∷ [] = sym (element_shown (Element t) t refl) ∙ element_shown (Element t) u nodes in
     cc
 
-module _ (counts : Marking (List ℕ)) where
-  nothing_matched : (p : Expr) (children : List Node) → p ≡ expr.NotAllowed → IsMatched counts p children → ⊥
-  nothing_matched p children e empty = cc
-  nothing_matched p children e (text h) = cc
-  nothing_matched p children e (reference h m) = cc
-  nothing_matched p children e (choice f s m) = cc
+-- no name of an element's define is that of a define without an `element`
+abbrev pub HoldElements : Grammar → Type 0
+HoldElements g = (ident : List ℕ) (p : Expr) → IsDefined g (define_name ident) (body.Part p) → ⊥
 
-  reference_matched : (p : Expr) (name : List ℕ) (t : Tree) → p ≡ expr.Ref name → IsMatched counts p (Element t ∷ []) → counts t name
-  reference_matched p name t e (text h) = cc
-  reference_matched p name t e (reference {name = other} {t = u} h m) =
-      let names : other ≡ name = cc in
-      subst (λ x. counts x name) (sym (same_element t u h)) (subst (counts u) names m)
-  reference_matched p name t e (choice f s m) = cc
+module _ (g : Grammar) (hold : HoldElements g) (counts : Marking (List ℕ)) where
+  -- the element counts for the define of a word
+  abbrev IsOf : Tree → List ℕ → Type 0
+  IsOf t word = DefinesElement g (define_name word) × counts t (define_name word)
 
-  choice_matched : (p : Expr) (parts : List Expr) (t : Tree) → p ≡ expr.Choice parts → IsMatched counts p (Element t ∷ []) → (part : Expr) × StandsIn parts part × IsMatched counts part (Element t ∷ [])
-  choice_matched p parts t e (text h) = cc
-  choice_matched p parts t e (reference h m) = cc
-  choice_matched p parts t e (choice {part = part} {parts = others} f s m) = (part, subst (λ ps. StandsIn ps part) (same_parts others parts (sym f ∙ e)) s, m)
+  -- one element that the define holds, and that counts for it
+  pub record IsOneOf (word : List ℕ) (children : List Node) : Type 0 where
+    pub tree : Tree
+    pub alone : children ≡ Element tree ∷ []
+    pub is_of : IsOf tree word
 
+  -- a reference to an element's define matches one element that counts for it
+  pub reference_law : (word : List ℕ) (children : List Node) → IsMatched g counts (reference word) children ↔ IsOneOf word children
+  reference_law word children = (
+    λ m. elim (told g counts (reference word) (shape.Ref (define_name word)) children (ref_shown (define_name word)) m) [
+      | inl one ↦ record { tree = one.0; alone = one.2; is_of = (one.1, one.3) }
+      | inr part ↦ absurd (hold word part.0 part.1)
+    ],
+    λ o. patterns.element o.is_of.0 o.alone o.is_of.1,
+  )
+
+  -- so of one element it tells that
+  reference_one : (word : List ℕ) (t : Tree) → IsMatched g counts (reference word) (Element t ∷ []) → IsOf t word
+  reference_one word t m = let o = (reference_law word (Element t ∷ [])).0 m in subst (λ u. IsOf u word) (sym (same_element t o.tree o.alone)) o.is_of
+
+  -- the element counts for the define of a start word
   abbrev Starts : List (List ℕ) → Tree → Type 0
-  Starts start t = (word : List ℕ) × StandsIn start word × counts t (define_name word)
+  Starts start t = (word : List ℕ) × StandsIn start word × DefinesElement g (define_name word) × counts t (define_name word)
 
-  matched_starts : (start : List (List ℕ)) (t : Tree) → IsMatched counts (start_pattern start) (Element t ∷ []) → Starts start t
-  matched_starts [] t m = absurd (nothing_matched _ _ refl m)
-  matched_starts (w ∷ []) t m = (w, stands_first w [], reference_matched _ (define_name w) t refl m)
+  -- what the start matches counts for a start word
+  matched_starts : (start : List (List ℕ)) (t : Tree) → IsMatched g counts (start_pattern start) (Element t ∷ []) → Starts start t
+  matched_starts [] t m = absurd (told g counts expr.NotAllowed shape.NotAllowed _ (search (rules, E.the_lemmas)) m)
+  matched_starts (w ∷ []) t m = let o = reference_one w t m in (w, stands_first w [], o.0, o.1)
   matched_starts (w ∷ v ∷ ws) t m =
-      let h = choice_matched _ (map Compiled.reference (w ∷ v ∷ ws)) t refl m in
-      let s = stands_map Compiled.reference (w ∷ v ∷ ws) h.0 h.1 in
-      (s.0, s.1, reference_matched h.0 (define_name s.0) t s.2 h.2)
+      let h = told g counts _ (shape.Choice (map reference (w ∷ v ∷ ws))) _ (choice_shown (map reference (w ∷ v ∷ ws))) m in
+      let s = stands_map reference (w ∷ v ∷ ws) h.0 h.1 in
+      let o = reference_one s.0 t (subst (λ p. IsMatched g counts p (Element t ∷ [])) s.2 h.2) in
+      (s.0, s.1, o.0, o.1)
 
-  starts_matched : (start : List (List ℕ)) (t : Tree) → Starts start t → IsMatched counts (start_pattern start) (Element t ∷ [])
+  -- and the other way round
+  starts_matched : (start : List (List ℕ)) (t : Tree) → Starts start t → IsMatched g counts (start_pattern start) (Element t ∷ [])
   starts_matched [] t s = absurd (nothing_stands s.0 s.1)
   starts_matched (w ∷ []) t s = elim (first_or_later w s.0 [] s.1) [
-    | inl e ↦ reference refl (subst (λ x. counts t (define_name x)) e s.2)
+    | inl e ↦ subst (λ x. IsMatched g counts (reference x) (Element t ∷ [])) e (patterns.element s.2 refl s.3)
     | inr later ↦ absurd (nothing_stands s.0 later)
   ]
-  starts_matched (w ∷ v ∷ ws) t s = choice refl (map_stands Compiled.reference (w ∷ v ∷ ws) s.0 s.1) (reference refl s.2)
+  starts_matched (w ∷ v ∷ ws) t s = patterns.choice refl (map_stands reference (w ∷ v ∷ ws) s.0 s.1) (patterns.element s.2 refl s.3)
 
-  pub start_law : (start : List (List ℕ)) (t : Tree) → IsMatched counts (start_pattern start) (Element t ∷ []) ↔ Starts start t
+  -- so the start matches an element that counts for a start word
+  pub start_law : (start : List (List ℕ)) (t : Tree) → IsMatched g counts (start_pattern start) (Element t ∷ []) ↔ Starts start t
   start_law start t = (matched_starts start t, starts_matched start t)

@@ -1,5 +1,8 @@
-pub mod Acceptance
 pub mod Compiled
-pub mod Denoting
-pub mod Grammar
+pub mod ConditionOrder
+pub mod Conditions
+pub mod Contents
+pub mod Counted
+pub mod OrderedBounds
+pub mod Repeating
 pub mod Schema

@@ -1,5 +1,5 @@
--- The schema of a library and a list of start words, written down define by define.
-use Rattle.std.specs.Prelude.{◌≡◌, ◌⊎◌, ℕ, All, List, [], ◌∷◌, ◌++◌, map, Option, Some, None, if◌then◌else◌, codes, IsTrue}
+-- The schema of a library and a list of start words: where there is none, and what is asked of a library.
+use Rattle.std.specs.Prelude.{◌≡◌, ◌<◌, ◌⊎◌, ℕ, All, List, Option, Some, None, if◌then◌else◌, IsTrue}
 use Rattle.std.specs.FinMap.{find, is_sorted}
 use Rattle.std.specs.Ordering.{is_gt}
 use Rattle.odd_base.specs.Key.{key_cmp}
@@ -9,57 +9,21 @@ use Rattle.odd_base.specs.declared.key.Kind.TheVariants as kind
 use Rattle.odd_base.specs.declared.offence.Offence.{Offence}
 use Rattle.odd_base.specs.declared.offence.Who.TheVariants as who
 use Rattle.odd_tokens.specs.Characters.{IsLegal, IsNCName}
-use Rattle.odd_reader.specs.Markup.{Markup, file_printed}
-use Rattle.odd_content.specs.declared.content.Content.{Content, Empty, Text}
-use Rattle.odd_content.specs.declared.content.Content.TheVariants as content
+use Rattle.odd_content.specs.declared.content.Condition.{Condition}
 use Rattle.odd_decls.specs.declared.library.Component.{Component}
 use Rattle.odd_decls.specs.declared.library.Component.TheVariants as component
+use Rattle.odd_decls.specs.declared.library.ElementPart.{ElementPart}
 use Rattle.odd_decls.specs.declared.library.Library.{Library}
 use Rattle.odd_decls.specs.Odd.{element_key}
 use Rattle.odd_reader.specs.Elements.{StandsIn}
+use Rattle.rng_patterns.specs.Nodes.{linked_nodes}
+use Rattle.rng_patterns.specs.declared.grammar.Grammar.{Grammar}
+use Rattle.rng_emit.specs.Nodes.{text_nodes}
+use Rattle.rng_emit.specs.Plain.{IsPlainName}
 use Rattle.std.specs.declared.cmp.Ordering.TheVariants.{Less}
-use Rattle.compile_core.specs.Grammar.{plain, named, element_markup, grammar_markup}
-
--- a choice of none is `notAllowed`, of one is that one
-abbrev pub choice_of : List Markup → Markup
-choice_of [] = plain (codes "notAllowed") []
-choice_of (m ∷ []) = m
-choice_of (m ∷ n ∷ ms) = plain (codes "choice") (m ∷ n ∷ ms)
-
--- the name of an element's define
-abbrev pub define_name : List ℕ → List ℕ
-define_name ident = codes "e." ++ ident
-
-abbrev pub reference_to : List ℕ → Markup
-reference_to ident = named (codes "ref") (define_name ident) []
-
--- the contents whose schema is written so far
-abbrev pub IsWritten : Content → Type 0
-IsWritten c = (c ≡ content.Empty) ⊎ (c ≡ content.Text)
-
-abbrev pub IsWrittenPart : Component → Type 0
-IsWrittenPart (component.Element part) = IsWritten part.content
-
--- the content of each element is written
-abbrev pub AreWritten : Library → Type 0
-AreWritten library = All (λ entry. IsWrittenPart entry.1) library.parts
-
--- of contents that are written; no schema is made of any other
-abbrev pub content_markup : Content → Markup
-content_markup Empty = plain (codes "empty") []
-content_markup Text = plain (codes "text") []
-content_markup _ = plain (codes "notAllowed") []
-
--- the define of an element: its ident, its namespace in documents and its content
-abbrev pub element_define : List ℕ → List ℕ → Content → Markup
-element_define ident ns content = named (codes "define") (define_name ident) (element_markup ident ns (content_markup content) ∷ [])
-
--- the define of a component
-abbrev pub component_define : Key × Component → Markup
-component_define (key, component.Element part) = element_define key.ident part.ns part.content
-
-abbrev pub schema_text : Library → List (List ℕ) → List ℕ
-schema_text library start = file_printed (grammar_markup (choice_of (map reference_to start)) (map component_define library.parts))
+use Rattle.compile_core.specs.Compiled.{IsGrammarOf}
+use Rattle.compile_core.specs.Conditions.{conditions_in}
+use Rattle.compile_core.specs.OrderedBounds.{AreBoundsOrdered}
 
 -- the start word is no held element
 abbrev pub IsMissing : Library → List ℕ → Type 0
@@ -93,11 +57,39 @@ pub record IsStartOffence (library : Library) (start : List (List ℕ)) (offence
   pub who : offence.who ≡ who.Start word
   pub is_least : IsLeastMissing library start word
 
--- a component whose texts are of XML's characters
+-- namespaces of XML's characters, and names that XML can write
+pub record IsFormedCondition (c : Condition) : Type 0 where
+  pub required : All IsLegal c.require
+  pub spaces : All IsLegal c.spaces
+  pub names : All IsPlainName c.names
+
+-- an element whose texts are of XML's characters, and in whose content no minimum is above its maximum
+pub record IsFormedElement (part : ElementPart) : Type 0 where
+  pub legal : IsLegal part.ns
+  pub conditions : All IsFormedCondition (conditions_in part.content)
+  pub ordered : AreBoundsOrdered part.content
+
 abbrev pub IsFormedPart : Component → Type 0
-IsFormedPart (component.Element part) = IsLegal part.ns
+IsFormedPart (component.Element part) = IsFormedElement part
 
 -- A library as files give it: a finite map from keys to components, which are elements so far, and whose idents are names.
 pub record IsFormed (library : Library) : Type 0 where
   pub rising : IsTrue (is_sorted key_cmp library.parts)
   pub formed : (key : Key) (part : Component) → find key_cmp key library.parts ≡ Some part → (key.kind ≡ kind.Element) × IsNCName key.ident × IsFormedPart part
+
+-- a schema may have a million elements in its text, and four million nodes after linking
+abbrev pub IsTooLarge : Grammar → Type 0
+IsTooLarge g = (1000000 < text_nodes g) ⊎ (4000000 < linked_nodes g)
+
+-- the grammar of the library's schema: each start word is held, and no limit is passed
+pub record IsSchema (library : Library) (start : List (List ℕ)) (g : Grammar) : Type 0 where
+  pub holds_start : HoldsStart library start
+  pub is_grammar : IsGrammarOf library start g
+  pub within : IsTooLarge g → ⊥
+
+-- each start word is held, and a limit is passed
+pub record HasLargeSchema (library : Library) (start : List (List ℕ)) : Type 0 where
+  pub holds_start : HoldsStart library start
+  pub grammar : Grammar
+  pub is_grammar : IsGrammarOf library start grammar
+  pub too_large : IsTooLarge grammar

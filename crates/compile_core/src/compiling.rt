@@ -1,18 +1,21 @@
-ghost use Rattle.std.specs.Prelude.{◌≡◌, ◌↔◌, map, IfOk, IsTrue, Some, Err, IsOk};
+ghost use Rattle.std.specs.Prelude.{◌≡◌, ◌↔◌, map, IfOk, Some, Err, IsOk};
 ghost use Rattle.std.specs.Option.{option_copied};
 ghost use Rattle.odd_reader.specs.declared.tree.Tree.{Tree as ATree};
 ghost use Rattle.odd_base.specs.declared.offence.Offence.{Offence as AnOffence};
-ghost use Rattle.compile_core.specs.Acceptance.{Accepts};
 ghost use Rattle.odd_meaning.specs.Admission.{Admits};
-ghost use Rattle.compile_core.specs.Compiled.{content_pattern as the_content_pattern, definition_of, element_definition, grammar_of, reference, start_pattern as the_start_pattern};
-ghost use Rattle.compile_core.specs.Denoting.{DenotesOnly};
-ghost use Rattle.compile_core.specs.Grammar.{grammar_text};
-ghost use Rattle.compile_core.specs.Schema.{AreWritten, HoldsStart, IsFormed, IsLeast, IsStartOffence, IsWrittenPart, define_name, lesser_of, schema_text};
+ghost use Rattle.rng_patterns.specs.Acceptance.{Accepts};
+ghost use Rattle.rng_emit.specs.Plain.{IsPlain};
+ghost use Rattle.compile_core.specs.Compiled.{IsGrammarOf, reference, start_pattern as the_start_pattern};
+ghost use Rattle.compile_core.specs.Schema.{HasLargeSchema, HoldsStart, IsFormed, IsLeast, IsStartOffence, IsTooLarge, lesser_of};
 
-use crate::grammar::{AttrPart, Body, Define, Defines, Expr, Exprs, Grammar, NameClass, Rules};
-use odd_base::{Key, Kind, Name, NoMemory, Offence, Text, TryCopy, Who, Words};
-use odd_content::Content;
-use odd_decls::{Component, ElementPart, Library};
+use crate::conditions::conditions_of;
+use crate::contents::define_name;
+use crate::counting::text_nodes;
+use crate::defines::{add_elements, condition_defines};
+use crate::repeating::choice_pattern;
+use odd_base::{Key, Kind, NoMemory, Offence, Text, TryCopy, Who, Words};
+use odd_decls::Library;
+use rng_patterns::{Expr, Exprs, Grammar};
 use std::alloc::Global;
 
 /// Why a library has no schema.
@@ -20,8 +23,8 @@ use std::alloc::Global;
 pub enum CompileRefusal {
     /// A start word is no held element. The file of the offence is 0.
     Offence(Offence),
-    /// An element has a content whose schema is not written yet.
-    NotYet,
+    /// The schema passes a limit.
+    TooLarge,
     NoMemory,
 }
 
@@ -38,22 +41,26 @@ impl From<NoMemory> for CompileRefusal {
 // The rule that each start word is a held element.
 const START_RULE: u8 = 20;
 
-/// The grammar of a library and a list of start words: a define for each element in order of name, and a start that
-/// refers to the start words (docs/schema.md). It accepts the documents that the library admits, and no other
-/// (docs/admission.md; ISO/IEC 19757-2, section 9).
+// How many elements the text of a schema may have. What is counted after linking is less as long as each reference counts
+// one, so that its own limit of four million is never passed alone.
+const MOST_NODES: u64 = 1_000_000;
+
+/// The grammar of a library and a list of start words: a define for each condition of `anyElement` by its number, one for
+/// each element by its ident, and a start that refers to the start words (docs/schema.md). It accepts the documents that
+/// the library admits, and no other (docs/admission.md; ISO/IEC 19757-2, section 9).
 ///
 /// Offence comes where a start word is no held element, and only there. It names the least of these words in the order
-/// of bytes, and its file is 0. NotYet comes where each is one and an element has a content that is neither empty nor
-/// text. NoMemory is answered for want of memory.
+/// of bytes, and its file is 0. TooLarge comes where each is one and the schema's text has more than 1,000,000 elements or
+/// the grammar more than 4,000,000 nodes after linking; these are counted before a pattern is made of any content.
+/// NoMemory is answered for want of memory.
 pub fn compile(alloc: Global, library: &Library, start: &Words) -> Result<Grammar, CompileRefusal>
-    ensures grammar { IfOk result (λ grammar. grammar ≡ grammar_of library.now start.now) }
-    ensures ok { IfOk result (λ grammar. grammar_text grammar ≡ schema_text library.now start.now) }
-    ensures denotes { IfOk result (λ grammar. IsFormed library.now → DenotesOnly (schema_text library.now start.now) grammar) }
+    ensures grammar { IfOk result (IsGrammarOf library.now start.now) }
+    ensures plain { IfOk result (λ grammar. IsFormed library.now → IsPlain grammar) }
     ensures accepts { IfOk result (λ grammar. IsFormed library.now → (t : ATree) → Accepts grammar t ↔ Admits library.now start.now t) }
     ensures held { IsOk result → HoldsStart library.now start.now }
-    ensures written { IsOk result → AreWritten library.now }
-    ensures not_yet { result ≡ Err CompileRefusal.NotYet → AreWritten library.now → ⊥ }
+    ensures within { IfOk result (λ grammar. IsTooLarge grammar → ⊥) }
     ensures offence { (offence : AnOffence) → result ≡ Err (CompileRefusal.Offence offence) → IsStartOffence library.now start.now offence }
+    ensures too_large { result ≡ Err CompileRefusal.TooLarge → HasLargeSchema library.now start.now }
 {
     if let Some(word) = least_missing(alloc, library, start)? {
         let who = Who::Start(word.copy(alloc)?);
@@ -63,30 +70,14 @@ pub fn compile(alloc: Global, library: &Library, start: &Words) -> Result<Gramma
             rule: START_RULE,
         }));
     }
-    if !are_written(library) {
-        return Err(CompileRefusal::NotYet);
+    let conditions = conditions_of(alloc, library)?;
+    let before = condition_defines(alloc, &conditions)?;
+    if text_nodes(library, start, &before) > MOST_NODES {
+        return Err(CompileRefusal::TooLarge);
     }
     let start = start_pattern(alloc, start)?;
-    let defines = element_defines(alloc, library)?;
+    let defines = add_elements(alloc, before, library, &conditions)?;
     Ok(Grammar { start, defines })
-}
-
-// Whether the content of each element is written.
-fn are_written(library: &Library) -> bool
-    ensures { IsTrue result ↔ AreWritten library.now }
-{
-    library
-        .parts
-        .entries()
-        .iter()
-        .all(|entry| is_written(&entry.1))
-}
-
-fn is_written(component: &Component) -> bool
-    ensures { IsTrue result ↔ IsWrittenPart component.now }
-{
-    let Component::Element(part) = component;
-    matches!(part.content, Content::Empty | Content::Text)
 }
 
 // The least of the start words that are no held element.
@@ -121,24 +112,11 @@ fn lesser<'a>(least: Option<&'a Text>, word: &'a Text) -> Option<&'a Text>
     }
 }
 
-// The name of an element's define.
-fn define_name(alloc: Global, ident: &Text) -> Result<Text, NoMemory>
-    ensures { IfOk result (λ name. name ≡ define_name ident.now) }
-{
-    let mut name = Text::from_str(alloc, "e.")?;
-    name.push_str(ident.as_str())?;
-    Ok(name)
-}
-
 // A choice of references to the start words.
 fn start_pattern(alloc: Global, start: &Words) -> Result<Expr, NoMemory>
     ensures { IfOk result (λ pattern. pattern ≡ the_start_pattern start.now) }
 {
-    match start.as_slice() {
-        [] => Ok(Expr::NotAllowed),
-        [word] => Ok(Expr::Ref(define_name(alloc, word)?)),
-        words => Ok(Expr::Choice(references(alloc, words)?)),
-    }
+    Ok(choice_pattern(references(alloc, start.as_slice())?))
 }
 
 fn references(alloc: Global, words: &[Text]) -> Result<Exprs, NoMemory>
@@ -149,46 +127,4 @@ fn references(alloc: Global, words: &[Text]) -> Result<Exprs, NoMemory>
         refs.push(Expr::Ref(define_name(alloc, word)?))?;
     }
     Ok(refs)
-}
-
-// The defines of the elements, in order of name.
-fn element_defines(alloc: Global, library: &Library) -> Result<Defines, NoMemory>
-    ensures { IfOk result (λ defines. defines ≡ map definition_of library.now.parts) }
-{
-    let mut defines = Defines::new(alloc);
-    for entry in library.parts.entries() {
-        let Component::Element(part) = &entry.1;
-        defines.push(element_define(alloc, &entry.0.ident, part)?)?;
-    }
-    Ok(defines)
-}
-
-fn element_define(alloc: Global, ident: &Text, part: &ElementPart) -> Result<Define, NoMemory>
-    ensures { IfOk result (λ define. define ≡ element_definition ident.now part.now) }
-{
-    let name = define_name(alloc, ident)?;
-    let ns = part.ns.copy(alloc)?;
-    let local = ident.copy(alloc)?;
-    let names = NameClass::One(Name { ns, local });
-    let attrs = AttrPart::Listed(Rules::new(alloc));
-    let content = content_pattern(&part.content);
-    Ok(Define {
-        name,
-        body: Body::Element {
-            names,
-            attrs,
-            content,
-        },
-    })
-}
-
-// The pattern of a content that is written.
-fn content_pattern(content: &Content) -> Expr
-    ensures { result ≡ the_content_pattern content.now }
-{
-    match content {
-        Content::Empty => Expr::Empty,
-        Content::Text => Expr::Text,
-        _ => Expr::NotAllowed,
-    }
 }

@@ -2,11 +2,10 @@
 #![tactic(auto)]
 
 pub mod compiling;
-pub mod grammar;
-pub mod schema;
+pub mod conditions;
+pub mod contents;
+pub mod counting;
+pub mod defines;
+pub mod repeating;
 
 pub use compiling::{CompileRefusal, compile};
-pub use grammar::{
-    AttrPart, AttrRule, Body, Define, Defines, Expr, Exprs, Grammar, NameClass, Rules,
-};
-pub use schema::print_rng;

@@ -17,7 +17,7 @@ use Rattle.odd_forms.specs.Faults.{AttributeFault, ChildFault, FormFault, OwnFau
 use Rattle.odd_forms.specs.Form.{AreNames, AttributeForm}
 use Rattle.odd_forms.specs.Form as form
 use Rattle.odd_forms.specs.Least.{IsLeast}
-use Rattle.odd_forms.specs.Names.{tei, tei_namespace, is_one_of, is_tei, relax_ng_namespace}
+use Rattle.odd_forms.specs.Names.{tei, tei_namespace, is_one_of, relax_ng_namespace}
 use Rattle.odd_forms.specs.Sorted.{AreRising, IsSet}
 use Rattle.odd_forms.specs.Table.{form_at}
 use Rattle.odd_forms.specs.Table as table
@@ -165,38 +165,22 @@ att_list_in_desc = IsPending.form (in_child outermost _ _ (elements_are (part (c
 other_ident : IsPending (element 0 (codes "schemaSpec") [] (part (codes "altIdent") ∷ []))
 other_ident = IsPending.form (in_child outermost _ _ (elements_are (part (codes "altIdent") ∷ [])) (pending.here (pending.attributes refl)))
 
--- a `content` with two elements of TEI's
-two_parts : IsPending (content_with (part (codes "empty") ∷ part (codes "textNode") ∷ []))
-two_parts =
-    IsPending.form (pending.here (pending.several refl
-    (subst (λ ts. 2 ≤ count_by is_tei ts) (sym (elements_are (part (codes "empty") ∷ part (codes "textNode") ∷ []))) (omega arith))))
-
--- an `elementRef` in prose, by the row of references, and in a `content`, by that of the parts of content models
+-- an `elementRef` in prose, by the row of references; the parts of a `content` are read
 reference_in_prose : IsPending (p_with (part (codes "elementRef") ∷ []))
 reference_in_prose = IsPending.form (in_child outermost _ _ (elements_are (part (codes "elementRef") ∷ [])) (pending.here (pending.references refl refl)))
 
-reference_in_content : IsPending (content_with (part (codes "elementRef") ∷ []))
-reference_in_content = IsPending.form (in_child outermost _ _ (elements_are (part (codes "elementRef") ∷ [])) (pending.here (pending.parts refl refl)))
+parts_in_content : HoldsNone outermost (content_with (part (codes "sequence") ∷ []))
+parts_in_content =
+    none_held _ _ (part (codes "sequence") ∷ []) (elements_are (part (codes "sequence") ∷ [])) (plain _ _ refl (λ _. refl)) (none_held _ _ [] refl (plain _ _ refl (λ _. refl)) tt, tt)
 
--- an `anyElement` in a `p` in a `content`
-abbrev any_in_p : Tree
-any_in_p = p_with (part (codes "anyElement") ∷ [])
+-- a `classRef` in a `p` in a `content`, by the row of members
+abbrev class_in_p : Tree
+class_in_p = p_with (part (codes "classRef") ∷ [])
 
-any_in_content : IsPending (content_with (any_in_p ∷ []))
-any_in_content =
-    IsPending.form (in_child outermost _ _ (elements_are (any_in_p ∷ []))
-    (in_child _ _ _ (elements_are (part (codes "anyElement") ∷ [])) (pending.here (pending.parts refl refl))))
-
--- but not in a `p` outside
-any_in_prose : IsPending (element 0 (codes "schemaSpec") [] (any_in_p ∷ [])) → ⊥
-any_in_prose =
-    not_pending _ (alone (element 0 (codes "schemaSpec") [] (any_in_p ∷ []))) [] (found_through [] _ (any_in_p ∷ []) [] (elements_are (any_in_p ∷ [])) refl
-    (found_first [] any_in_p [] (found_through [] any_in_p _ [] (elements_are (part (codes "anyElement") ∷ [])) refl (found_first [] _ [] (found_through [] _ [] [] refl refl search.nothing)))))
-    (none_held _ _ (any_in_p ∷ []) (elements_are (any_in_p ∷ [])) (plain _ _ refl (λ c. cc) (λ c. cc) (λ _. refl)) (
-      none_held _ _ _ (elements_are (part (codes "anyElement") ∷ [])) (plain _ _ refl (λ c. cc) (λ c. cc) (λ _. refl))
-          (none_held _ _ [] refl (plain _ _ refl (λ c. cc) (λ c. cc) (λ _. refl)) tt, tt),
-      tt,
-    ))
+class_in_content : IsPending (content_with (class_in_p ∷ []))
+class_in_content =
+    IsPending.form (in_child outermost _ _ (elements_are (class_in_p ∷ []))
+    (in_child _ _ _ (elements_are (part (codes "classRef") ∷ [])) (pending.here (pending.members refl refl))))
 
 -- a file without a `schemaSpec`
 no_schema_pending : IsPending (element 0 (codes "TEI") [] [])
@@ -216,8 +200,8 @@ foreign_mode = element 0 (codes "schemaSpec") (record { name = record { ns = cod
 foreign_mode_read : IsPending foreign_mode → ⊥
 foreign_mode_read =
     not_pending foreign_mode (alone foreign_mode) [] (found_through [] foreign_mode (foreign_p ∷ []) [] (elements_are (foreign_p ∷ [])) refl (found_first [] _ [] (foreign refl)))
-    (none_held _ _ (foreign_p ∷ []) (elements_are (foreign_p ∷ [])) (plain _ _ refl (λ _. refl) (λ c. cc) (λ _. refl))
-    (none_held _ _ [] refl (plain _ _ refl (λ _. refl) (λ c. cc) (λ c. cc)) tt, tt))
+    (none_held _ _ (foreign_p ∷ []) (elements_are (foreign_p ∷ [])) (plain _ _ refl (λ _. refl))
+    (none_held _ _ [] refl (plain _ _ refl (λ c. cc)) tt, tt))
 
 -- What an `elementSpec` breaks
 
@@ -491,7 +475,7 @@ abbrev bare : Tree
 bare = spec_with 7 []
 
 bare_holds : HoldsNone outermost bare
-bare_holds = none_held _ bare [] refl (plain _ bare refl (λ _. refl) (λ c. cc) (λ _. refl)) tt
+bare_holds = none_held _ bare [] refl (plain _ bare refl (λ _. refl)) tt
 
 bare_gives : GivesContent [] bare None
 bare_gives = GivesContent.none (λ child s is. nothing_stands child s)
@@ -510,10 +494,9 @@ texts_found =
 
 texts_hold : HoldsNone outermost texts
 texts_hold =
-    none_held _ texts (text_content ∷ []) (elements_are _) (plain _ _ refl (λ _. refl) (λ c. cc) (λ _. refl)) (
-      none_held _ text_content (part (codes "textNode") ∷ []) (elements_are _) (plain _ _ refl (λ _. refl)
-          (λ _. subst (λ ts. count_by is_tei ts ≤ 1) (sym (elements_are (part (codes "textNode") ∷ []))) (omega arith)) (λ _. refl))
-          (none_held _ (part (codes "textNode")) [] refl (plain _ _ refl (λ _. refl) (λ c. cc) (λ _. refl)) tt, tt),
+    none_held _ texts (text_content ∷ []) (elements_are _) (plain _ _ refl (λ _. refl)) (
+      none_held _ text_content (part (codes "textNode") ∷ []) (elements_are _) (plain _ _ refl (λ _. refl))
+          (none_held _ (part (codes "textNode")) [] refl (plain _ _ refl (λ _. refl)) tt, tt),
       tt,
     )
 
@@ -541,7 +524,7 @@ described_declares : Declares described (doc_of None)
 described_declares =
     declares (codes "s") (codes "a") described (desc_with [] ∷ bare ∷ []) _ (schema_is_named _) refl (text_first (codes "some words") (nodes (desc_with [] ∷ bare ∷ [])) _ (elements_are _))
     (search.element [] [] (found_through [] (desc_with []) [] [] refl refl search.nothing) (found_first [] bare [] (found_through [] bare [] [] refl refl search.nothing)) refl) refl
-    (none_held _ (desc_with []) [] refl (plain _ _ refl (λ _. refl) (λ c. cc) (λ _. refl)) tt, (bare_holds, tt))
+    (none_held _ (desc_with []) [] refl (plain _ _ refl (λ _. refl)) tt, (bare_holds, tt))
     (desc_sound, (bare_is_sound (codes "a") [] bare (spec_named 7 []) refl, tt))
     (λ one both. few (IsSpecOf one) (bare ∷ []) (omega arith) (twice_later (IsSpecOf one) (desc_with []) (bare ∷ []) (λ is. let no : None ≡ Some elements.ElementSpec = is.0 in cc) both))
     (entry_less (alone described) (desc_with []) (bare ∷ []) _ refl (entry_more (alone described) bare [] _ [] (item_read _ [] None bare_gives) (no_entries _))) (few_rise _ (omega arith))

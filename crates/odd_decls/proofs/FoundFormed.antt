@@ -6,7 +6,7 @@ use Rattle.odd_reader.specs.Formed.{AreFormed, IsFormed}
 use Rattle.odd_reader.specs.Formed as formed
 use Rattle.odd_reader.specs.declared.tree.Node.{Node, Element, Text}
 use Rattle.odd_reader.specs.declared.tree.Tree.{Tree, out-Tree}
-use Rattle.odd_reader.specs.Elements.{StandsIn, elements_of, within}
+use Rattle.odd_reader.specs.Elements.{StandsIn, elements_of}
 use Rattle.odd_decls.specs.Search.{Finds, FindsAmong, Found}
 use Rattle.odd_forms.specs.Names.{is_one_of}
 use Rattle.odd_decls.specs.Search as search

@@ -1,19 +1,16 @@
 -- Where a form that is not read yet stands: the element itself, or a child that holds one.
-use Rattle.std.proofs.Common.{◌≡◌, ℕ, Bool, true, false, not, ◌||◌, ◌&&◌, List, [], ◌∷◌, ◌++◌, take, drop, ◌⊎◌, inl, inr, ⊎_elim, codes, count_by, nat_le, sym, subst, ap, ◌∙◌}
-use Rattle.std.specs.Prelude.{is_some, if◌then◌else◌}
+use Rattle.std.proofs.Common.{◌≡◌, ℕ, Bool, true, not, ◌||◌, ◌&&◌, List, [], ◌∷◌, take, drop, ⊎_elim, codes, sym, subst, ap, ◌∙◌}
+use Rattle.std.specs.Prelude.{is_some}
 use Rattle.std.specs.List.{list_any}
-use Rattle.std.proofs.lemmas.Bool.{and_from, and_parts, false≢true, leb-true, le-leb, not-true, or_cases, or_left, or_right}
+use Rattle.std.proofs.lemmas.Bool.{and_from, and_parts, false≢true, not-true, or_cases, or_left, or_right}
 use Rattle.std.proofs.lemmas.List.{take-append-drop}
 use Rattle.std.proofs.lemmas.List.Folds.{list_any-append}
-use Rattle.odd_base.specs.declared.name.Bind.{Bind}
 use Rattle.odd_reader.specs.declared.tree.Tree.{Tree}
-use Rattle.odd_reader.specs.Elements.{StandsIn, children_of, given, within}
+use Rattle.odd_reader.specs.Elements.{StandsIn, children_of, given}
 use Rattle.odd_decls.specs.Pending.{Around, HoldsForm, IsForm, around_in, here, inside}
 use Rattle.odd_decls.specs.Pending as pending
-use Rattle.odd_decls.specs.Search.{Finds, FindsAmong, Found, foreign, through, nothing, element}
-use Rattle.odd_decls.specs.Search as search
 use Rattle.odd_forms.specs.Names.{is_one_of, is_tei}
-use Rattle.odd_reader.proofs.InList.{StandsOnce, first_or_later, nothing_stands, stands_first, stands_later}
+use Rattle.odd_reader.proofs.InList.{StandsOnce, first_or_later}
 
 -- the names of a row, and whether the row speaks of an element with these around it
 abbrev Row : Type 0
@@ -22,8 +19,7 @@ Row = Bool × List (List ℕ)
 -- the rows of what is not read yet
 abbrev rows : Bool → Around → List Row
 rows outside a =
-    (a.content, codes "sequence" ∷ codes "alternate" ∷ codes "elementRef" ∷ codes "anyElement" ∷ [])
-    ∷ (true, codes "moduleRef" ∷ [])
+    (true, codes "moduleRef" ∷ [])
     ∷ (outside, codes "elementRef" ∷ codes "classRef" ∷ codes "macroRef" ∷ codes "dataRef" ∷ [])
     ∷ (true, codes "classSpec" ∷ codes "macroSpec" ∷ codes "classes" ∷ [])
     ∷ (a.content, codes "classRef" ∷ codes "macroRef" ∷ [])
@@ -54,37 +50,30 @@ row_from outside a t place h =
 -- an element of a row is such a form
 row_form : (outside : Bool) (a : Around) (t : Tree) → outside ≡ not (a.content || a.datatype) → in_row outside a t ≡ true → IsForm a t
 row_form outside a t is =
-    (λ h. let p = and_parts _ _ h in pending.parts p.0 p.1) or_else (λ h. pending.modules h)
+    (λ h. pending.modules h)
     or_else (λ h. let p = and_parts _ _ h in pending.references (not-true _ (sym is ∙ p.0)) p.1) or_else (λ h. pending.classes h)
     or_else (λ h. let p = and_parts _ _ h in pending.members p.0 p.1) or_else (λ h. pending.attributes h) or_else (λ h. pending.datatypes h)
     or_else (λ h. let p = and_parts _ _ h in pending.data_in_content p.0 p.1) or_else (λ h. pending.groups h) or_else (λ none. absurd (false≢true none))
 
--- whether an element of TEI has a `mode`, and whether it is a content with several children of TEI
+-- whether an element of TEI has a `mode`
 abbrev pub has_mode : Tree → Bool
 has_mode t = is_tei t && is_some (given t (codes "mode"))
 
-abbrev pub is_several : Tree → Bool
-is_several t = is_one_of (codes "content" ∷ []) t && nat_le 2 (count_by is_tei (children_of t))
-
 -- an element that passes one of the tests is such a form
-pub test_form : (outside : Bool) (a : Around) (t : Tree) → outside ≡ not (a.content || a.datatype) → ((in_row outside a t || has_mode t) || is_several t) ≡ true → IsForm a t
-test_form outside a t is =
-    (row_form outside a t is or_else (λ h. let p = and_parts _ _ h in pending.modes p.0 p.1))
-    or_else (λ h. let p = and_parts _ _ h in pending.several p.0 (leb-true _ _ p.1))
+pub test_form : (outside : Bool) (a : Around) (t : Tree) → outside ≡ not (a.content || a.datatype) → (in_row outside a t || has_mode t) ≡ true → IsForm a t
+test_form outside a t is = row_form outside a t is or_else (λ h. let p = and_parts _ _ h in pending.modes p.0 p.1)
 
 -- and such a form passes one
-pub form_test : (outside : Bool) (a : Around) (t : Tree) → outside ≡ not (a.content || a.datatype) → IsForm a t → ((in_row outside a t || has_mode t) || is_several t) ≡ true
-form_test outside a t is (pending.parts c h) = or_left _ _ (or_left _ _ (row_from outside a t 0 (or_left _ _ (and_from _ _ c h))))
-form_test outside a t is (pending.several h two) = or_right _ _ (and_from _ _ h (le-leb _ _ two))
-form_test outside a t is (pending.modules h) = or_left _ _ (or_left _ _ (row_from outside a t 1 (or_left _ _ h)))
-form_test outside a t is (pending.references o h) = or_left _ _ (or_left _ _ (row_from outside a t 2 (or_left _ _ (and_from _ _ (is ∙ ap not o) h))))
-form_test outside a t is (pending.modes h some) = or_left _ _ (or_right _ _ (and_from _ _ h some))
-form_test outside a t is (pending.classes h) = or_left _ _ (or_left _ _ (row_from outside a t 3 (or_left _ _ h)))
-form_test outside a t is (pending.members c h) = or_left _ _ (or_left _ _ (row_from outside a t 4 (or_left _ _ (and_from _ _ c h))))
-form_test outside a t is (pending.attributes h) = or_left _ _ (or_left _ _ (row_from outside a t 5 (or_left _ _ h)))
-form_test outside a t is (pending.datatypes h) = or_left _ _ (or_left _ _ (row_from outside a t 6 (or_left _ _ h)))
-form_test outside a t is (pending.data_in_content c h) = or_left _ _ (or_left _ _ (row_from outside a t 7 (or_left _ _ (and_from _ _ c h))))
-form_test outside a t is (pending.groups h) = or_left _ _ (or_left _ _ (row_from outside a t 8 (or_left _ _ h)))
+pub form_test : (outside : Bool) (a : Around) (t : Tree) → outside ≡ not (a.content || a.datatype) → IsForm a t → (in_row outside a t || has_mode t) ≡ true
+form_test outside a t is (pending.modules h) = or_left _ _ (row_from outside a t 0 (or_left _ _ h))
+form_test outside a t is (pending.references o h) = or_left _ _ (row_from outside a t 1 (or_left _ _ (and_from _ _ (is ∙ ap not o) h)))
+form_test outside a t is (pending.modes h some) = or_right _ _ (and_from _ _ h some)
+form_test outside a t is (pending.classes h) = or_left _ _ (row_from outside a t 2 (or_left _ _ h))
+form_test outside a t is (pending.members c h) = or_left _ _ (row_from outside a t 3 (or_left _ _ (and_from _ _ c h)))
+form_test outside a t is (pending.attributes h) = or_left _ _ (row_from outside a t 4 (or_left _ _ h))
+form_test outside a t is (pending.datatypes h) = or_left _ _ (row_from outside a t 5 (or_left _ _ h))
+form_test outside a t is (pending.data_in_content c h) = or_left _ _ (row_from outside a t 6 (or_left _ _ (and_from _ _ c h)))
+form_test outside a t is (pending.groups h) = or_left _ _ (row_from outside a t 7 (or_left _ _ h))
 
 -- some of the elements holds such a form
 abbrev pub SomeHolds : Around → List Tree → Type 0
@@ -100,33 +89,3 @@ none_holds a all rest later t so_far is none holds =
 pub none_held : (a : Around) (t : Tree) → (IsForm a t → ⊥) → (SomeHolds (around_in a t) (children_of t) → ⊥) → HoldsForm a t → ⊥
 none_held a t not_one none (here f) = not_one f
 none_held a t not_one none (inside child s h) = none (child, s, h)
-
--- what stands in one of two lists after each other
-in_either : {A : Type 0} (xs ys : List A) (y : A) → StandsIn (xs ++ ys) y → StandsIn xs y ⊎ StandsIn ys y
-in_either [] ys y s = inr s
-in_either (x ∷ xs) ys y s =
-    ⊎_elim (λ e. inl ([], xs, ap (λ z. z ∷ xs) (sym e))) (λ later. ⊎_elim (λ k. inl (stands_later x y xs k)) inr (in_either xs ys y later)) (first_or_later x y (xs ++ ys) s)
-
--- the `schemaSpec` that stands in the list of an element's own is the element
-own_is : (around : List Bind) (t : Tree) (f : Found) → StandsIn (search.own around t) f → f.schema ≡ t
-own_is around t f = by_name (is_one_of (codes "schemaSpec" ∷ []) t)
-  where
-    by_name : (b : Bool) → StandsIn (if b then (record { around = around; schema = t } ∷ []) else []) f → f.schema ≡ t
-    by_name true s = ⊎_elim (λ e. ap (λ (g : Found). g.schema) e) (λ later. absurd (nothing_stands f later)) (first_or_later _ f [] s)
-    by_name false s = absurd (nothing_stands f s)
-
--- where what the search finds holds such a form, whatever stands around it, so does the element, or one of the elements
-mutual
-  pub held_by_schema : (around : List Bind) (t : Tree) (found : List Found) (f : Found) → Finds around t found → StandsIn found f → ((a : Around) → HoldsForm a f.schema) → (a : Around) → HoldsForm a t
-  held_by_schema around t found f (foreign other) s holds a = absurd (nothing_stands f s)
-  held_by_schema around t found f (through inner tei among is) s holds a = ⊎_elim
-      (λ own. subst (HoldsForm a) (own_is around t f own) (holds a))
-      (λ later. let child = held_among (within around t) (children_of t) inner f among later holds (around_in a t) in inside child.0 child.1 child.2)
-      (in_either (search.own around t) inner f (subst (λ fs. StandsIn fs f) is s))
-
-  held_among : (around : List Bind) (ts : List Tree) (found : List Found) (f : Found) → FindsAmong around ts found → StandsIn found f → ((a : Around) → HoldsForm a f.schema) → (a : Around) → SomeHolds a ts
-  held_among around ts found f nothing s holds a = absurd (nothing_stands f s)
-  held_among around ts found f (element {t = t} {ts = rest} first later one among is) s holds a = ⊎_elim
-      (λ own. (t, stands_first t rest, held_by_schema around t first f one own holds a))
-      (λ after. let u = held_among around rest later f among after holds a in (u.0, stands_later t u.0 rest u.1, u.2))
-      (in_either first later f (subst (λ fs. StandsIn fs f) is s))

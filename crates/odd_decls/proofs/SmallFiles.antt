@@ -138,28 +138,22 @@ none_of words more t all not is =
     let p = and_parts (is_tei t) (is_among words (out-Tree t).name.local) is in
     both_ways _ not (and_from _ _ p.0 (wider words more (out-Tree t).name.local all p.1))
 
--- the names of the rows, and of those that count in a `content` alone
+-- the names of the rows
 abbrev row_names : List (List ℕ)
 row_names = codes "moduleRef" ∷ codes "elementRef" ∷ codes "classRef" ∷ codes "macroRef" ∷ codes "dataRef" ∷ codes "classSpec" ∷ codes "macroSpec" ∷ codes "classes" ∷ codes "attList"
     ∷ codes "altIdent" ∷ codes "dataSpec" ∷ codes "datatype" ∷ codes "valList" ∷ codes "specGrp" ∷ codes "specGrpRef" ∷ []
 
-abbrev part_names : List (List ℕ)
-part_names = codes "sequence" ∷ codes "alternate" ∷ codes "elementRef" ∷ codes "anyElement" ∷ []
-
--- an element of none of them, with one part at most, and without a mode is no form
-pub plain : (a : Around) (t : Tree) → is_one_of row_names t ≡ false → (a.content ≡ true → is_one_of part_names t ≡ false)
-    → (is_one_of (codes "content" ∷ []) t ≡ true → count_by is_tei (children_of t) ≤ 1) → (is_tei t ≡ true → given t (codes "mode") ≡ None) → IsForm a t → ⊥
-plain a t not inside one no_mode (IsForm.parts c is) = both_ways _ (inside c) is
-plain a t not inside one no_mode (IsForm.several is two) = let few = one is in omega (arith, few, two)
-plain a t not inside one no_mode (IsForm.modules is) = none_of (codes "moduleRef" ∷ []) row_names t refl not is
-plain a t not inside one no_mode (IsForm.references out is) = none_of (codes "elementRef" ∷ codes "classRef" ∷ codes "macroRef" ∷ codes "dataRef" ∷ []) row_names t refl not is
-plain a t not inside one no_mode (IsForm.modes is some) = false≢true (subst IsSome (no_mode is) some)
-plain a t not inside one no_mode (IsForm.classes is) = none_of (codes "classSpec" ∷ codes "macroSpec" ∷ codes "classes" ∷ []) row_names t refl not is
-plain a t not inside one no_mode (IsForm.members c is) = none_of (codes "classRef" ∷ codes "macroRef" ∷ []) row_names t refl not is
-plain a t not inside one no_mode (IsForm.attributes is) = none_of (codes "attList" ∷ codes "altIdent" ∷ []) row_names t refl not is
-plain a t not inside one no_mode (IsForm.datatypes is) = none_of (codes "dataSpec" ∷ codes "datatype" ∷ codes "valList" ∷ []) row_names t refl not is
-plain a t not inside one no_mode (IsForm.data_in_content c is) = none_of (codes "dataRef" ∷ []) row_names t refl not is
-plain a t not inside one no_mode (IsForm.groups is) = none_of (codes "specGrp" ∷ codes "specGrpRef" ∷ []) row_names t refl not is
+-- an element of none of them and without a mode is no form
+pub plain : (a : Around) (t : Tree) → is_one_of row_names t ≡ false → (is_tei t ≡ true → given t (codes "mode") ≡ None) → IsForm a t → ⊥
+plain a t not no_mode (IsForm.modules is) = none_of (codes "moduleRef" ∷ []) row_names t refl not is
+plain a t not no_mode (IsForm.references out is) = none_of (codes "elementRef" ∷ codes "classRef" ∷ codes "macroRef" ∷ codes "dataRef" ∷ []) row_names t refl not is
+plain a t not no_mode (IsForm.modes is some) = false≢true (subst IsSome (no_mode is) some)
+plain a t not no_mode (IsForm.classes is) = none_of (codes "classSpec" ∷ codes "macroSpec" ∷ codes "classes" ∷ []) row_names t refl not is
+plain a t not no_mode (IsForm.members c is) = none_of (codes "classRef" ∷ codes "macroRef" ∷ []) row_names t refl not is
+plain a t not no_mode (IsForm.attributes is) = none_of (codes "attList" ∷ codes "altIdent" ∷ []) row_names t refl not is
+plain a t not no_mode (IsForm.datatypes is) = none_of (codes "dataSpec" ∷ codes "datatype" ∷ codes "valList" ∷ []) row_names t refl not is
+plain a t not no_mode (IsForm.data_in_content c is) = none_of (codes "dataRef" ∷ []) row_names t refl not is
+plain a t not no_mode (IsForm.groups is) = none_of (codes "specGrp" ∷ codes "specGrpRef" ∷ []) row_names t refl not is
 
 abbrev pub HoldsNone : Around → Tree → Type 0
 HoldsNone a t = HoldsForm a t → ⊥
@@ -403,4 +397,4 @@ declares word start schema ts entries n one_start are none_found no_mode held so
     is_none names not = by_name (codes "schemaSpec") names schema n.is_schema ∙ not
 
     no_form : IsForm outermost schema → ⊥
-    no_form = plain outermost schema (is_none row_names refl) (λ _. is_none part_names refl) (λ is. absurd (both_ways _ (is_none (codes "content" ∷ []) refl) is)) (λ _. no_mode)
+    no_form = plain outermost schema (is_none row_names refl) (λ _. no_mode)

@@ -1,5 +1,5 @@
 -- Which forms of an ODD file are not read yet. Elements are TEI's, and may stand anywhere in the file.
-use Rattle.std.specs.Prelude.{◌≡◌, ◌≤◌, Bool, true, false, ◌||◌, [], ◌∷◌, count_by, IsSome, codes, IsTrue}
+use Rattle.std.specs.Prelude.{◌≡◌, Bool, true, false, ◌||◌, [], ◌∷◌, IsSome, codes, IsTrue}
 use Rattle.odd_reader.specs.Elements.{StandsIn, children_of, given}
 use Rattle.odd_reader.specs.declared.tree.Tree.{Tree}
 use Rattle.odd_forms.specs.Names.{is_one_of, is_tei}
@@ -19,9 +19,6 @@ around_in a t = record { content = a.content || is_one_of (codes "content" ∷ [
 
 -- An element that is not read yet, one sentence for each row.
 pub data IsForm (a : Around) (t : Tree) : Type 0 where
-  -- the parts of content models
-  parts : a.content ≡ true → IsTrue (is_one_of (codes "sequence" ∷ codes "alternate" ∷ codes "elementRef" ∷ codes "anyElement" ∷ []) t) → IsForm a t
-  several : IsTrue (is_one_of (codes "content" ∷ []) t) → 2 ≤ count_by is_tei (children_of t) → IsForm a t
   -- references, modules and modes
   modules : IsTrue (is_one_of (codes "moduleRef" ∷ []) t) → IsForm a t
   references : (a.content || a.datatype) ≡ false → IsTrue (is_one_of (codes "elementRef" ∷ codes "classRef" ∷ codes "macroRef" ∷ codes "dataRef" ∷ []) t) → IsForm a t

@@ -1,12 +1,12 @@
-ghost use Rattle.std.specs.Prelude.{◌≡◌, ◌↔◌, ◌&&◌, [], ◌∷◌, codes, count_by, is_some, map, nat_le, IsTrue};
+ghost use Rattle.std.specs.Prelude.{◌≡◌, ◌↔◌, ◌&&◌, codes, is_some, map, IsTrue};
 ghost use Rattle.std.specs.List.{list_any};
 ghost use Rattle.odd_forms.specs.Names.{is_one_of as the_is_one_of, is_tei as the_is_tei};
-ghost use Rattle.odd_reader.specs.Elements.{children_of, given};
+ghost use Rattle.odd_reader.specs.Elements.{given};
 ghost use Rattle.odd_decls.specs.Pending.{HoldsForm, IsForm, around_in};
 ghost use Rattle.odd_decls.specs.Reading.{the_around};
 
 use odd_forms::{is_one_of, is_tei};
-use odd_reader::{Node, Tree, attribute, elements};
+use odd_reader::{Node, Tree, attribute};
 
 /// Which elements stand around an element.
 #[derive(Clone, Copy)]
@@ -52,11 +52,7 @@ fn is_form(tree: &Tree, around: Around) -> bool
 {
     let outside = !(around.content || around.datatype);
     // whether a row speaks of an element that stands here, and its names
-    let rows: [(bool, &[&str]); 9] = [
-        (
-            around.content,
-            &["sequence", "alternate", "elementRef", "anyElement"],
-        ),
+    let rows: [(bool, &[&str]); 8] = [
         (true, &["moduleRef"]),
         (outside, &["elementRef", "classRef", "macroRef", "dataRef"]),
         (true, &["classSpec", "macroSpec", "classes"]),
@@ -66,7 +62,7 @@ fn is_form(tree: &Tree, around: Around) -> bool
         (around.content, &["dataRef"]),
         (true, &["specGrp", "specGrpRef"]),
     ];
-    is_in_row(&rows, tree) || has_mode(tree) || is_several(tree)
+    is_in_row(&rows, tree) || has_mode(tree)
 }
 
 // Whether an element is one of a row that speaks of it where it stands.
@@ -81,21 +77,4 @@ fn has_mode(tree: &Tree) -> bool
     ensures { result ≡ (the_is_tei tree.now && is_some (given tree.now (codes "mode"))) }
 {
     is_tei(tree) && attribute(&tree.attrs, "mode").is_some()
-}
-
-// Whether an element is a content with several children of TEI.
-fn is_several(tree: &Tree) -> bool
-    ensures { result ≡ (the_is_one_of (codes "content" ∷ []) tree.now && nat_le 2 (count_by the_is_tei (children_of tree.now))) }
-{
-    is_one_of(tree, &["content"]) && has_two(tree)
-}
-
-// Whether an element has two children of TEI or more.
-fn has_two(tree: &Tree) -> bool
-    ensures { result ≡ nat_le 2 (count_by the_is_tei (children_of tree.now)) }
-{
-    elements(tree)
-        .filter(|child| is_tei(child))
-        .nth(1)
-        .is_some()
 }

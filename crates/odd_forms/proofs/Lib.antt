@@ -6,3 +6,4 @@ pub mod Numbers
 pub mod OneSet
 pub mod SortedItems
 pub mod Spaced
+pub mod WordsLegal

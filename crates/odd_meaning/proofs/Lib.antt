@@ -1,2 +1,6 @@
+pub mod AdmissionExamples
+pub mod ConditionExamples
+pub mod ExampleTrees
 pub mod Examples
 pub mod Rows
+pub mod ValidityExamples

@@ -63,7 +63,7 @@ last_legal (b ∷ bs) prefix ns l e =
     ] refl
 
 -- what is in force is the namespace of xml or that of the last binding
-in_force_legal : (binds : List Bind) (prefix ns : List ℕ) → BindLegally binds → in_force binds prefix ≡ Some ns → IsLegal ns
+pub in_force_legal : (binds : List Bind) (prefix ns : List ℕ) → BindLegally binds → in_force binds prefix ≡ Some ns → IsLegal ns
 in_force_legal binds prefix ns l e = either_legal (is_same prefix (codes "xml")) xml_namespace (last_bound binds prefix) ns xml_legal (last_legal binds prefix ns l) e
 
 -- the default namespace, or none

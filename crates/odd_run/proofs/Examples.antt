@@ -1,7 +1,7 @@
 -- Small checks of what the definitions of this crate say: where they hold, and where they do not.
-use Rattle.std.proofs.Common.{◌≡◌, ◌≤◌, ℕ, false, List, [], ◌∷◌, length, Some, None, inr, refl, sym, ap, ◌∙◌, arith, slice_get}
+use Rattle.std.proofs.Common.{◌≡◌, ◌≤◌, ◌+◌, ℕ, false, List, [], ◌∷◌, length, Some, None, inl, inr, refl, sym, ap, ◌∙◌, arith, rules, slice_get}
 use Rattle.std.specs.Fmt.{digits}
-use Rattle.std.specs.Prelude.{◌≢◌, codes}
+use Rattle.std.specs.Prelude.{◌≢◌, codes, map as map_items}
 use Rattle.std.specs.FinMap as map
 use Rattle.std.proofs.lemmas.Cmp.{nat_list_cmp_total}
 use Rattle.std.proofs.lemmas.Option.{same_Some}
@@ -37,7 +37,18 @@ use Rattle.odd_decls.specs.declared.spec.Spec.{Spec}
 use Rattle.odd_decls.proofs.SmallFiles.{HoldsNone, IsNamedSchema, IsNamedSpec, a_alone, alone, attribute, bare_is_sound, declares, each_such, element, elements_are, entry_more, few, few_rise, found_first, found_through, in_child, items_alone, no_entries, nodes, none_held, not_pending, one_item, only_child, other_breaks_three, plain}
 use Rattle.odd_forms.proofs.Named.{is_name}
 use Rattle.std.specs.declared.cmp.Ordering.TheVariants.{Less}
-use Rattle.compile_core.specs.Schema.{IsLeastMissing}
+use Rattle.rng_patterns.specs.declared.grammar.Expr as E
+use Rattle.rng_patterns.specs.declared.grammar.Expr.TheVariants as expr
+use Rattle.rng_patterns.specs.Nodes.{linked_nodes, nodes as nodes_of, reference_nodes}
+use Rattle.rng_emit.specs.Grammar.{all_of, define_markup, grammar_markup, named, pattern_markup, plain as plain_element}
+use Rattle.rng_emit.specs.Nodes.{elements_in, text_nodes}
+use Rattle.rng_emit.proofs.Shapes.{empty_is, ref_is}
+use Rattle.odd_reader.specs.Markup.{Markup, element as element_with, file_printed}
+use Rattle.rng_patterns.specs.declared.grammar.Grammar.{Grammar}
+use Rattle.odd_forms.specs.Sorted.{IsSet}
+use Rattle.compile_core.specs.Compiled.{IsGrammarOf, element_define}
+use Rattle.compile_core.specs.Conditions.{IsConditionOf, condition_cmp, conditions_in, content_of}
+use Rattle.compile_core.specs.Schema.{IsLeastMissing, IsSchema}
 use Rattle.odd_run.specs.Note.{code_of, note_text}
 use Rattle.odd_run.specs.Words.{Compiles, WordsMean, compile}
 use Rattle.odd_run.specs.declared.status.Status.{Status}
@@ -101,6 +112,9 @@ line_of_usage = refl
 line_of_limit : note_text (status.Limit (limit.Bytes 12)) ≡ codes "odd: limit bytes file 12\n"
 unfolding digits
 line_of_limit = refl
+
+line_of_nodes : note_text (status.Limit limit.Nodes) ≡ codes "odd: limit nodes\n"
+line_of_nodes = refl
 
 line_of_depth : note_text (status.Limit (limit.Depth 1 600)) ≡ codes "odd: limit depth file 1 byte 600\n"
 unfolding digits
@@ -263,7 +277,7 @@ one_element_declares : Declares root_tree one_doc
 one_element_declares =
     declares (codes "s") (codes "a") root_tree (element_tree ∷ []) _ (root_named (element_tree ∷ [])) refl (elements_are (element_tree ∷ []))
     (found_first _ element_tree [] (found_through _ element_tree [] [] refl refl search.nothing)) refl
-    (none_held _ element_tree [] refl (plain _ _ refl (λ _. refl) (λ c. cc) (λ _. refl)) tt, tt) (bare_is_sound (codes "a") _ element_tree element_named refl, tt)
+    (none_held _ element_tree [] refl (plain _ _ refl (λ _. refl)) tt, tt) (bare_is_sound (codes "a") _ element_tree element_named refl, tt)
     (λ one. few (IsSpecOf one) (element_tree ∷ []) (omega arith)) (entry_more _ element_tree [] _ [] element_read (no_entries _)) (few_rise _ (omega arith))
 
 one_element_gives : Gives one_element one_library
@@ -278,8 +292,58 @@ one_element_gives = record {
 a_is_held : (word : List ℕ) → StandsIn (codes "a" ∷ []) word → map.find key_cmp (element_key word) one_library.parts ≡ None → ⊥
 a_is_held word s = each_such (λ w. map.find key_cmp (element_key w) one_library.parts ≡ None → ⊥) (codes "a" ∷ []) word ((λ missing. cc), tt) s
 
+-- its grammar has no condition, and one define
+abbrev a_grammar : Grammar
+a_grammar = record { start = expr.Ref (codes "e.a"); defines = element_define one_library [] (a_key, component.Element (record { «module» = []; ns = tei_namespace; content = content.Empty })) ∷ [] }
+
+no_condition : IsSet condition_cmp (IsConditionOf one_library) []
+no_condition = record {
+  rising = λ before after item next e. absurd (nothing_stands item (before, next ∷ after, e));
+  none_else = λ c s. absurd (nothing_stands c s);
+  each = λ c h. absurd (each_such (λ e. StandsIn (conditions_in (content_of e.1)) c → ⊥) one_library.parts h.entry ((λ s. nothing_stands c s), tt) h.among h.holds);
+}
+
+a_grammar_is : IsGrammarOf one_library (codes "a" ∷ []) a_grammar
+a_grammar_is = record {
+  conditions = [];
+  are_conditions = no_condition;
+  before = [];
+  are_before = record {
+    rising = λ before after item next e. absurd (nothing_stands item (before, next ∷ after, e));
+    none_else = λ d s. absurd (nothing_stands d s);
+    each = λ d h. absurd (nothing_stands h.0 h.1);
+  };
+  grammar_is = refl;
+}
+
+-- and six elements, and two nodes after linking
+abbrev the_markup : Markup → Markup → Markup
+the_markup start content =
+    grammar_markup start (named (codes "define") (codes "e.a") (element_with (codes "element") ((codes "name", codes "a") ∷ (codes "ns", tei_namespace) ∷ []) (all_of (content ∷ [])) ∷ []) ∷ [])
+
+markup_is : grammar_markup (pattern_markup a_grammar.start) (map_items define_markup a_grammar.defines) ≡ the_markup (named (codes "ref") (codes "e.a") []) (plain_element (codes "empty") [])
+markup_is = λ i. the_markup (ref_is (codes "e.a") i) (empty_is i)
+
+six_elements : text_nodes a_grammar ≡ 6
+six_elements = ap elements_in markup_is
+
+empty_node : (counted : List ℕ → ℕ) → nodes_of counted expr.Empty ≡ 1
+empty_node counted = search (rules, E.the_lemmas)
+
+ref_node : (counted : List ℕ → ℕ) (name : List ℕ) → nodes_of counted (expr.Ref name) ≡ counted name
+ref_node counted name = search (rules, E.the_lemmas)
+
+two_nodes : linked_nodes a_grammar ≡ 2
+two_nodes =
+    let counted = reference_nodes (length a_grammar.defines) a_grammar in
+    let one : length a_grammar.defines ≡ 1 = omega arith in
+    (λ i. ref_node counted (codes "e.a") i + (0 + (0 + empty_node counted i))) ∙ (λ i. reference_nodes (one i) a_grammar (codes "e.a") + 1)
+
+a_schema : IsSchema one_library (codes "a" ∷ []) a_grammar
+a_schema = record { holds_start = a_is_held; is_grammar = a_grammar_is; within = λ large. elim large [ inl h ↦ let no : ⊥ = omega (arith, h, six_elements) in no | inr h ↦ let no : ⊥ = omega (arith, h, two_nodes) in no ] }
+
 done_reply : Reply compile_f (holding one_element) schema status.Done
-done_reply = done one_element one_library (f_reads one_element (omega arith)) one_element_gives a_is_held refl
+done_reply = done one_element one_library a_grammar (f_reads one_element (omega arith)) one_element_gives a_schema (ap file_printed (sym markup_is))
 
 -- the same file has no other status
 done_is_not_refused : (text : List ℕ) → Reply compile_f (holding one_element) text (status.NotYet 1) → ⊥
@@ -339,8 +403,8 @@ offending_schema =
 
 one_p_held : HoldsNone outermost offending_tree
 one_p_held =
-    none_held _ offending_tree (p_tree ∷ []) (elements_are (p_tree ∷ [])) (plain _ _ refl (λ _. refl) (λ c. cc) (λ _. refl))
-    (none_held _ p_tree [] refl (plain _ _ refl (λ _. refl) (λ c. cc) (λ _. refl)) tt, tt)
+    none_held _ offending_tree (p_tree ∷ []) (elements_are (p_tree ∷ [])) (plain _ _ refl (λ _. refl))
+    (none_held _ p_tree [] refl (plain _ _ refl (λ _. refl)) tt, tt)
 
 -- the `p` may not stand there
 p_offends : HasOffence offending_tree 68 3
@@ -379,13 +443,13 @@ offending_has_one text s h = one_status compile_f (holding one_p) text [] s (sta
 offending_is_not_done : (text : List ℕ) → Reply compile_f (holding one_p) text status.Done → ⊥
 offending_is_not_done text h = let same : status.Done ≡ status.Refused p_offence = offending_has_one text status.Done h in cc
 
--- With an `elementRef` in its `content` it is not read yet.
+-- With a `classRef` in its `content` it is not read yet.
 
 abbrev one_reference : List ℕ
-one_reference = codes "<schemaSpec xmlns=\"http://www.tei-c.org/ns/1.0\" ident=\"s\" start=\"a\"><elementSpec ident=\"a\"><content><elementRef key=\"a\"/></content></elementSpec></schemaSpec>"
+one_reference = codes "<schemaSpec xmlns=\"http://www.tei-c.org/ns/1.0\" ident=\"s\" start=\"a\"><elementSpec ident=\"a\"><content><classRef key=\"a\"/></content></elementSpec></schemaSpec>"
 
 abbrev reference_tree : Tree
-reference_tree = element 100 (codes "elementRef") (attribute (codes "key") (codes "a") ∷ []) []
+reference_tree = element 100 (codes "classRef") (attribute (codes "key") (codes "a") ∷ []) []
 
 abbrev content_tree : Tree
 content_tree = element 91 (codes "content") [] (reference_tree ∷ [])
@@ -400,7 +464,7 @@ one_reference_read = literal_gives one_reference _ (root_of (holder_tree ∷ [])
 reference_pending : IsPending (root_of (holder_tree ∷ []))
 reference_pending =
     IsPending.form (in_child outermost _ _ (elements_are (holder_tree ∷ [])) (in_child _ _ _ (elements_are (content_tree ∷ []))
-    (in_child _ _ _ (elements_are (reference_tree ∷ [])) (pending.here (pending.parts refl refl)))))
+    (in_child _ _ _ (elements_are (reference_tree ∷ [])) (pending.here (pending.members refl refl)))))
 
 not_yet_reply : Reply compile_f (holding one_reference) [] (status.NotYet 1)
 not_yet_reply = refused one_reference (f_reads one_reference (omega arith)) (not_yet (root_of (holder_tree ∷ [])) one_reference_read reference_pending)

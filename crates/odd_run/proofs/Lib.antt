@@ -1,7 +1,10 @@
+pub mod AroundLegal
+pub mod BoundsOrdered
+pub mod ConditionsFormed
 pub mod Examples
 pub mod Formed
+pub mod GivenLegal
 pub mod Held
 pub mod Lists
 pub mod Replies
 pub mod Saying
-pub mod Written

@@ -11,7 +11,9 @@ use Rattle.odd_decls.specs.Declares.{Declares}
 use Rattle.odd_decls.specs.Library.{IsLibraryOf}
 use Rattle.odd_decls.specs.Offences.{IsRefusal}
 use Rattle.odd_decls.specs.Pending.{IsPending}
-use Rattle.compile_core.specs.Schema.{schema_text, HoldsStart, IsLeastMissing}
+use Rattle.rng_patterns.specs.declared.grammar.Grammar.{Grammar}
+use Rattle.rng_emit.specs.Grammar.{grammar_text}
+use Rattle.compile_core.specs.Schema.{HasLargeSchema, IsLeastMissing, IsSchema}
 use Rattle.odd_run.specs.declared.status.Status.{Status}
 use Rattle.odd_run.specs.declared.status.Status.TheVariants as status
 use Rattle.odd_run.specs.declared.status.LimitKind.TheVariants as limit
@@ -48,11 +50,12 @@ pub data FileRefusal (bytes : List ℕ) : Status → Type 0 where
   offends : {offence : Offence} (tree : Tree) → GivesTree bytes tree → IsRefusal tree 1 offence → FileRefusal bytes (status.Refused offence)
   start_missing : {offence : Offence} (word : List ℕ) (library : Library) → Gives bytes library → IsLeastMissing library library.start word → offence ≡ start_offence word
       → FileRefusal bytes (status.Refused offence)
+  too_large : (library : Library) → Gives bytes library → HasLargeSchema library library.start → FileRefusal bytes (status.Limit limit.Nodes)
 
 pub data Reply (words : List (List ℕ)) (files : FileMap) : List ℕ → Status → Type 0 where
   no_job : ((job : Job) → WordsMean words job → ⊥) → Reply words files [] status.Usage
   no_file : (file : List ℕ) → Compiles words file → NotHeld files file → Reply words files [] (status.ReadFault 1)
   too_long : (file bytes : List ℕ) → Compiles words file → Held files file bytes → file_bytes < length bytes → Reply words files [] (status.Limit (limit.Bytes 1))
   refused : {s : Status} (bytes : List ℕ) → Reads words files bytes → FileRefusal bytes s → Reply words files [] s
-  done : {text : List ℕ} (bytes : List ℕ) (library : Library) → Reads words files bytes → Gives bytes library
-      → HoldsStart library library.start → text ≡ schema_text library library.start → Reply words files text status.Done
+  done : {text : List ℕ} (bytes : List ℕ) (library : Library) (grammar : Grammar) → Reads words files bytes → Gives bytes library
+      → IsSchema library library.start grammar → text ≡ grammar_text grammar → Reply words files text status.Done

@@ -4,11 +4,13 @@ use Rattle.odd_base.specs.Count.{HasRisen, next_count}
 use Rattle.odd_base.specs.Shelf.{FileMap, Held, NotHeld, LeavesSuffix}
 use Rattle.odd_decls.specs.declared.library.Library.{Library}
 use Rattle.odd_reader.specs.declared.tree.Tree.{Tree}
-use Rattle.compile_core.specs.Acceptance.{Accepts}
 use Rattle.odd_meaning.specs.Admission.{Admits}
-use Rattle.compile_core.specs.Denoting.{DenotesOnly}
-use Rattle.compile_core.specs.declared.grammar.Grammar.{Grammar}
-use Rattle.compile_core.specs.Schema.{schema_text, HoldsStart, IsLeastMissing}
+use Rattle.rng_patterns.specs.Acceptance.{Accepts}
+use Rattle.rng_patterns.specs.Denoting.{DenotesOnly}
+use Rattle.rng_patterns.specs.declared.grammar.Grammar.{Grammar}
+use Rattle.rng_emit.specs.Grammar.{grammar_text}
+use Rattle.compile_core.specs.Schema.{HasLargeSchema, IsLeastMissing, IsSchema}
+use Rattle.odd_run.specs.declared.status.LimitKind.TheVariants as limit
 use Rattle.odd_run.specs.declared.status.Status.{Status}
 use Rattle.odd_run.specs.declared.status.Status.TheVariants as status
 use Rattle.odd_run.specs.Words.{Compiles}
@@ -53,8 +55,9 @@ IsComplete s = (s ≡ status.Done) ⊎ (s ≡ status.NoMemory)
 pub record IsSchemaOf (bytes text : List ℕ) : Type 0 where
   pub library : Library
   pub gives : Gives bytes library
-  pub holds_start : HoldsStart library library.start
-  pub text_is : text ≡ schema_text library library.start
+  pub grammar : Grammar
+  pub is_schema : IsSchema library library.start grammar
+  pub text_is : text ≡ grammar_text grammar
 
 -- the text denotes one grammar, and it accepts the trees that the library admits
 pub record AcceptsAdmitted (library : Library) (text : List ℕ) : Type 0 where
@@ -81,16 +84,18 @@ IsRefusalOf bytes s = (s ≡ status.NoMemory) ⊎ FileRefusal bytes s
 -- why a library has no schema
 abbrev pub IsStartError : Library → Status → Type 0
 IsStartError library (status.Refused offence) = (word : List ℕ) × IsLeastMissing library library.start word × (offence ≡ start_offence word)
+IsStartError library (status.Limit limit.Nodes) = HasLargeSchema library library.start
 IsStartError library status.NoMemory = Unit {0}
 IsStartError library s = ⊥
 
--- the words name a file that compiles: within the limit, of a form that is read, and each start word is a held element
+-- the words name a file that compiles: within the limits, of a form that is read, and each start word is a held element
 pub record Compiling (words : List (List ℕ)) (files : FileMap) : Type 0 where
   pub bytes : List ℕ
   pub reads : Reads words files bytes
   pub library : Library
   pub gives : Gives bytes library
-  pub holds_start : HoldsStart library library.start
+  pub grammar : Grammar
+  pub is_schema : IsSchema library library.start grammar
 
 abbrev pub compiled_text : {words : List (List ℕ)} {files : FileMap} → Compiling words files → List ℕ
-compiled_text job = schema_text job.library job.library.start
+compiled_text job = grammar_text job.grammar

@@ -3,7 +3,9 @@ ghost use Rattle.odd_base.specs.Count.{HasRisen, next_count};
 ghost use Rattle.odd_base.specs.Shelf.{FileMap, NotHeld};
 ghost use Rattle.odd_base.specs.Sink.{IsPartWritten};
 ghost use Rattle.odd_decls.specs.declared.library.Library.{Library as ALibrary};
-ghost use Rattle.compile_core.specs.Schema.{AreWritten, HoldsStart, IsFormed, schema_text};
+ghost use Rattle.compile_core.specs.Schema.{IsFormed, IsSchema};
+ghost use Rattle.rng_emit.specs.Grammar.{grammar_text};
+ghost use Rattle.rng_patterns.specs.declared.grammar.Grammar.{Grammar as AGrammar};
 ghost use Rattle.odd_run.specs.Note.{note_text};
 ghost use Rattle.odd_run.specs.Words.{Compiles, WordsMean};
 ghost use Rattle.odd_run.specs.declared.words.Job.{Job as AJob};
@@ -14,11 +16,12 @@ ghost use Rattle.odd_run.specs.Running.{BeginsItsFile, IsReplied, IsSilent, IsRe
 use crate::note::write_note;
 use crate::status::{LimitKind, Status};
 use crate::words::read_words;
-use compile_core::{CompileRefusal, compile, print_rng};
+use compile_core::{CompileRefusal, compile};
 use odd_base::writing::write_whole;
 use odd_base::{Bytes, NoMemory, Offence, Shelf, Sink, SlurpRefusal, Text, Words, slurp};
 use odd_decls::{Library, OddRefusal, library_of, read_odd};
 use odd_reader::{ReadRefusal, read_tree};
+use rng_emit::print_rng;
 use std::alloc::Global;
 
 /// How many bytes a file may have.
@@ -131,7 +134,6 @@ fn schema_of_file(alloc: Global, bytes: &Bytes) -> Result<Text, Status>
 fn library_of_file(alloc: Global, bytes: &Bytes) -> Result<Library, Status>
     ensures ok { IfOk result (Gives bytes.now) }
     ensures formed { IfOk result IsFormed }
-    ensures written { IfOk result AreWritten }
     ensures err { IfErr result (IsRefusalOf bytes.now) }
 {
     let tree = match read_tree(alloc, bytes.as_slice()) {
@@ -156,16 +158,16 @@ fn library_of_file(alloc: Global, bytes: &Bytes) -> Result<Library, Status>
 
 // The schema of a library, or the start word that is no held element.
 fn schema_of_library(alloc: Global, library: &Library) -> Result<Text, Status>
-    ensures ok { IfOk result (λ text. HoldsStart library.now library.now.start × (text ≡ schema_text library.now library.now.start)) }
+    ensures ok { IfOk result (λ text. (grammar : AGrammar) × IsSchema library.now library.now.start grammar × (text ≡ grammar_text grammar)) }
     ensures accepts { IfOk result (λ text. IsFormed library.now → AcceptsAdmitted library.now text) }
-    ensures err { IfErr result (λ status. AreWritten library.now → IsStartError library.now status) }
+    ensures err { IfErr result (IsStartError library.now) }
 {
     let grammar = match compile(alloc, library, &library.start) {
         Ok(grammar) => grammar,
         Err(CompileRefusal::Offence(offence)) => {
             return Err(Status::Refused(in_file(offence, 1)));
         }
-        Err(CompileRefusal::NotYet) => return Err(Status::NotYet { file: 1 }),
+        Err(CompileRefusal::TooLarge) => return Err(Status::Limit(LimitKind::Nodes)),
         Err(CompileRefusal::NoMemory) => return Err(Status::NoMemory),
     };
     match print_rng(alloc, &grammar) {

@@ -9,6 +9,8 @@ pub enum LimitKind {
     Bytes { file: u32 },
     /// A file has over 200 levels of elements: the byte where the tag begins that opens the 201st.
     Depth { file: u32, at: u64 },
+    /// The schema has more than 1,000,000 elements, or more than 4,000,000 nodes after linking.
+    Nodes,
 }
 
 /// How a run ended. Files are numbered from 1 in the order of the words.

@@ -2,9 +2,9 @@
 #![tactic(auto)]
 
 #[cfg(test)]
-mod contents;
-#[cfg(test)]
 mod escaping;
+#[cfg(test)]
+mod grammars;
 #[cfg(test)]
 mod library;
 #[cfg(test)]

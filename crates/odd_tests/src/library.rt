@@ -1,11 +1,11 @@
 //! Libraries that no file gives, and the copies of what they hold.
 
 use crate::making::{key, many_words, text};
-use compile_core::{CompileRefusal, compile, print_rng};
+use compile_core::{CompileRefusal, compile};
 use odd_base::{Kind, NoMemory, Text, TryCopy, Who, Words};
-use odd_content::{Content, Contents};
+use odd_content::Content;
 use odd_decls::{Component, ElementPart, Library, Spec};
-use rng_values::Bounds;
+use rng_emit::print_rng;
 use std::alloc::Global;
 use std::test::Fail;
 
@@ -47,7 +47,7 @@ fn schema_from(alloc: Global, library: &Library, start: &Words) -> Result<Text, 
             Who::Start(word) => Ok(word),
             _ => text(alloc, "another offence"),
         },
-        Err(CompileRefusal::NotYet) => text(alloc, "not yet"),
+        Err(CompileRefusal::TooLarge) => text(alloc, "too large"),
         Err(CompileRefusal::NoMemory) => Err(NoMemory),
     }
 }
@@ -111,28 +111,5 @@ fn components_and_specs_are_copied(rt: HostRuntime) -> Result<(), Fail> {
     assert!(rt; copy.key == spec.key);
     assert_eq!(rt; copy.module.as_str(), "m");
     assert!(rt; matches!(copy.content, Some(Content::Text)));
-    Ok(())
-}
-
-#[test]
-fn a_content_whose_schema_is_not_written_yet_is_told(rt: HostRuntime) -> Result<(), Fail> {
-    let words = words_of(rt.alloc(), "a b")?;
-    let mut library = library_with(rt.alloc(), words.copy(rt.alloc())?)?;
-    let content = Content::Sequence {
-        parts: Contents::new(rt.alloc()),
-        bounds: Bounds {
-            min: 1,
-            max: Some(1),
-        },
-    };
-    let part = Component::Element(element(rt.alloc(), content)?);
-    library
-        .parts
-        .put(key(rt.alloc(), Kind::Element, "c")?, part)?;
-    let told = schema_from(rt.alloc(), &library, &words)?;
-    assert_eq!(rt; told.as_str(), "not yet");
-    let missing = words_of(rt.alloc(), "a d")?;
-    let refused = schema_from(rt.alloc(), &library, &missing)?;
-    assert_eq!(rt; refused.as_str(), "d");
     Ok(())
 }

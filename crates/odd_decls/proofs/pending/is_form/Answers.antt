@@ -1,12 +1,12 @@
 use Rattle.std.proofs.Common.{◌≡◌, ◌||◌, not, sym, ap, ◌∙◌}
 use Rattle.std.proofs.lemmas.Bool.{or_left}
 use Rattle.odd_decls.specs.Reading.{the_around}
-use Rattle.odd_decls.proofs.Holding.{form_test, has_mode, in_row, is_several, test_form}
-use Rattle.odd_decls.proofs.pending.is_form.Goals.{then-around, else-around, then-is_in_row, else-is_in_row}
+use Rattle.odd_decls.proofs.Holding.{form_test, has_mode, in_row, test_form}
+use Rattle.odd_decls.proofs.pending.is_form.Goals.{then-around, else-around}
 use Rattle.odd_decls.proofs.pending.is_form.Goals as goal
 
-pub returns-else-has_mode : goal.returns-else-has_mode
-returns-else-has_mode c =
+pub returns-else-is_in_row : goal.returns-else-is_in_row
+returns-else-is_in_row c =
     let a = the_around c.args.around in
     let tree = c.args.tree.now in
     let outside : not c.if-around.outside ≡ not (a.content || a.datatype) = ap not (elim c.if-around.branch [
@@ -14,10 +14,6 @@ returns-else-has_mode c =
       | else-around w ↦ w.outside-is ∙ ap (λ b. b || a.datatype) (sym w.if-around.false)
     ]) in
     let row : c.is_in_row.result ≡ in_row (not c.if-around.outside) a tree = c.is_in_row.ensures in
-    let value : c.if-is_in_row.value ≡ (in_row (not c.if-around.outside) a tree || has_mode tree) = elim c.if-is_in_row.branch [
-      | then-is_in_row w ↦ w.value-is ∙ w.if-is_in_row.true ∙ sym (or_left _ _ (sym row ∙ w.if-is_in_row.true))
-      | else-is_in_row w ↦ w.value-is ∙ w.has_mode.ensures ∙ ap (λ b. b || has_mode tree) (sym w.if-is_in_row.false ∙ row)
-    ] in
-    let passes : c.is_several.result ≡ ((in_row (not c.if-around.outside) a tree || has_mode tree) || is_several tree) =
-    c.is_several.ensures ∙ ap (λ b. b || is_several tree) (sym c.if-has_mode.false ∙ value) in
+    let passes : c.has_mode.result ≡ (in_row (not c.if-around.outside) a tree || has_mode tree) =
+    c.has_mode.ensures ∙ ap (λ b. b || has_mode tree) (sym c.if-is_in_row.false ∙ row) in
     (λ h. test_form (not c.if-around.outside) a tree outside (sym passes ∙ h), λ form. passes ∙ form_test (not c.if-around.outside) a tree outside form)

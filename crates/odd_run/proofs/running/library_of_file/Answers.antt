@@ -2,7 +2,6 @@ use Rattle.std.proofs.Common.{ap, subst, Err, inr}
 use Rattle.odd_reader.specs.Spelled.{DepthPlace, GivesTree, IsNotXml}
 use Rattle.odd_run.specs.Reply.{not_xml, too_deep, not_yet, offends}
 use Rattle.odd_run.proofs.Formed.{library_formed}
-use Rattle.odd_run.proofs.Written.{library_written}
 use Rattle.odd_run.proofs.running.library_of_file.Goals as goal
 
 pub returns-in-Err-NotXml-clause-err : goal.returns-in-Err-NotXml-clause-err
@@ -30,7 +29,3 @@ returns-in-Err-Offence-clause-err c =
 pub returns-in-Ok-library_of-clause-formed : goal.returns-in-Ok-library_of-clause-formed
 returns-in-Ok-library_of-clause-formed c =
     library_formed _ _ c.in-Ok.tree c.in-Ok-read_odd.doc c.in-Ok-library_of.library c.in-Ok.ensures.formed (c.in-Ok-read_odd.ensures.ok _ _ c.in-Ok.ensures.formed) c.in-Ok-library_of.ensures
-
-pub returns-in-Ok-library_of-clause-written : goal.returns-in-Ok-library_of-clause-written
-returns-in-Ok-library_of-clause-written c =
-    library_written c.in-Ok.tree c.in-Ok-read_odd.doc c.in-Ok-library_of.library (c.in-Ok-read_odd.ensures.ok _ _ c.in-Ok.ensures.formed) c.in-Ok-library_of.ensures

@@ -1,10 +1,9 @@
-use Rattle.std.proofs.Common.{◌≡◌, ap, sym, subst, ◌∙◌, Err}
-use Rattle.compile_core.specs.Denoting.{DenotesOnly}
+use Rattle.std.proofs.Common.{◌≡◌, ap, refl, ◌∙◌, Err}
 use Rattle.odd_run.specs.Reply.{start_offence}
 use Rattle.odd_run.proofs.running.schema_of_library.Goals as goal
 
 pub returns-in-Err-Offence-clause-err : goal.returns-in-Err-Offence-clause-err
-returns-in-Err-Offence-clause-err c = λ written.
+returns-in-Err-Offence-clause-err c =
     let refused = c.in-Err-Offence.ensures.offence c.in-Err-Offence.offence (ap Err c.in-Err-Offence.field-0-is) in
     let moved = rw c.in-Err-Offence.field-0-is at c.in_file.ensures in
     let same : c.in_file.result ≡ start_offence refused.word = λ n. record {
@@ -14,14 +13,16 @@ returns-in-Err-Offence-clause-err c = λ written.
     } in
     (refused.word, refused.is_least, same)
 
-pub returns-in-Ok-print_rng-clause-accepts : goal.returns-in-Ok-print_rng-clause-accepts
-returns-in-Ok-print_rng-clause-accepts c = λ f.
-    let text = c.in-Ok-print_rng.ensures ∙ c.in-Ok.ensures.ok in
-    record {
-      grammar = c.in-Ok.grammar;
-      denotes = subst (λ t. DenotesOnly t c.in-Ok.grammar) (sym text) (c.in-Ok.ensures.denotes f);
-      accepts = c.in-Ok.ensures.accepts f;
-    }
+pub returns-in-Err-TooLarge-clause-err : goal.returns-in-Err-TooLarge-clause-err
+returns-in-Err-TooLarge-clause-err c = c.in-Err-TooLarge.ensures.too_large (ap Err c.in-Err-TooLarge.field-0-is)
 
-pub returns-in-Err-NotYet-clause-err : goal.returns-in-Err-NotYet-clause-err
-returns-in-Err-NotYet-clause-err c = λ written. absurd (c.in-Err-NotYet.ensures.not_yet (ap Err c.in-Err-NotYet.field-0-is) written)
+pub returns-in-Ok-print_rng-clause-ok : goal.returns-in-Ok-print_rng-clause-ok
+returns-in-Ok-print_rng-clause-ok c =
+    (c.in-Ok.grammar, record { holds_start = c.in-Ok.ensures.held refl; is_grammar = c.in-Ok.ensures.grammar; within = c.in-Ok.ensures.within }, c.in-Ok-print_rng.ensures.text)
+
+pub returns-in-Ok-print_rng-clause-accepts : goal.returns-in-Ok-print_rng-clause-accepts
+returns-in-Ok-print_rng-clause-accepts c = λ f. record {
+  grammar = c.in-Ok.grammar;
+  denotes = c.in-Ok-print_rng.ensures.denotes (c.in-Ok.ensures.plain f);
+  accepts = c.in-Ok.ensures.accepts f;
+}

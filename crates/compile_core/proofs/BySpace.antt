@@ -1,0 +1,85 @@
+-- Items in the order of their ranks, which are how they compare with some value: those that compare as equal stand together.
+use Rattle.std.proofs.Common.{◌≡◌, ◌≤◌, ◌+◌, ℕ, zero, suc, Bool, true, false, nat_lt, cond, List, [], ◌∷◌, get_or, length, take, drop, filter, inl, inr, refl, ap, subst, ◌∙◌, arith}
+use Rattle.std.proofs.lemmas.Bool.{cases_lt}
+use Rattle.std.proofs.lemmas.List.Sorted.{IsPartitionedBy-ltb}
+use Rattle.std.specs.List.Sorted.{IsNonDecreasingBy, IsPartitionedBy, IsPartitionPoint}
+use Rattle.std.specs.Ordering.{is_eq, is_le, is_lt, ordering_index}
+use Rattle.std.specs.declared.cmp.Ordering.{Ordering}
+use Rattle.std.specs.declared.cmp.Ordering.TheVariants.{Less, Equal, Greater}
+
+-- the tests of an order, by its number
+less_is : (r : Ordering) → nat_lt (ordering_index r) 1 ≡ is_lt r
+less_is Less = refl
+less_is Equal = refl
+less_is Greater = refl
+
+-- the same of the other test
+at_most_is : (r : Ordering) → nat_lt (ordering_index r) 2 ≡ is_le r
+at_most_is Less = refl
+at_most_is Equal = refl
+at_most_is Greater = refl
+
+-- what is less is at most
+less_at_most : (r : Ordering) → is_lt r ≡ true → is_le r ≡ false → ⊥
+less_at_most Less e h = cc
+less_at_most Equal e h = cc
+less_at_most Greater e h = cc
+
+-- what is at most and not less is equal
+equal_is : (r : Ordering) (less at_most : Bool) → is_lt r ≡ less → is_le r ≡ at_most → is_eq r ≡ cond less false at_most
+equal_is Less less at_most e h = ap (λ t. cond t false at_most) e
+equal_is Equal less at_most e h = h ∙ ap (λ t. cond t false at_most) e
+equal_is Greater less at_most e h = h ∙ ap (λ t. cond t false at_most) e
+
+module _ {A : Type 0} (rank : A → Ordering) where
+  abbrev Rise : List A → Type 0
+  Rise = IsNonDecreasingBy (λ x. ordering_index (rank x))
+
+  -- the place where what passes a test ends
+  abbrev IsEnd : (A → Bool) → List A → ℕ → Type 0
+  IsEnd test xs i = IsPartitionPoint (λ x. test x ≡ true) (λ x. test x ≡ false) xs i
+
+  -- the lesser items come before the others
+  pub less_parted : (xs : List A) → Rise xs → IsPartitionedBy (λ x. is_lt (rank x)) xs
+  less_parted xs up = subst (λ test. IsPartitionedBy test xs) (λ i x. less_is (rank x) i) (IsPartitionedBy-ltb (λ x. ordering_index (rank x)) xs 1 up)
+
+  -- and so do the lesser and the equal ones
+  pub at_most_parted : (xs : List A) → Rise xs → IsPartitionedBy (λ x. is_le (rank x)) xs
+  at_most_parted xs up = subst (λ test. IsPartitionedBy test xs) (λ i x. at_most_is (rank x) i) (IsPartitionedBy-ltb (λ x. ordering_index (rank x)) xs 2 up)
+
+  -- in the rest of a list the end is one place earlier
+  end_later : (test : A → Bool) (x : A) (xs : List A) (i : ℕ) → IsEnd test (x ∷ xs) (suc i) → IsEnd test xs i
+  end_later test x xs i p = (λ k d low high. p.0 (suc k) d (omega arith) (omega arith), λ k d low high. p.1 (suc k) d (omega arith) (omega arith))
+
+  -- the lesser items end no later than the equal ones
+  pub ends_rise : (xs : List A) (i j : ℕ) → i ≤ length xs → IsEnd (λ x. is_lt (rank x)) xs i → IsEnd (λ x. is_le (rank x)) xs j → i ≤ j
+  ends_rise [] i j le p q = omega arith
+  ends_rise (x ∷ xs) i j le p q = elim (cases_lt j i) [
+    | inl low ↦ absurd (less_at_most (rank (get_or (x ∷ xs) j x)) (p.0 j x (omega arith) low) (q.1 j x (omega arith) (omega arith)))
+    | inr high ↦ high
+  ]
+
+  -- the first item is kept if it is equal
+  first_kept : (x : A) (xs : List A) (b : Bool) → is_eq (rank x) ≡ b → filter (λ y. is_eq (rank y)) (x ∷ xs) ≡ cond b (x ∷ filter (λ y. is_eq (rank y)) xs) (filter (λ y. is_eq (rank y)) xs)
+  first_kept x xs b e = ap (λ t. cond t (x ∷ filter (λ y. is_eq (rank y)) xs) (filter (λ y. is_eq (rank y)) xs)) e
+
+  -- between the two ends stand the equal items
+  pub equal_between : (xs : List A) (i n j : ℕ) → i + n ≡ j → j ≤ length xs → IsEnd (λ x. is_lt (rank x)) xs i → IsEnd (λ x. is_le (rank x)) xs j
+      → filter (λ x. is_eq (rank x)) xs ≡ take n (drop i xs)
+  equal_between [] zero zero j is le p q = refl
+  equal_between [] zero (suc n) j is le p q = absurd (omega arith)
+  equal_between [] (suc i) n j is le p q = absurd (omega arith)
+  equal_between (x ∷ xs) zero zero zero is le p q =
+      first_kept x xs false (equal_is (rank x) false false (p.1 zero x (omega arith) (omega arith)) (q.1 zero x (omega arith) (omega arith)))
+      ∙ equal_between xs zero zero zero refl (omega arith) (λ k d low high. absurd (omega arith), λ k d low high. p.1 (suc k) d (omega arith) (omega arith))
+      (λ k d low high. absurd (omega arith), λ k d low high. q.1 (suc k) d (omega arith) (omega arith))
+  equal_between (x ∷ xs) zero zero (suc j) is le p q = absurd (omega arith)
+  equal_between (x ∷ xs) zero (suc n) zero is le p q = absurd (omega arith)
+  equal_between (x ∷ xs) zero (suc n) (suc j) is le p q =
+      first_kept x xs true (equal_is (rank x) false true (p.1 zero x (omega arith) (omega arith)) (q.0 zero x (omega arith) (omega arith)))
+      ∙ ap (λ ys. x ∷ ys) (equal_between xs zero n j (omega arith) (omega arith) (λ k d low high. absurd (omega arith), λ k d low high. p.1 (suc k) d (omega arith) (omega arith))
+      (end_later (λ y. is_le (rank y)) x xs j q))
+  equal_between (x ∷ xs) (suc i) n zero is le p q = absurd (omega arith)
+  equal_between (x ∷ xs) (suc i) n (suc j) is le p q =
+      first_kept x xs false (equal_is (rank x) true true (p.0 zero x (omega arith) (omega arith)) (q.0 zero x (omega arith) (omega arith)))
+      ∙ equal_between xs i n j (omega arith) (omega arith) (end_later (λ y. is_lt (rank y)) x xs i p) (end_later (λ y. is_le (rank y)) x xs j q)

@@ -1,7 +1,0 @@
-use Rattle.std.proofs.Common.{◌≡◌, ◌++◌, map, take}
-use Rattle.odd_reader.specs.Markup.{all_printed}
-use Rattle.compile_core.specs.Grammar.{all_of, define_markup}
-use Rattle.compile_core.proofs.schema.add_defines.Given as goal
-
-abbrev pub invariant-loop-define : goal.invariant-loop-define
-invariant-loop-define l = l.out ≡ l.fn.out ++ all_printed (all_of (map define_markup (take l.define-index l.defines)))

@@ -1,0 +1,76 @@
+-- The text of a plain grammar denotes the grammar.
+use Rattle.std.proofs.Common.{◌≡◌, ℕ, List, [], ◌∷◌, Some, Result, Ok, Err, refl, sym, subst, ◌∙◌}
+use Rattle.std.specs.Prelude.{All, IfOk, codes, unwrap_or}
+use Rattle.odd_base.specs.declared.memory.NoMemory.{NoMemory}
+use Rattle.std.proofs.lemmas.List.Elements.{All-cons}
+use Rattle.std.proofs.lemmas.Option.{same_Some}
+use Rattle.odd_reader.specs.Elements.{given}
+use Rattle.odd_reader.specs.Markup.{Pair, element}
+use Rattle.odd_reader.specs.declared.tree.Tree.{Tree}
+use Rattle.odd_reader.proofs.PrintedSpelled.{printed_spells}
+use Rattle.odd_reader.proofs.PrintedTrees.{Shows}
+use Rattle.rng_patterns.proofs.OneGrammar.{one_denoted}
+use Rattle.rng_patterns.specs.Denoting.{Denotes, DenotesOnly, StandsFor, parts_of}
+use Rattle.rng_patterns.specs.Names.{datatype_library, relax_ng_namespace}
+use Rattle.rng_patterns.specs.declared.grammar.Grammar.{Grammar}
+use Rattle.rng_emit.specs.Grammar.{all_of, grammar_text}
+use Rattle.rng_emit.specs.Plain.{IsPlain}
+use Rattle.rng_emit.proofs.Markable.{grammar_parts, grammar_plain, grammar_tag, relax_ng_bound}
+use Rattle.rng_emit.proofs.Rising.{rising_once}
+use Rattle.rng_emit.proofs.Shown.{AreShown, IsShown, is_part, shown, value_in}
+use Rattle.rng_emit.proofs.ShownBodies.{defines_shown, start_shown}
+use Rattle.rng_emit.proofs.ShownPatterns.{Allows, no_attribute}
+
+-- the attribute of the root
+abbrev root_attributes : List Pair
+root_attributes = (codes "datatypeLibrary", datatype_library) ∷ []
+
+-- the attributes that a `grammar` may have
+abbrev allowed : List (List ℕ)
+allowed = codes "ns" ∷ codes "datatypeLibrary" ∷ []
+
+root_allowed : All (Allows allowed) root_attributes
+root_allowed = All-cons (Allows allowed) (codes "datatypeLibrary", datatype_library) [] (codes "ns" ∷ [], [], refl) (no_attribute allowed)
+
+-- the parts of the tree are the start and the defines
+parts_stand : (g : Grammar) (t : Tree) → IsPlain g → IsShown (codes "grammar") root_attributes (grammar_parts g) t → (ts : List Tree) → parts_of t ≡ ts → AreShown (grammar_parts g) ts
+    → StandsFor t g
+parts_stand g t p h [] e s = absurd s
+parts_stand g t p h (u ∷ us) e s =
+    let known : given t (codes "datatypeLibrary") ≡ Some datatype_library = value_in (codes "grammar") root_attributes t (codes "datatypeLibrary") h.head in
+    record {
+      is_part = is_part _ _ _ allowed t h root_allowed;
+      datatypes = λ value v. same_Some _ _ (sym v ∙ known);
+      start = u;
+      before = [];
+      after = us;
+      parts = e;
+      is_start = start_shown g.start u p.start s.0;
+      defines = g.defines;
+      are_defines = defines_shown (unwrap_or (given t (codes "ns")) []) g.defines us p.defines s.1;
+      once = rising_once g.defines p.rising;
+      rising = p.rising;
+      same = λ name. refl;
+      linked = p.linked;
+    }
+
+-- a tree that shows the grammar's elements stands for it
+pub stands : (g : Grammar) (t : Tree) → IsPlain g → Shows relax_ng_namespace (element (codes "grammar") root_attributes (all_of (grammar_parts g))) t → StandsFor t g
+stands g t p s =
+    let h = shown (codes "grammar") root_attributes (grammar_parts g) t s in
+    parts_stand g t p h (parts_of t) refl h.parts
+
+-- and the text spells such a tree
+denoted : (g : Grammar) → IsPlain g → Denotes (grammar_text g) g
+denoted g p =
+    let read = printed_spells relax_ng_namespace (codes "grammar") root_attributes (all_of (grammar_parts g)) relax_ng_bound grammar_tag (grammar_plain g p) in
+    record { tree = read.0; spelled = read.1; stands = stands g read.0 p read.2 }
+
+-- so the text denotes the grammar, and no other
+pub denoted_only : (g : Grammar) → IsPlain g → DenotesOnly (grammar_text g) g
+denoted_only g p = record { denoted = denoted g p; only = λ other h. one_denoted (grammar_text g) other g h (denoted g p) }
+
+-- where there was memory for it
+pub text_denotes : (g : Grammar) (r : Result (List ℕ) NoMemory) → IfOk r (λ text. text ≡ grammar_text g) → IfOk r (λ text. IsPlain g → DenotesOnly text g)
+text_denotes g (Ok text) e = λ p. subst (λ t. DenotesOnly t g) (sym e) (denoted_only g p)
+text_denotes g (Err none) e = tt

@@ -1,0 +1,7 @@
+use Rattle.std.proofs.Common.{◌≡◌, ◌++◌, map, take}
+use Rattle.odd_reader.specs.Markup.{all_printed}
+use Rattle.rng_emit.specs.Grammar.{all_of, pattern_markup}
+use Rattle.rng_emit.proofs.patterns.+patterns.Given as goal
+
+abbrev pub invariant-add_patterns-loop-pattern : goal.invariant-add_patterns-loop-pattern
+invariant-add_patterns-loop-pattern l = l.out ≡ l.fn.out ++ all_printed (all_of (map pattern_markup (take l.pattern-index l.patterns)))

@@ -1,0 +1,10 @@
+pub mod AcceptanceExamples
+pub mod Examples
+pub mod NoSchemaExamples
+pub mod OneElement
+pub mod OneGrammar
+pub mod OnePattern
+pub mod RuleExamples
+pub mod SchemaExamples
+pub mod SchemaTrees
+pub mod Told

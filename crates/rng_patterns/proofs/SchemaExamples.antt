@@ -1,0 +1,245 @@
+-- Which grammars small schemas stand for, and which schemas stand for none.
+use Rattle.std.proofs.Common.{◌≡◌, ℕ, Bool, true, false, cond, List, [], ◌∷◌, map, Some, None, inl, inr, refl, sym, ap, subst, ◌∙◌, codes}
+use Rattle.std.specs.FinMap.{find, slice_cmp-IsAntisymmetric, nat_cmp-IsAntisymmetric}
+use Rattle.std.specs.Ordering.{is_eq, eq_by_cmp}
+use Rattle.std.specs.declared.cmp.Ordering.TheVariants.{Less, Equal, Greater}
+use Rattle.std.specs.declared.cmp.Ordering.{Ordering}
+use Rattle.odd_base.specs.Text.{text_cmp}
+use Rattle.odd_reader.proofs.InList.{first_or_later, nothing_stands, stands_first, stands_later}
+use Rattle.odd_reader.proofs.Spelling.{one_tree}
+use Rattle.odd_reader.specs.Elements.{StandsIn}
+use Rattle.odd_reader.specs.Spelled.{Spells}
+use Rattle.odd_reader.specs.declared.tree.Tree.{Tree}
+use Rattle.odd_tokens.proofs.Distinct.{none_twice}
+use Rattle.rng_patterns.proofs.Examples.{apart, only_item}
+use Rattle.rng_patterns.proofs.OneGrammar.{Says, one_order, said, said_once}
+use Rattle.rng_patterns.proofs.Told.{empty_shown, group_shown, optional_shown, ref_shown, refers, text_shown}
+use Rattle.rng_patterns.specs.Denoting as denoting
+use Rattle.rng_patterns.specs.Denoting.{Denotes, IsPattern, StandsFor, entry_of}
+use Rattle.rng_patterns.specs.Linked as linked
+use Rattle.rng_patterns.specs.Linked.{IsLinked, Reaches, RefersTo, names_of, pattern_of}
+use Rattle.rng_patterns.specs.Names.{datatype_library, relax_ng_namespace}
+use Rattle.rng_patterns.specs.Patterns.{IsDefined}
+use Rattle.rng_patterns.specs.declared.grammar.Body.TheVariants as body
+use Rattle.rng_patterns.specs.declared.grammar.Define.{Define}
+use Rattle.rng_patterns.specs.declared.grammar.Expr.TheOpen as shape
+use Rattle.rng_patterns.specs.declared.grammar.Expr.TheVariants as expr
+use Rattle.rng_patterns.specs.declared.grammar.Expr.{Expr}
+use Rattle.rng_patterns.specs.declared.grammar.Grammar.{Grammar}
+use Rattle.rng_patterns.proofs.SchemaTrees.{bare_part, define, define_is, element, element_body, element_is, empty, empty_is, one_pattern, parts_are, ref, ref_is, rng, start, start_is, text, text_is}
+
+-- the namespaces, written out once more
+
+namespace_of_schemas : relax_ng_namespace ≡ codes "http://relaxng.org/ns/structure/1.0"
+namespace_of_schemas = refl
+
+library_of_datatypes : datatype_library ≡ codes "http://www.w3.org/2001/XMLSchema-datatypes"
+library_of_datatypes = refl
+
+-- several children of `optional` are a group
+
+abbrev b_or_words : Tree
+b_or_words = rng (codes "optional") [] (ref (codes "b") ∷ text ∷ [])
+
+abbrev optional_group : Expr
+optional_group = expr.Optional (expr.Group (expr.Ref (codes "b") ∷ expr.Text ∷ []))
+
+optional_is : IsPattern b_or_words optional_group
+optional_is = denoting.optional (expr.Ref (codes "b")) (expr.Text ∷ []) (bare_part (codes "optional") [] (ref (codes "b") ∷ text ∷ []))
+    (subst (λ ts. denoting.ArePatterns ts (expr.Ref (codes "b") ∷ expr.Text ∷ [])) (sym (parts_are (ref (codes "b") ∷ text ∷ []) refl)) (denoting.more (ref_is (codes "b") refl) (denoting.more text_is denoting.none))) refl
+
+-- a schema whose defines stand in another order than those of its grammar
+
+abbrev three_parts : List Tree
+three_parts = define (codes "b") (element (codes "b") empty) ∷ start (codes "a") ∷ define (codes "a") (element (codes "a") b_or_words) ∷ []
+
+abbrev schema : Tree
+schema = rng (codes "grammar") [] three_parts
+
+abbrev define_a : Define
+define_a = record { name = codes "a"; body = element_body (codes "a") optional_group }
+
+abbrev define_b : Define
+define_b = record { name = codes "b"; body = element_body (codes "b") expr.Empty }
+
+abbrev two_defines : Grammar
+two_defines = record { start = expr.Ref (codes "a"); defines = define_a ∷ define_b ∷ [] }
+
+-- a reference refers to its name alone
+only_ref : (name other : List ℕ) → RefersTo name (expr.Ref other) → name ≡ other
+only_ref name other r = elim (refers name _ (shape.Ref other) (ref_shown other) r) [ inl e ↦ cc | inr part ↦ absurd (nothing_stands _ part.1) ]
+
+-- what it refers to is defined
+is_linked : IsLinked two_defines
+is_linked = record { start = λ name r. first_defined name r; patterns = λ name d s r. each_defined name d s r; apart = λ name r. none_reached name name r }
+  where
+    first_defined : (name : List ℕ) → RefersTo name (expr.Ref (codes "a")) → StandsIn (codes "a" ∷ codes "b" ∷ []) name
+    first_defined name r = subst (StandsIn (codes "a" ∷ codes "b" ∷ [])) (sym (only_ref name (codes "a") r)) (stands_first _ _)
+
+    no_text : (name : List ℕ) → RefersTo name expr.Text → ⊥
+    no_text name r = elim (refers name _ shape.Text text_shown r) [ inl e ↦ cc | inr part ↦ nothing_stands _ part.1 ]
+
+    no_empty : (name : List ℕ) → RefersTo name expr.Empty → ⊥
+    no_empty name r = elim (refers name _ shape.Empty empty_shown r) [ inl e ↦ cc | inr part ↦ nothing_stands _ part.1 ]
+
+    in_group : (name : List ℕ) → RefersTo name (expr.Group (expr.Ref (codes "b") ∷ expr.Text ∷ [])) → name ≡ codes "b"
+    in_group name r = elim (refers name _ (shape.Group (expr.Ref (codes "b") ∷ expr.Text ∷ [])) (group_shown _) r) [
+      | inl e ↦ cc
+      | inr part ↦ elim (first_or_later _ _ _ part.1) [
+        | inl first ↦ only_ref name (codes "b") (subst (RefersTo name) first part.2)
+        | inr later ↦ absurd (no_text name (subst (RefersTo name) (only_item _ _ later) part.2))
+      ]
+    ]
+
+    in_optional : (name : List ℕ) → RefersTo name optional_group → name ≡ codes "b"
+    in_optional name r = elim (refers name _ (shape.Optional (expr.Group (expr.Ref (codes "b") ∷ expr.Text ∷ []))) (optional_shown _) r) [
+      | inl e ↦ cc
+      | inr part ↦ in_group name (subst (RefersTo name) (only_item _ _ part.1) part.2)
+    ]
+
+    each_defined : (name : List ℕ) (d : Define) → StandsIn (define_a ∷ define_b ∷ []) d → RefersTo name (pattern_of d.body) → StandsIn (codes "a" ∷ codes "b" ∷ []) name
+    each_defined name d s r = elim (first_or_later _ _ _ s) [
+      | inl first ↦ subst (StandsIn (codes "a" ∷ codes "b" ∷ [])) (sym (in_optional name (subst (λ (x : Define). RefersTo name (pattern_of x.body)) first r))) (stands_later _ _ _ (stands_first _ _))
+      | inr later ↦ absurd (no_empty name (subst (λ (x : Define). RefersTo name (pattern_of x.body)) (only_item _ _ later) r))
+    ]
+
+    all_elements : (name : List ℕ) (p : Expr) → IsDefined two_defines name (body.Part p) → ⊥
+    all_elements name p s = elim (first_or_later _ _ _ s) [
+      | inl first ↦ let e : body.Part p ≡ define_a.body = ap (λ (x : Define). x.body) first in cc
+      | inr later ↦ let e : body.Part p ≡ define_b.body = ap (λ (x : Define). x.body) (only_item _ _ later) in cc
+    ]
+
+    none_reached : (name other : List ℕ) → Reaches two_defines name other → ⊥
+    none_reached name other (linked.at_once {p = p} d r) = all_elements name p d
+    none_reached name other (linked.through r s) = none_reached _ _ r
+
+-- two entries that are exchanged are found alike
+exchanged : {A : Type 0} (p q : Bool) (x y z : A) → (p ≡ true → q ≡ true → ⊥) → cond p x (cond q y z) ≡ cond q y (cond p x z)
+exchanged true true x y z h = absurd (h refl refl)
+exchanged true false x y z h = refl
+exchanged false true x y z h = refl
+exchanged false false x y z h = refl
+
+-- two names that tie are equal
+equal_only : (r : Ordering) → is_eq r ≡ true → r ≡ Equal
+equal_only Less e = cc
+equal_only Equal e = refl
+equal_only Greater e = cc
+
+tied : (q k : List ℕ) → eq_by_cmp text_cmp q k ≡ true → q ≡ k
+tied q k e = slice_cmp-IsAntisymmetric nat_cmp-IsAntisymmetric q k (equal_only _ e)
+
+-- so the order of the two defines says nothing
+found_alike : (q : List ℕ) → find text_cmp q (map entry_of (define_a ∷ define_b ∷ [])) ≡ find text_cmp q (map entry_of (define_b ∷ define_a ∷ []))
+found_alike q = exchanged (eq_by_cmp text_cmp q (codes "a")) (eq_by_cmp text_cmp q (codes "b")) _ _ _ (λ e f. apart (codes "a") (codes "b") refl (sym (tied q _ e) ∙ tied q _ f))
+
+-- no attribute tells of datatypes
+not_given : {R : Type 0} (value : List ℕ) → None ≡ Some value → R
+not_given value e = cc
+
+schema_stands : StandsFor schema two_defines
+schema_stands = record {
+  is_part = bare_part (codes "grammar") (codes "ns" ∷ codes "datatypeLibrary" ∷ []) three_parts;
+  datatypes = λ value e. not_given value e;
+  start = start (codes "a");
+  before = define (codes "b") (element (codes "b") empty) ∷ [];
+  after = define (codes "a") (element (codes "a") b_or_words) ∷ [];
+  parts = parts_are three_parts refl;
+  is_start = start_is (codes "a") refl;
+  defines = define_b ∷ define_a ∷ [];
+  are_defines = denoting.more (define_is (codes "b") _ _ refl refl (denoting.element (element_is (codes "b") empty expr.Empty refl refl empty_is)))
+      (denoting.more (define_is (codes "a") _ _ refl refl (denoting.element (element_is (codes "a") b_or_words optional_group refl refl optional_is))) denoting.none);
+  once = none_twice (codes "b" ∷ codes "a" ∷ []) ((λ e. apart (codes "a") (codes "b") refl e, tt), (tt, tt));
+  rising = refl;
+  same = found_alike;
+  linked = is_linked;
+}
+
+-- a `ref` without a define stands for no grammar
+
+abbrev lone : Tree
+lone = rng (codes "grammar") [] (start (codes "a") ∷ [])
+
+lone_says : Says lone (expr.Ref (codes "a")) []
+lone_says = record { start = start (codes "a"); before = []; after = []; parts = parts_are (start (codes "a") ∷ []) refl; is_start = start_is (codes "a") refl; are_defines = denoting.none }
+
+lone_stands : (g : Grammar) → StandsFor lone g → ⊥
+lone_stands g s =
+    let once = said_once lone g.start (expr.Ref (codes "a")) s.defines [] (said lone g s) lone_says in
+    let found : (name : List ℕ) → find text_cmp name (map entry_of g.defines) ≡ None = λ name. s.same name ∙ ap (λ ds. find text_cmp name (map entry_of ds)) once.one_list in
+    let none : g.defines ≡ [] = one_order g.defines [] s.rising refl found in
+    let defined : StandsIn (names_of g.defines) (codes "a") = s.linked.start (codes "a") (subst (RefersTo (codes "a")) (sym once.one_pattern) linked.here) in
+    nothing_stands (codes "a") (subst (λ ds. StandsIn (names_of ds) (codes "a")) none defined)
+
+-- nor does a define that reaches itself
+
+abbrev round : Tree
+round = rng (codes "grammar") [] (start (codes "a") ∷ define (codes "a") (ref (codes "a")) ∷ [])
+
+abbrev itself : Define
+itself = record { name = codes "a"; body = body.Part (expr.Ref (codes "a")) }
+
+round_says : Says round (expr.Ref (codes "a")) (itself ∷ [])
+round_says = record {
+  start = start (codes "a");
+  before = [];
+  after = define (codes "a") (ref (codes "a")) ∷ [];
+  parts = parts_are (start (codes "a") ∷ define (codes "a") (ref (codes "a")) ∷ []) refl;
+  is_start = start_is (codes "a") refl;
+  are_defines = denoting.more (define_is (codes "a") _ _ refl refl (denoting.part (one_pattern _ _ (ref_is (codes "a") refl)))) denoting.none;
+}
+
+round_stands : (g : Grammar) → StandsFor round g → ⊥
+round_stands g s =
+    let once = said_once round g.start (expr.Ref (codes "a")) s.defines (itself ∷ []) (said round g s) round_says in
+    let found : (name : List ℕ) → find text_cmp name (map entry_of g.defines) ≡ find text_cmp name (map entry_of (itself ∷ [])) =
+    λ name. s.same name ∙ ap (λ ds. find text_cmp name (map entry_of ds)) once.one_list in
+    let one : g.defines ≡ itself ∷ [] = one_order g.defines (itself ∷ []) s.rising refl found in
+    s.linked.apart (codes "a") (linked.at_once (subst (λ ds. StandsIn ds itself) (sym one) (stands_first _ _)) linked.here)
+
+-- so no bytes that spell one of the two denote a grammar
+
+denotes_none : (t : Tree) → ((g : Grammar) → StandsFor t g → ⊥) → (bytes : List ℕ) (g : Grammar) → Spells bytes t → Denotes bytes g → ⊥
+denotes_none t none bytes g s d = none g (subst (λ u. StandsFor u g) (one_tree bytes d.tree t d.spelled s) d.stands)
+
+lone_denotes : (bytes : List ℕ) (g : Grammar) → Spells bytes lone → Denotes bytes g → ⊥
+lone_denotes = denotes_none lone lone_stands
+
+round_denotes : (bytes : List ℕ) (g : Grammar) → Spells bytes round → Denotes bytes g → ⊥
+round_denotes = denotes_none round round_stands
+
+-- an element may hold itself: what a define reaches through an `element` is no round
+
+abbrev inside_itself : Grammar
+inside_itself = record { start = expr.Ref (codes "a"); defines = record { name = codes "a"; body = element_body (codes "a") (expr.Ref (codes "a")) } ∷ [] }
+
+abbrev itself_parts : List Tree
+itself_parts = start (codes "a") ∷ define (codes "a") (element (codes "a") (ref (codes "a"))) ∷ []
+
+itself_linked : IsLinked inside_itself
+itself_linked = record { start = λ name r. first_defined name r; patterns = λ name d s r. first_defined name (subst (λ (x : Define). RefersTo name (pattern_of x.body)) (only_item _ _ s) r); apart = λ name r. no_round name name r }
+  where
+    first_defined : (name : List ℕ) → RefersTo name (expr.Ref (codes "a")) → StandsIn (codes "a" ∷ []) name
+    first_defined name r = subst (StandsIn (codes "a" ∷ [])) (sym (only_ref name (codes "a") r)) (stands_first _ _)
+
+    no_round : (name other : List ℕ) → Reaches inside_itself name other → ⊥
+    no_round name other (linked.at_once {p = p} d r) = let e : body.Part p ≡ element_body (codes "a") (expr.Ref (codes "a")) = ap (λ (x : Define). x.body) (only_item _ _ d) in cc
+    no_round name other (linked.through r s) = no_round _ _ r
+
+itself_stands : StandsFor (rng (codes "grammar") [] itself_parts) inside_itself
+itself_stands = record {
+  is_part = bare_part (codes "grammar") (codes "ns" ∷ codes "datatypeLibrary" ∷ []) itself_parts;
+  datatypes = λ value e. not_given value e;
+  start = start (codes "a");
+  before = [];
+  after = define (codes "a") (element (codes "a") (ref (codes "a"))) ∷ [];
+  parts = parts_are itself_parts refl;
+  is_start = start_is (codes "a") refl;
+  defines = inside_itself.defines;
+  are_defines = denoting.more (define_is (codes "a") (element (codes "a") (ref (codes "a"))) _ refl refl
+      (denoting.element (element_is (codes "a") (ref (codes "a")) (expr.Ref (codes "a")) refl refl (ref_is (codes "a") refl)))) denoting.none;
+  once = none_twice (codes "a" ∷ []) (tt, tt);
+  rising = refl;
+  same = λ name. refl;
+  linked = itself_linked;
+}

@@ -1,0 +1,41 @@
+-- References of a grammar: each is to a define, and no define reaches itself outside an element (ISO/IEC 19757-2, sections 4.18 and 4.19).
+use Rattle.std.specs.Prelude.{◌≡◌, ℕ, List, map}
+use Rattle.odd_reader.specs.Elements.{StandsIn}
+use Rattle.rng_patterns.specs.Patterns.{IsDefined}
+use Rattle.rng_patterns.specs.declared.grammar.Body.TheVariants as body
+use Rattle.rng_patterns.specs.declared.grammar.Body.{Body}
+use Rattle.rng_patterns.specs.declared.grammar.Define.{Define}
+use Rattle.rng_patterns.specs.declared.grammar.Expr.TheVariants as expr
+use Rattle.rng_patterns.specs.declared.grammar.Expr.{Expr}
+use Rattle.rng_patterns.specs.declared.grammar.Grammar.{Grammar}
+
+-- a pattern that stands in another
+pub data HasPart (p part : Expr) : Type 0 where
+  list : p ≡ expr.List part → HasPart p part
+  group : (parts : List Expr) → p ≡ expr.Group parts → StandsIn parts part → HasPart p part
+  choice : (parts : List Expr) → p ≡ expr.Choice parts → StandsIn parts part → HasPart p part
+  optional : p ≡ expr.Optional part → HasPart p part
+  zero_or_more : p ≡ expr.ZeroOrMore part → HasPart p part
+  one_or_more : p ≡ expr.OneOrMore part → HasPart p part
+
+-- the pattern has a reference to the name
+pub data RefersTo (name : List ℕ) : Expr → Type 0 where
+  here : RefersTo name (expr.Ref name)
+  inside : {p part : Expr} → HasPart p part → RefersTo name part → RefersTo name p
+
+-- a define that holds no `element` reaches what it refers to, and what that reaches
+pub data Reaches (g : Grammar) : List ℕ → List ℕ → Type 0 where
+  at_once : {name other : List ℕ} {p : Expr} → IsDefined g name (body.Part p) → RefersTo other p → Reaches g name other
+  through : {name between other : List ℕ} → Reaches g name between → Reaches g between other → Reaches g name other
+
+abbrev pub names_of : List Define → List (List ℕ)
+names_of ds = map (λ d. d.name) ds
+
+abbrev pub pattern_of : Body → Expr
+pattern_of (body.Element names attrs content) = content
+pattern_of (body.Part p) = p
+
+pub record IsLinked (g : Grammar) : Type 0 where
+  pub start : (name : List ℕ) → RefersTo name g.start → StandsIn (names_of g.defines) name
+  pub patterns : (name : List ℕ) (d : Define) → StandsIn g.defines d → RefersTo name (pattern_of d.body) → StandsIn (names_of g.defines) name
+  pub apart : (name : List ℕ) → Reaches g name name → ⊥
