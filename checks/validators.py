@@ -1,24 +1,38 @@
 #!/usr/bin/env python3
-"""Compares the schemas of twenty-six small ODD files, as jing and xmllint read them, with what the files admit.
+"""Compares the schemas of ODD files, as jing and xmllint read them, with what the files admit.
 
-    checks/validators.py PROGRAM
+    checks/validators.py PROGRAM [COUNT]
 
-PROGRAM is the built program odd. Of the two validators those that are installed are asked, and one must be. For each
-file and each of its documents the verdict that docs/admission.md gives is worked out here, apart from the program, and
-compared with theirs. Ends with 1 where one of them differs.
+PROGRAM is the built program odd. Of the two validators those that are installed are asked, and one must be. The files are
+twenty-six small ones, and COUNT at random with content models (2,000 where it is not given), from a fixed seed. For each
+file and each of its documents the verdict that docs/admission.md gives is worked out apart from the program, and compared
+with theirs. Ends with 1 where one of them differs. Schemas that libxml2 is known to misread, listed below, are jing's alone.
 """
 
+import collections
+import concurrent.futures
+import functools
 import pathlib
+import random
+import re
 import shutil
 import subprocess
 import sys
 import tempfile
-import xml.etree.ElementTree as Tree
 from xml.sax.saxutils import quoteattr
 
-TEI = "http://www.tei-c.org/ns/1.0"
-WHITE = " \t\r\n"
-VALIDATORS = [["jing"], ["xmllint", "--noout", "--relaxng"]]
+import content_models
+from content_models import BRANCHES, TEI, Library, Part, Spec, Verdicts, meeting_names, split_name
+
+# Where Debian puts jing. Its driver for test suites reads all folders in one run, of which the program jing would take hours.
+JING = pathlib.Path("/usr/share/java/jing.jar")
+JING_TESTS = ["java", "-cp", str(JING), "com.thaiopensource.relaxng.util.TestDriver"]
+XMLLINT = ["xmllint", "--noout", "--relaxng"]
+LONGEST = 600
+
+Case = collections.namedtuple("Case", "odd library documents")
+Made = collections.namedtuple("Made", "folder documents admitted misread")
+
 CONTENTS = {
     "none": "",
     "partless": "<content/>",
@@ -115,49 +129,262 @@ def documents(start, elements):
         yield "another start word with text", f"<{word} xmlns={quoteattr(namespace(elements[word]))}>x</{word}>"
 
 
-def is_admitted(start, elements, document):
-    """What docs/admission.md says of the document."""
-    root = Tree.fromstring(document)
-    text = root.text or ""
-    for word in start.split():
-        ns = namespace(elements[word])
-        if root.tag == (f"{{{ns}}}{word}" if ns else word) and not root.attrib and not len(root):
-            return elements[word].startswith("text") or not text.strip(WHITE)
+def small_case(start, elements):
+    """The case of a small library."""
+    parts = {"empty": [Part("empty")], "text": [Part("textNode")]}
+    specs = {}
+    for ident, content in elements.items():
+        content = content.partition(" ")[0]
+        specs[ident] = Spec(namespace(elements[ident]), Part("sequence", of=parts.get(content, [])))
+    return Case(odd_file(start, elements), Library(start.split(), None, specs), list(documents(start, elements)))
+
+
+def random_case(number):
+    """The case of a library at random, which is the same whenever it is made."""
+    rng = random.Random(f"{content_models.SEED} {number}")
+    library = content_models.made_library(rng)
+    return Case(content_models.odd_file(rng, library), library, list(content_models.made_documents(rng, library)))
+
+
+def case_of(number):
+    """The case of a number: first the small libraries, then those at random."""
+    return small_case(*LIBRARIES[number]) if number < len(LIBRARIES) else random_case(number - len(LIBRARIES))
+
+
+# The schemas that libxml2 misreads (2.9.14), each a fault of its own, found where jing and the standard say something else.
+# Its simplification of empty and notAllowed (xmlRelaxNGSimplify), and a choice of which it takes one branch alone
+# (xmlRelaxNGCheckChoiceDeterminism). Patterns are those of docs/schema.md.
+
+Pattern = collections.namedtuple("Pattern", "kind inside part", defaults=((), None))
+REPEATED = {(0, 1): "optional", (0, None): "zeroOrMore", (1, None): "oneOrMore"}
+
+
+def pattern(library, part):
+    """The pattern of a part."""
+    one = pattern_once(library, part)
+    if part.high == 0 or (part.low, part.high) == (1, 1):
+        return one if part.high else Pattern("empty")
+    if (part.low, part.high) in REPEATED:
+        return Pattern(REPEATED[part.low, part.high], (one,))
+    rest = [Pattern("zeroOrMore", (one,))] if part.high is None else [Pattern("optional", (one,))] * (part.high - part.low)
+    return Pattern("group", (*[one] * part.low, *rest))
+
+
+def pattern_once(library, part):
+    """The pattern of a part that stands once."""
+    if part.kind in BRANCHES:
+        inside = tuple(pattern(library, each) for each in part.of)
+        kinds = {"sequence": ("group", "empty"), "alternate": ("choice", "notAllowed")}[part.kind]
+        return inside[0] if len(inside) == 1 else Pattern(kinds[0], inside) if inside else Pattern(kinds[1])
+    if part.kind == "elementRef" and part.of not in library.elements:
+        return Pattern("notAllowed")
+    return Pattern({"empty": "empty", "textNode": "text"}.get(part.kind, "ref"), (), part)
+
+
+def content_pattern(library, ident):
+    """The pattern of an element's content."""
+    return pattern(library, library.elements[ident].content or Part("empty"))
+
+
+def within(whole):
+    """A pattern and all that are in it."""
+    yield whole
+    for each in whole.inside:
+        yield from within(each)
+
+
+def reached(library, idents):
+    """The held elements that stand in those of the idents, at any depth."""
+    found, new = set(), set(idents)
+    while new:
+        parts = [each.part for ident in new for each in within(content_pattern(library, ident)) if each.kind == "ref"]
+        new = {part.of for part in parts if part.kind == "elementRef"} - found
+        found |= new
+    return found
+
+
+def is_misread(library):
+    """Whether libxml2 misreads the schema of a library. It passes over elements that the start doesn't lead to."""
+    return any(is_misread_at(library, ident) for ident in {*library.start, *reached(library, library.start)})
+
+
+def is_misread_at(library, ident):
+    """Whether libxml2 misreads the content of an element."""
+    content, again = content_pattern(library, ident), ident in reached(library, [ident])
+    wrong = is_wrong_repetition, is_wrong_choice, functools.partial(is_cut_short, again), functools.partial(is_wrong_triage, library)
+    return is_refused(content) or any(test(each) for each in within(content) for test in wrong)
+
+
+def left(whole):
+    """The kind that libxml2 leaves of a pattern once it has simplified what is inside."""
+    inside = {left(each) for each in whole.inside}
+    if whole.kind in ("group", "zeroOrMore", "oneOrMore") and inside:
+        return "notAllowed" if "notAllowed" in inside else "empty" if inside == {"empty"} else whole.kind
+    return whole.kind
+
+
+def is_wrong_repetition(whole):
+    """A zeroOrMore of what is not allowed becomes notAllowed, and is empty."""
+    return whole.kind == "zeroOrMore" and left(whole) == "notAllowed"
+
+
+def is_wrong_choice(whole):
+    """A choice of which nothing is allowed accepts no child; one loses a branch that becomes empty by simplification."""
+    lost = any(left(each) == "empty" and each.inside for each in whole.inside)
+    return whole.kind == "choice" and (lost or all(left(each) == "notAllowed" for each in whole.inside))
+
+
+def is_cut_short(again, whole):
+    """Where a part of a group or choice goes, or is a group of which one part stays, the refs right before it go too. If the
+    element may stand in itself, libxml2 comes by again, and then a ref that stayed of a group is one more of these refs."""
+    gone = {"group": "empty", "choice": "notAllowed"}.get(whole.kind)
+    stays = waiting = False
+    for each in whole.inside:
+        if waiting and (remaining(each) != each or stays and left(each) == gone):
+            return True
+        if each.kind == "ref" or again and remaining(each).kind == "ref":
+            waiting = True
+        elif left(each) != gone:
+            stays, waiting = True, False
     return False
 
 
-def says_yes(command):
-    """Whether a validator says yes. Any other answer than yes or no ends the comparison."""
-    result = subprocess.run(command, capture_output=True, text=True)
-    if result.returncode not in (0, 1, 3):
-        sys.exit(f"{command}: status {result.returncode}\n{result.stderr}")
-    return result.returncode == 0
+def remaining(whole):
+    """The part that stays of a group if it is one; else the pattern."""
+    parts = staying(whole)
+    return remaining(parts[0]) if len(parts) == 1 else whole
 
 
-def main(program):
-    validators = {command[0]: command for command in VALIDATORS if shutil.which(command[0])}
-    if not validators:
+def staying(whole):
+    """The parts of a group that libxml2 leaves."""
+    return [each for each in whole.inside if left(each) != "empty"] if whole.kind == "group" else []
+
+
+def is_refused(whole):
+    """The content of an element that holds nothing but what is not allowed is taken for attributes, and then refused."""
+    return bool(whole.inside) and holds_nothing(whole)
+
+
+def holds_nothing(whole):
+    """Whether libxml2 finds no element, text or empty in a pattern."""
+    inside = staying(whole) or whole.inside
+    return left(whole) == "notAllowed" or bool(inside) and all(holds_nothing(each) for each in inside)
+
+
+def is_wrong_triage(library, whole):
+    """Of a choice that holds each name once, and any name once, only one branch is tried for an element that two could take."""
+    branches = [tops(library, each) for each in whole.inside if left(each) != "notAllowed"]
+    keys = [key for branch in branches for key, _names in branch]
+    if whole.kind != "choice" or is_nullable(whole) or not all(branches) or len(set(keys)) < len(keys):
+        return False
+    pairs = [(one, other) for at, one in enumerate(branches) for other in branches[:at]]
+    return any(names & others for one, other in pairs for _key, names in one for _other_key, others in other)
+
+
+def tops(library, whole):
+    """The elements and texts of a pattern: the key under which libxml2 holds each, and names of elements that it takes."""
+    if whole.kind == "text":
+        return [("#text", set())]
+    if whole.kind != "ref":
+        return [top for each in whole.inside if left(whole) != "notAllowed" for top in tops(library, each)]
+    if whole.part.kind == "elementRef":
+        name = content_models.namespace(library, whole.part.of), whole.part.of
+        return [(name, {name})]
+    names = set(meeting_names(whole.part.of))
+    required = set(whole.part.of.required) - set(whole.part.of.namespaces)
+    return [(("#any", *required) if len(required) == 1 else "#any", names)] if names else []
+
+
+def is_nullable(whole):
+    """Whether a pattern accepts no child."""
+    if whole.kind in ("choice", "oneOrMore"):
+        return any(is_nullable(each) for each in whole.inside)
+    if whole.kind == "group":
+        return all(is_nullable(each) for each in whole.inside)
+    return whole.kind in ("empty", "text", "optional", "zeroOrMore")
+
+
+# The comparison
+
+
+def make(program, folder, number):
+    """Writes the ODD file and the schema of a case, and its documents, each named by whether it is admitted."""
+    case, admitted = case_of(number), 0
+    folder.mkdir()
+    (folder / "x.odd").write_text(case.odd, encoding="utf-8")
+    with open(folder / "c.rng", "wb") as schema:
+        subprocess.run([program, "compile", folder / "x.odd"], check=True, stdout=schema)
+    for at, (_title, document) in enumerate(case.documents):
+        wanted = Verdicts(case.library).is_admitted(document)
+        admitted += wanted
+        (folder / f"{at}.{'v' if wanted else 'i'}.xml").write_text(document, encoding="utf-8", newline="")
+    return Made(folder, len(case.documents), admitted, is_misread(case.library))
+
+
+def xmllint_differs(folder):
+    """The documents in a folder of which xmllint says something else than their names, or the schema if it is refused."""
+    documents = sorted(path.name for path in folder.glob("*.xml"))
+    result = subprocess.run([*XMLLINT, "c.rng", *documents], capture_output=True, cwd=folder, timeout=LONGEST)
+    said = result.stderr.decode(errors="replace")
+    valid = re.findall(r"^(\d+\.[vi]\.xml) validates$", said, re.M)
+    if sorted(valid + re.findall(r"^(\d+\.[vi]\.xml) fails to validate$", said, re.M)) != documents:
+        return [folder / "c.rng"]
+    return [folder / name for name in documents if (name in valid) != name.endswith(".v.xml")]
+
+
+def jing_differs(folder, tests):
+    """The same of jing for all folders in a folder, which holds so many documents and schemas."""
+    command = [*JING_TESTS, folder / "log", folder]
+    result = subprocess.run(command, capture_output=True, text=True, timeout=LONGEST)
+    failed = [pathlib.Path(path) for path in re.findall(r"^Failed: *(.*)$", result.stderr, re.M)]
+    if not failed and f"Number of tests: {tests}\n" not in result.stderr:
+        sys.exit(f"{command}: status {result.returncode}\n{result.stdout}{result.stderr}")
+    return failed
+
+
+def told(validator, path):
+    """The lines on a document of which a validator says something else, or on a schema that it refuses."""
+    case = case_of(int(path.parent.name))
+    said = f"{validator} refuses the schema"
+    if path.suffix == ".xml":
+        title, document = case.documents[int(path.name.partition(".")[0])]
+        said = f"{validator} says {path.name.endswith('.i.xml')} of '{title}': {document}"
+    return f"{said}\nby the file\n{case.odd}"
+
+
+def compared(program, count, folder, pool):
+    """What was made in a folder, and for each validator that is installed how much it was asked, and where it differs."""
+    numbers = range(len(LIBRARIES) + count)
+    made = list(pool.map(functools.partial(make, program), [folder / str(number) for number in numbers], numbers, chunksize=10))
+    found = {}
+    if JING.exists() and shutil.which("java"):
+        found["jing"] = made, jing_differs(folder, sum(each.documents + 1 for each in made))
+    if shutil.which("xmllint"):
+        read = [each for each in made if not each.misread]
+        found["xmllint"] = read, [path for paths in pool.map(xmllint_differs, [each.folder for each in read]) for path in paths]
+    return made, found
+
+
+def documents_of(made):
+    """How many documents are in what was made."""
+    return sum(each.documents for each in made)
+
+
+def main(program, count):
+    with tempfile.TemporaryDirectory() as name, concurrent.futures.ProcessPoolExecutor() as pool:
+        made, found = compared(program, count, pathlib.Path(name), pool)
+    if not found:
         sys.exit("neither validator is installed")
-    differing = asked = yes = 0
-    with tempfile.TemporaryDirectory() as name:
-        folder = pathlib.Path(name)
-        odd, schema, instance = folder / "x.odd", folder / "x.rng", folder / "x.xml"
-        for start, elements in LIBRARIES:
-            odd.write_text(odd_file(start, elements))
-            schema.write_bytes(subprocess.run([program, "compile", odd], check=True, capture_output=True).stdout)
-            for title, document in documents(start, elements):
-                instance.write_text(document)
-                wanted = is_admitted(start, elements, document)
-                found = {name: says_yes([*command, schema, instance]) for name, command in validators.items()}
-                asked, yes = asked + 1, yes + wanted
-                for validator, verdict in found.items():
-                    if verdict != wanted:
-                        differing += 1
-                        print(f"{validator} says {verdict} of '{title}' for {start} in {elements}: {document}")
-    names = " and ".join(validators)
-    print(f"{names}: {len(LIBRARIES)} libraries, {asked} documents, {yes} of them admitted, {differing} verdicts that differ")
-    return 1 if differing else 0
+    for validator, (_asked, differing) in found.items():
+        for path in differing:
+            print(told(validator, path))
+    admitted = sum(each.admitted for each in made)
+    line = f"{len(made)} libraries, {documents_of(made)} documents, {admitted} of them admitted and {documents_of(made) - admitted} not"
+    for validator, (asked, differing) in found.items():
+        line += f"; {validator}: {len(differing)} of {documents_of(asked)} verdicts differ, over {len(asked)} libraries"
+    print(line)
+    return 1 if any(differing for _asked, differing in found.values()) else 0
 
 
 if __name__ == "__main__":
-    sys.exit(main(sys.argv[1]))
+    sys.exit(main(sys.argv[1], int(sys.argv[2]) if len(sys.argv) > 2 else 2000))
