@@ -4,3 +4,6 @@ pub mod Linked
 pub mod Names
 pub mod Nodes
 pub mod Patterns
+pub use Rattle.odd_patterns.specs.Children
+pub use Rattle.odd_patterns.specs.Pieces
+pub use Rattle.odd_patterns.specs.Words

@@ -1,4 +1,5 @@
-//! RELAX NG grammars: their types, what a grammar accepts, and which grammar a tree stands for.
+//! RELAX NG grammars: their types, what a grammar accepts, and which grammar a tree stands for; and patterns over any
+//! alphabet, with what is left of one after a symbol, which are the crate `odd_patterns`.
 #![tactic(auto)]
 
 pub mod grammar;
@@ -6,4 +7,8 @@ pub mod grammar;
 pub use grammar::{
     AttrPart, AttrRule, Body, Define, Defines, Expr, Exprs, Grammar, NameClass, NsPart, NsParts,
     Rules,
+};
+pub use odd_patterns::{
+    Alphabet, ChildLeaf, ChildSymbol, Children, Marks, Pat, choice, choice_of, derive, group,
+    group_of, more, nullable,
 };

@@ -1,0 +1,6 @@
+pub mod Derivatives
+pub mod EmptyWord
+pub mod Halves
+pub mod Lefts
+pub mod Pieces
+pub mod Simpler
