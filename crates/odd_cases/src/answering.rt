@@ -1,12 +1,16 @@
 ghost use Rattle.std.specs.Prelude.{◌≡◌, ◌↔◌, IsNone, IfOk};
 ghost use Rattle.odd_cases.specs.Comparing.{IsAnswered};
 
-use crate::case::{Case, Faulty, Question, Reply, Shown, Wanted};
+use crate::case::{Case, Chain, Faulty, Over, Question, Reply, Shown, Wanted};
+use crate::chains::{told_chosen, told_library};
 use crate::comparing::{Answer, is_answered, is_wanted};
 use crate::contents::add_content_of;
 use crate::fault::CaseFault;
+use crate::letters::Letters;
+use crate::patterns::told_lines;
 use crate::showing::add_tree_of;
 use odd_base::{Bytes, Files, MemShelf, MemSink, NoMemory, Text, Words};
+use odd_patterns::Children;
 use odd_run::run;
 use std::alloc::Global;
 
@@ -35,8 +39,17 @@ pub fn difference(alloc: Global, case: Case) -> Result<Option<String>, CaseFault
         }
         Question::Shown { shown, wanted } => {
             let text = shown_files(alloc, shown, &files)?;
-            shown_difference(alloc, shown, &wanted, &text)
+            shown_difference(alloc, shown.name(), &wanted, &text)
         }
+        Question::Patterns {
+            over,
+            asked,
+            wanted,
+        } => {
+            let text = told_patterns(alloc, over, &asked, &wanted)?;
+            shown_difference(alloc, "patterns", &wanted, &text)
+        }
+        Question::Chains(chains) => chains_difference(alloc, chains.as_slice()),
     }
 }
 
@@ -136,10 +149,60 @@ fn shown_files(alloc: Global, shown: Shown, files: &Files) -> Result<Text, NoMem
     Ok(text)
 }
 
+// The lines, with what is told of their patterns.
+fn told_patterns(
+    alloc: Global,
+    over: Over,
+    asked: &Words,
+    lines: &Bytes,
+) -> Result<Text, CaseFault> {
+    let Ok(lines) = str::from_utf8(lines.as_slice()) else {
+        return Err(CaseFault::NotText);
+    };
+    match over {
+        Over::Letters => told_lines(alloc, &Letters, asked, lines),
+        Over::Children => told_lines(alloc, &Children, asked, lines),
+    }
+}
+
+// What is answered otherwise than wanted of the first chain where something is.
+fn chains_difference(alloc: Global, chains: &[Chain]) -> Result<Option<String>, CaseFault> {
+    for (before, chain) in chains.iter().enumerate() {
+        if let Some(told) = chain_difference(alloc, chain)? {
+            let number = before.saturating_add(1);
+            return Ok(Some(format!(in alloc; " chain {number}{told}")?));
+        }
+    }
+    Ok(None)
+}
+
+// What is answered of a chain otherwise than wanted.
+fn chain_difference(alloc: Global, chain: &Chain) -> Result<Option<String>, CaseFault> {
+    let Chain {
+        docs,
+        library,
+        chosen,
+    } = chain;
+    if let Some(wanted) = library {
+        let text = told_library(alloc, docs.as_slice())?;
+        let difference = shown_difference(alloc, "library", wanted, &text)?;
+        if difference.is_some() {
+            return Ok(difference);
+        }
+    }
+    match chosen {
+        Some(wanted) => {
+            let text = told_chosen(alloc, docs.as_slice())?;
+            shown_difference(alloc, "chosen", wanted, &text)
+        }
+        None => Ok(None),
+    }
+}
+
 // What is shown otherwise than wanted.
 fn shown_difference(
     alloc: Global,
-    shown: Shown,
+    name: &str,
     wanted: &Bytes,
     text: &Text,
 ) -> Result<Option<String>, CaseFault>
@@ -150,6 +213,6 @@ fn shown_difference(
         return Ok(None);
     }
     let mut told = String::new(alloc);
-    add_place(&mut told, shown.name(), wanted.as_slice(), bytes)?;
+    add_place(&mut told, name, wanted.as_slice(), bytes)?;
     Ok(Some(told))
 }

@@ -1,4 +1,5 @@
 use odd_base::{Bytes, Calls, Files, Words};
+use odd_decls::OddDoc;
 
 /// Bytes that are written, or the parts that they must have.
 #[derive(Drop)]
@@ -44,6 +45,23 @@ impl Shown {
     }
 }
 
+/// What patterns are over.
+#[derive(Clone, Copy)]
+pub enum Over {
+    Letters,
+    Children,
+}
+
+/// Docs in their order, and what must be answered of them.
+#[derive(Drop)]
+pub struct Chain {
+    pub docs: Vec<OddDoc>,
+    /// The library after the last.
+    pub library: Option<Bytes>,
+    /// What the last chooses.
+    pub chosen: Option<Bytes>,
+}
+
 /// What is asked of the files of a case, and what must be answered.
 #[derive(Drop)]
 pub enum Question {
@@ -58,6 +76,14 @@ pub enum Question {
         shown: Shown,
         wanted: Bytes,
     },
+    /// Which of the words the patterns match, with which the lines begin.
+    Patterns {
+        over: Over,
+        asked: Words,
+        wanted: Bytes,
+    },
+    /// The library after the docs of each chain, or what the last of them chooses.
+    Chains(Vec<Chain>),
 }
 
 /// The files on the shelf, and the question.

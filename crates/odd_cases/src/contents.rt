@@ -22,9 +22,9 @@ pub fn add_content_of(alloc: Global, out: &mut Text, bytes: &[u8]) -> Result<(),
     }
 }
 
-// Puts a content: the idents and the conditions with their bounds, and parts in parentheses.
+/// Puts a content: the idents and the conditions with their bounds, and parts in parentheses.
 #[cycle(contents)]
-fn add_content(alloc: Global, out: &mut Text, content: &Content) -> Result<(), NoMemory> {
+pub fn add_content(alloc: Global, out: &mut Text, content: &Content) -> Result<(), NoMemory> {
     match content {
         Content::Empty => out.push_str("empty"),
         Content::Text => out.push_str("text"),

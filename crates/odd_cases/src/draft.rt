@@ -1,4 +1,6 @@
-use crate::case::{Case, Faulty, Question, Reply, Shown, Wanted};
+use crate::all_words::all_words;
+use crate::case::{Case, Chain, Faulty, Over, Question, Reply, Shown, Wanted};
+use crate::docs::read_docs;
 use crate::fault::CaseFault;
 use crate::part::{Device, Head, Part, read_parts};
 use odd_base::{Bytes, Calls, File, Files, NoMemory, Text, Words};
@@ -12,6 +14,9 @@ struct Draft {
     reply: ReplyDraft,
     faulty: Faulty,
     shown: Option<(Shown, Bytes)>,
+    asked: Option<Words>,
+    patterns: Option<(Over, Bytes)>,
+    chains: Vec<Chain>,
 }
 
 // What is read of a reply so far. The parts are those that the output must have.
@@ -48,6 +53,9 @@ fn empty_draft(alloc: Global) -> Draft {
             note: Calls::new(alloc),
         },
         shown: None,
+        asked: None,
+        patterns: None,
+        chains: Vec::new(alloc),
     }
 }
 
@@ -67,7 +75,7 @@ fn put_part(alloc: Global, draft: &mut Draft, part: Part<'_>) -> Result<(), Case
         Head::Code(code) => set_once(&mut draft.reply.code, code),
         Head::Note => set_once(&mut draft.reply.note, Bytes::from_vec(text)),
         Head::Out => set_once(&mut draft.reply.out, Bytes::from_vec(text)),
-        Head::OutHas if text.is_empty() => Err(CaseFault::NoLines),
+        Head::OutHas | Head::Asked if text.is_empty() => Err(CaseFault::NoLines),
         Head::OutHas => {
             draft.reply.parts.push(Bytes::from_vec(text))?;
             Ok(())
@@ -77,7 +85,40 @@ fn put_part(alloc: Global, draft: &mut Draft, part: Part<'_>) -> Result<(), Case
             let wanted = shown_of(alloc, text.as_slice())?;
             set_once(&mut draft.shown, (shown, wanted))
         }
+        Head::Asked => set_once(&mut draft.asked, read_words(alloc, text.as_slice())?),
+        Head::AllWords(length, symbols) => {
+            set_once(&mut draft.asked, all_words(alloc, length, symbols)?)
+        }
+        Head::Patterns(over) => {
+            let wanted = shown_of(alloc, text.as_slice())?;
+            set_once(&mut draft.patterns, (over, wanted))
+        }
+        Head::Docs => {
+            draft.chains.push(begun_chain(alloc, text.as_slice())?)?;
+            Ok(())
+        }
+        Head::Library => {
+            let wanted = shown_of(alloc, text.as_slice())?;
+            set_once(&mut last_chain(draft)?.library, wanted)
+        }
+        Head::Chosen => {
+            let wanted = shown_of(alloc, text.as_slice())?;
+            set_once(&mut last_chain(draft)?.chosen, wanted)
+        }
     }
+}
+
+// A chain of which nothing is asked so far.
+fn begun_chain(alloc: Global, text: &[u8]) -> Result<Chain, CaseFault> {
+    Ok(Chain {
+        docs: read_docs(alloc, text)?,
+        library: None,
+        chosen: None,
+    })
+}
+
+fn last_chain(draft: &mut Draft) -> Result<&mut Chain, CaseFault> {
+    draft.chains.last_mut().ok_or(CaseFault::NoDocs)
 }
 
 fn set_once<T: Drop>(place: &mut Option<T>, value: T) -> Result<(), CaseFault> {
@@ -122,20 +163,46 @@ fn finish(alloc: Global, draft: Draft) -> Result<Case, CaseFault> {
         reply,
         faulty,
         shown,
+        asked,
+        patterns,
+        chains,
     } = draft;
-    let question = match (words, shown) {
-        (Some(words), None) => Question::Run {
+    let is_bare = !has_reply(&reply, &faulty);
+    let has_chains = !chains.is_empty();
+    let question = match (words, shown, asked, patterns) {
+        (None, None, None, None) if has_chains && is_bare && files.is_empty() => {
+            chains_question(chains)?
+        }
+        _ if has_chains => return Err(CaseFault::DocsNotAlone),
+        (Some(words), None, None, None) => Question::Run {
             words,
             faulty,
             reply: reply_of(alloc, reply)?,
         },
-        (None, Some((shown, wanted))) if !has_reply(&reply, &faulty) && files.len() == 1 => {
+        (None, Some((shown, wanted)), None, None) if is_bare && files.len() == 1 => {
             Question::Shown { shown, wanted }
         }
-        (None, None) => return Err(CaseFault::NothingAsked),
+        (None, None, Some(asked), Some((over, wanted))) if is_bare && files.is_empty() => {
+            Question::Patterns {
+                over,
+                asked,
+                wanted,
+            }
+        }
+        (None, None, None, None) => return Err(CaseFault::NothingAsked),
         _ => return Err(CaseFault::NotAlone),
     };
     Ok(Case { files, question })
+}
+
+// The question of chains, of each of which something is asked.
+fn chains_question(chains: Vec<Chain>) -> Result<Question, CaseFault> {
+    for chain in &chains {
+        if chain.library.is_none() && chain.chosen.is_none() {
+            return Err(CaseFault::NothingAsked);
+        }
+    }
+    Ok(Question::Chains(chains))
 }
 
 // Whether something is said of a reply.

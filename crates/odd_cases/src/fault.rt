@@ -23,7 +23,7 @@ pub enum CaseFault {
     NothingBefore,
     #[error("an escape is not known")]
     UnknownEscape,
-    #[error("the words are no text")]
+    #[error("the words or the patterns are no text")]
     NotText,
     #[error("a case asks nothing")]
     NothingAsked,
@@ -31,7 +31,17 @@ pub enum CaseFault {
     NoCode,
     #[error("a head stands twice")]
     Twice,
-    #[error("a tree or a content is asked of one file, beside nothing else")]
+    #[error("a pattern is not read")]
+    NoPattern,
+    #[error("a word is not read")]
+    NoWord,
+    #[error("a line of docs is not read")]
+    NoItem,
+    #[error("an answer stands before its docs")]
+    NoDocs,
+    #[error("docs and their answers stand beside something else")]
+    DocsNotAlone,
+    #[error("a tree or a content is asked of one file, patterns of words, and each beside nothing else")]
     NotAlone,
 }
 

@@ -1,19 +1,26 @@
 //! Runs each case of data/ over files and outputs in memory, and tells each whose answer is not the wanted one.
 #![tactic(auto)]
 
+mod all_words;
 mod answering;
 mod body;
 mod case;
+mod chains;
 mod comparing;
 mod contents;
+mod docs;
 mod draft;
 mod escapes;
 mod fault;
+mod letters;
 mod outcome;
 mod part;
 mod paths;
+mod patterns;
+mod postfix;
 mod section;
 mod showing;
+mod spelled;
 
 use crate::outcome::{count_differing, outcomes_of, refusals_of};
 use anyhow::Result;

@@ -49,7 +49,7 @@ fn file_difference<R: Files + AllocGlobal>(
     difference(rt.alloc(), case)
 }
 
-/// Why the cases of a folder are not read, in the order of their paths.
+/// Why the cases of a folder are not read or not answered, in the order of their paths.
 pub fn refusals_of<R: Files + AllocGlobal + Clone + Drop>(
     rt: &R,
     folder: &str,
@@ -62,10 +62,9 @@ pub fn refusals_of<R: Files + AllocGlobal + Clone + Drop>(
     Ok(refusals)
 }
 
-// Why the case of a file is not read, where it is not.
+// Why the case of a file is not read or not answered, where it is not.
 fn file_refusal<R: Files + AllocGlobal>(rt: &R, path: &str) -> Result<Option<String>, CaseFault> {
-    let text = fs::read_to_string(rt, path)?;
-    match read_case(rt.alloc(), text.as_str()) {
+    match file_difference(rt, path) {
         Ok(_) => Ok(None),
         Err(fault) => Ok(Some(format!(in rt.alloc(); " {fault}")?)),
     }

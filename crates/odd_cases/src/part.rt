@@ -1,5 +1,5 @@
 use crate::body::{Form, add_body, add_each, form_of};
-use crate::case::Shown;
+use crate::case::{Over, Shown};
 use crate::fault::CaseFault;
 use crate::section::{Section, read_sections};
 use std::alloc::Global;
@@ -23,6 +23,12 @@ pub enum Head<'a> {
     OutHas,
     Fails(Device, u64),
     Shown(Shown),
+    Asked,
+    AllWords(u32, &'a str),
+    Patterns(Over),
+    Docs,
+    Library,
+    Chosen,
 }
 
 /// A part of a case: its head, and its text with all that goes on with it.
@@ -55,7 +61,10 @@ fn goes_on(head: &str) -> bool {
 
 // Puts a section that goes on with a part.
 fn go_on(alloc: Global, part: &mut Part<'_>, section: &Section<'_>) -> Result<(), CaseFault> {
-    if matches!(part.head, Head::Code(_) | Head::Fails(_, _)) {
+    if matches!(
+        part.head,
+        Head::Code(_) | Head::Fails(_, _) | Head::AllWords(_, _)
+    ) {
         return Err(CaseFault::StrayLines);
     }
     let (head, form) = form_of(section.head);
@@ -82,6 +91,7 @@ fn begin_part<'a>(alloc: Global, section: &Section<'a>) -> Result<Part<'a>, Case
         "words" => words_part(alloc, rest, section.body),
         "code" => numbered_part(alloc, read_code(rest), section.body),
         "fails" => numbered_part(alloc, read_failing(rest), section.body),
+        "all" => numbered_part(alloc, read_all_words(rest), section.body),
         _ => text_part(alloc, section),
     }
 }
@@ -138,6 +148,11 @@ fn read_failing<'a>(text: &str) -> Option<Head<'a>> {
     Some(Head::Fails(device, call.parse::<u64>().ok()?))
 }
 
+fn read_all_words(text: &str) -> Option<Head<'_>> {
+    let (length, symbols) = text.split_once(' ')?;
+    Some(Head::AllWords(length.parse::<u32>().ok()?, symbols))
+}
+
 // A part whose text stands below its head.
 fn text_part<'a>(alloc: Global, section: &Section<'a>) -> Result<Part<'a>, CaseFault> {
     let (head, form) = form_of(section.head);
@@ -156,6 +171,12 @@ fn read_text_head(head: &str) -> Option<Head<'_>> {
         "out has" => Some(Head::OutHas),
         "tree" => Some(Head::Shown(Shown::Tree)),
         "content" => Some(Head::Shown(Shown::Content)),
+        "asked" => Some(Head::Asked),
+        "patterns" => Some(Head::Patterns(Over::Letters)),
+        "patterns of children" => Some(Head::Patterns(Over::Children)),
+        "docs" => Some(Head::Docs),
+        "library" => Some(Head::Library),
+        "chosen" => Some(Head::Chosen),
         _ => match head.strip_prefix("file ") {
             Some(name) if !name.contains(' ') => Some(Head::File(name)),
             _ => None,

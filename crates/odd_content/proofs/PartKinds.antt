@@ -20,24 +20,25 @@ found_passes test passes (y ∷ ys) x all e =
     (λ h. found_passes test passes ys x (and_parts (passes y) (list_all passes ys) all).1 (rw h at e)) (cases_Bool (test y))
 
 abbrev is_kind : Element → Bool
-is_kind kind.SchemaSpec = false
-is_kind kind.ElementSpec = false
-is_kind kind.Content = false
-is_kind _ = true
+is_kind kind.Sequence = true
+is_kind kind.Alternate = true
+is_kind kind.ElementRef = true
+is_kind kind.AnyElement = true
+is_kind kind.TextNode = true
+is_kind kind.Empty = true
+is_kind _ = false
 
 part_kind : (t : Tree) (e : Element) → part_of t ≡ Some e → is_kind e ≡ true
 part_kind t e is = found_passes (λ k. is_one_of ((form_at k).name ∷ []) t) is_kind (parts ++ []) e refl is
 
 last_kind : (e : Element) → is_kind e ≡ true → (IsLevel e → ⊥) → e ≢ kind.AnyElement → e ≢ kind.ElementRef → e ≢ kind.TextNode → e ≡ kind.Empty
-last_kind kind.SchemaSpec h flat any ref text = cc
-last_kind kind.ElementSpec h flat any ref text = cc
-last_kind kind.Content h flat any ref text = cc
 last_kind kind.Sequence h flat any ref text = absurd (flat (inl refl))
 last_kind kind.Alternate h flat any ref text = absurd (flat (inr refl))
 last_kind kind.ElementRef h flat any ref text = absurd (ref refl)
 last_kind kind.AnyElement h flat any ref text = absurd (any refl)
 last_kind kind.TextNode h flat any ref text = absurd (text refl)
 last_kind kind.Empty h flat any ref text = refl
+last_kind _ h flat any ref text = cc
 
 -- a part that is no other is `empty`
 pub empty_part : (t : Tree) (e : Element) → part_of t ≡ Some e → (IsLevel e → ⊥) → e ≢ kind.AnyElement → e ≢ kind.ElementRef → e ≢ kind.TextNode → part_of t ≡ Some kind.Empty

@@ -1,4 +1,5 @@
 -- The words of `except`, sorted into namespaces, names and those with a prefix that is not bound.
+use Rattle.odd_forms.specs.Words.{words_given}
 use Rattle.std.proofs.Common.{◌≡◌, ◌↔◌, ℕ, Bool, true, false, List, [], ◌∷◌, ◌++◌, refl, sym, subst, ◌∙◌, ⊎_elim, inl, inr}
 use Rattle.std.specs.Prelude.{IsTrue, codes}
 use Rattle.std.specs.declared.cmp.Ordering.{Ordering}
@@ -10,7 +11,7 @@ use Rattle.odd_reader.specs.Elements.{StandsIn}
 use Rattle.odd_reader.specs.declared.tree.Tree.{Tree}
 use Rattle.odd_reader.proofs.InList.{StandsOnce, nothing_stands, once_push, stands_push}
 use Rattle.odd_forms.specs.Sorted.{IsSet}
-use Rattle.odd_content.specs.Excepting.{IsExceptedName, IsExceptedSpace, IsNameOf, IsReadAs, IsSpace, IsUnbound, words_given}
+use Rattle.odd_content.specs.Excepting.{IsExceptedName, IsExceptedSpace, IsNameOf, IsReadAs, IsSpace, IsUnbound}
 use Rattle.odd_content.specs.declared.excepted.Excepted.TheVariants as excepted
 use Rattle.odd_content.proofs.Prefixed.{name_bound, one_name}
 

@@ -1,22 +1,18 @@
 -- The condition of `anyElement`: its words, and what they name under the declarations in force (Namespaces in XML 1.0, section 6).
-use Rattle.std.specs.Prelude.{◌≡◌, ℕ, List, [], ◌++◌, Some, None, codes, unwrap_or}
+use Rattle.std.specs.Prelude.{◌≡◌, ℕ, List, ◌++◌, Some, None, codes}
 use Rattle.odd_base.specs.NameOrder.{name_cmp}
 use Rattle.odd_base.specs.Text.{text_cmp}
 use Rattle.odd_base.specs.declared.name.Bind.{Bind}
 use Rattle.odd_base.specs.declared.name.Name.{Name}
 use Rattle.odd_tokens.specs.Characters.{IsNCName}
-use Rattle.odd_reader.specs.Elements.{StandsIn, given}
+use Rattle.odd_reader.specs.Elements.{StandsIn}
 use Rattle.odd_reader.specs.Names.{in_force}
 use Rattle.odd_reader.specs.declared.tree.Tree.{Tree}
 use Rattle.odd_forms.specs.Sorted.{IsSet}
-use Rattle.odd_forms.specs.Words.{words_of}
+use Rattle.odd_forms.specs.Words.{words_given}
 use Rattle.odd_content.specs.declared.content.Condition.{Condition}
 use Rattle.odd_content.specs.declared.excepted.Excepted.{Excepted}
 use Rattle.odd_content.specs.declared.excepted.Excepted.TheVariants as excepted
-
--- the words of an attribute, and none where it is absent
-abbrev pub words_given : Tree → List ℕ → List (List ℕ)
-words_given t local = words_of (unwrap_or (given t local) [])
 
 -- a word of the form NCName, colon, NCName
 pub record IsPrefixed (word prefix local : List ℕ) : Type 0 where

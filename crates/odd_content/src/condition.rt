@@ -1,12 +1,12 @@
 ghost use Rattle.std.specs.Prelude.{◌≡◌, ◌↔◌, map, IfOk, IsTrue};
 ghost use Rattle.odd_reader.specs.Elements.{all_binds};
-ghost use Rattle.odd_content.specs.Excepting.{HasUnbound, IsConditionOf, words_given as the_words_given};
+ghost use Rattle.odd_content.specs.Excepting.{HasUnbound, IsConditionOf};
 
 use crate::content::Condition;
 use crate::excepted::{Excepted, read_excepted};
 use odd_base::{Names, NoMemory, Words};
-use odd_forms::{sorted, words_of};
-use odd_reader::{Bindings, Tree, attribute};
+use odd_forms::{sorted, words_given};
+use odd_reader::{Bindings, Tree};
 use std::alloc::Global;
 
 /// A condition, and whether a prefix in it is not bound.
@@ -47,14 +47,4 @@ pub fn read_condition(
         },
         has_unbound,
     })
-}
-
-// The words of an attribute, and none where it is absent.
-fn words_given(alloc: Global, tree: &Tree, local: &str) -> Result<Words, NoMemory>
-    ensures { IfOk result (λ words. words ≡ the_words_given tree.now local.now) }
-{
-    match attribute(&tree.attrs, local) {
-        Some(value) => words_of(alloc, value.as_str()),
-        None => Ok(Words::new(alloc)),
-    }
 }

@@ -13,6 +13,14 @@ pub struct Condition {
     pub names: Names,
 }
 
+/// Which of several elements a reference names, by their idents.
+#[derive(Debug, Drop)]
+pub enum Pick {
+    All,
+    Include(Words),
+    Except(Words),
+}
+
 /// A content model of the TEI Guidelines (the chapter Documentation Elements).
 #[derive(Drop)]
 pub enum Content {

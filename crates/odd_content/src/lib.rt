@@ -6,5 +6,5 @@ mod content;
 mod excepted;
 mod reading;
 
-pub use content::{Condition, Content, Contents};
+pub use content::{Condition, Content, Contents, Pick};
 pub use reading::{ContentRefusal, read_content, read_content_in};

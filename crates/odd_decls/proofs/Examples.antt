@@ -1,8 +1,9 @@
--- Small files: where their elements are found, what in them is not read yet, what offends, what they declare, and what a library holds of them.
+-- Small files: where their elements are found, what in them is not read yet, what offends, what they declare, and as which components.
 use Rattle.std.proofs.Common.{◌≡◌, ℕ, ◌≤◌, ◌<◌, true, List, [], ◌∷◌, ◌++◌, get_or, Option, Some, None, inl, inr, ⊎_elim, refl, sym, ap, subst, ◌∙◌, codes, arith}
 use Rattle.std.specs.Prelude.{if◌then◌else◌, count_by, filter, is_some}
 use Rattle.std.specs.Cmp.Lexicographic.{other_text}
 use Rattle.std.specs.declared.cmp.Ordering.TheVariants.{Less}
+use Rattle.std.proofs.lemmas.Bool.{false≢true}
 use Rattle.std.proofs.lemmas.List.Elements.{All-contains}
 use Rattle.odd_base.specs.Text.{text_cmp}
 use Rattle.odd_base.specs.declared.key.Kind.TheVariants as kind
@@ -13,7 +14,7 @@ use Rattle.odd_reader.specs.declared.tree.Attr.{Attr}
 use Rattle.odd_reader.specs.declared.tree.Node.{Node, Element, Text}
 use Rattle.odd_reader.specs.declared.tree.Tree.{Tree, out-Tree, roll-Tree}
 use Rattle.odd_reader.proofs.InList.{first_or_later, nothing_stands, stands_first, stands_later}
-use Rattle.odd_forms.specs.Faults.{AttributeFault, ChildFault, FormFault, OwnFault, ValueFault, child_in}
+use Rattle.odd_forms.specs.Faults.{AttributeFault, ChildFault, DemandFault, FormFault, OwnFault, ValueFault, child_in}
 use Rattle.odd_forms.specs.Form.{AreNames, AttributeForm}
 use Rattle.odd_forms.specs.Form as form
 use Rattle.odd_forms.specs.Least.{IsLeast}
@@ -29,23 +30,25 @@ use Rattle.odd_content.specs.Excepting.{IsNameOf}
 use Rattle.odd_content.specs.Giving.{AreParts, IsPart, part_of, parts_of}
 use Rattle.odd_content.specs.declared.content.Content.{Content}
 use Rattle.odd_content.specs.declared.content.Content.TheVariants as content
-use Rattle.odd_decls.specs.Declares.{Declares, GivesContent, IsEntryOf, PlacesRise, namespace_given}
-use Rattle.odd_decls.specs.Library.{IsLibraryOf, component_of, declared_at}
+use Rattle.odd_content.specs.declared.content.Pick.TheVariants as pick
+use Rattle.odd_decls.specs.Declares.{Declares, GivesContent, IsEntryOf, PlacesRise, mode_given, namespace_given, namespace_in, pick_given}
+use Rattle.odd_decls.specs.Library.{component_of}
 use Rattle.odd_decls.specs.Odd.{element_key}
-use Rattle.odd_decls.specs.Offences.{HasOffence, IsContentChild, IsFirstOf, IsNotBefore, IsSpecOf, ItemFault, ItemOffends, Offends, SpecFault}
+use Rattle.odd_decls.specs.Offences.{HasOffence, IsContentChild, IsFirstOf, IsItem, IsNotBefore, IsSpecOf, ItemFault, ItemOffends, Offends}
 use Rattle.odd_decls.specs.Pending.{IsPending, outermost}
 use Rattle.odd_decls.specs.Pending as pending
 use Rattle.odd_decls.specs.Search.{Finds, Found, foreign, own, through}
 use Rattle.odd_decls.specs.Search as search
 use Rattle.odd_decls.specs.declared.library.Component.TheVariants as component
-use Rattle.odd_decls.specs.declared.library.Library.{Library}
 use Rattle.odd_decls.specs.declared.odd.Entry.{Entry}
 use Rattle.odd_decls.specs.declared.odd.Entry.TheVariants as entry
 use Rattle.odd_decls.specs.declared.odd.OddDoc.{OddDoc}
+use Rattle.odd_decls.specs.declared.spec.Mode.TheVariants as mode
 use Rattle.odd_decls.specs.declared.spec.Spec.{Spec}
-use Rattle.odd_decls.proofs.OneLibrary.{one_doc, one_library}
+use Rattle.odd_decls.proofs.ItemFaults.{other_by_standing}
+use Rattle.odd_decls.proofs.OneDoc.{one_doc}
 use Rattle.odd_decls.proofs.Searched.{one_search}
-use Rattle.odd_decls.proofs.SmallFiles.{Each, HoldsNone, IsFine, IsNamedSchema, IsNamedSpec, IsSound, MayStand, a_alone, alone, among, attribute, bare_is_sound, by_children, declares, each_such, element, element_first, element_in, elements_are, entry_less, entry_more, few, few_rise, found_first, found_through, in_child, may_stand, no_entries, no_name, no_own_fault, nodes, none_held, not_pending, only_child, other_by_standing, plain, spec_by_children, spec_is_sound, stands, text_first, text_sound, twice_later}
+use Rattle.odd_decls.proofs.SmallFiles.{Each, HoldsNone, IsFine, IsNamedSchema, IsNamedSpec, IsSound, MayStand, a_alone, alone, among, attribute, bare_is_sound, by_children, declares, each_such, element, element_first, element_in, elements_are, entry_less, entry_more, few, few_rise, found_first, found_through, in_child, may_stand, no_entries, no_name, no_own_fault, nodes, none_held, not_pending, only_child, plain, spec_by_children, spec_is_sound, stands, text_first, text_sound, twice_later}
 
 -- Words
 
@@ -213,49 +216,49 @@ abbrev spec_with : ℕ → List Tree → Tree
 spec_with at children = element at (codes "elementSpec") (attribute (codes "ident") (codes "a") ∷ []) children
 
 spec_named : (at : ℕ) (children : List Tree) → IsNamedSpec (codes "a") (spec_with at children)
-spec_named at children = record { is_spec = refl; ident = refl; name = is_name (codes "a") refl; no_module = refl; no_prefix = refl; no_source = refl }
+spec_named at children = record { is_spec = refl; ident = refl; name = is_name (codes "a") refl; no_module = refl; no_mode = refl; no_prefix = refl; no_source = refl }
 
 -- the rule of an attribute that it may have
-attribute_breaks : (a : AttributeForm) (item : Tree) (rule : ℕ) → StandsIn (form_at elements.ElementSpec).attributes a → AttributeFault a item rule → SpecFault [] item rule
-attribute_breaks a item rule s fault = SpecFault.form (FormFault.own (OwnFault.attribute a s fault))
+attribute_breaks : (a : AttributeForm) (item : Tree) (rule : ℕ) → StandsIn (form_at elements.ElementSpec).attributes a → IsItem elements.ElementSpec item → AttributeFault a item rule → ItemFault [] item rule
+attribute_breaks a item rule s is fault = ItemFault.form elements.ElementSpec is (FormFault.own (OwnFault.attribute a s fault))
 
 -- without an `ident` it breaks rule 1, and so it does with an empty one and with an empty module
-no_ident : SpecFault [] (element 7 (codes "elementSpec") [] []) 1
-no_ident = attribute_breaks _ _ 1 (stands_first _ _) (AttributeFault.absent refl refl)
+no_ident : ItemFault [] (element 7 (codes "elementSpec") [] []) 1
+no_ident = attribute_breaks _ _ 1 (stands_first _ _) refl (AttributeFault.absent refl refl)
 
 empty_is_no_name : IsNCName [] → ⊥
 empty_is_no_name = no_name [] refl refl
 
-empty_ident : SpecFault [] (element 7 (codes "elementSpec") (attribute (codes "ident") [] ∷ []) []) 1
-empty_ident = attribute_breaks (table.needed (codes "ident") form.name) _ 1 (stands_first _ _) (AttributeFault.value [] refl (ValueFault.malformed refl empty_is_no_name))
+empty_ident : ItemFault [] (element 7 (codes "elementSpec") (attribute (codes "ident") [] ∷ []) []) 1
+empty_ident = attribute_breaks (table.needed (codes "ident") form.name) _ 1 (stands_first _ _) refl (AttributeFault.value [] refl (ValueFault.malformed refl empty_is_no_name))
 
-empty_module : SpecFault [] (spec_given (attribute (codes "module") [] ∷ [])) 1
+empty_module : ItemFault [] (spec_given (attribute (codes "module") [] ∷ [])) 1
 empty_module =
-    attribute_breaks (table.optional (codes "module") form.name) _ 1 (stands_later _ _ _ (stands_first _ [])) (AttributeFault.value [] refl (ValueFault.malformed refl empty_is_no_name))
+    attribute_breaks (table.optional (codes "module") form.name) _ 1 (stands_later _ _ _ (stands_first _ _)) refl (AttributeFault.value [] refl (ValueFault.malformed refl empty_is_no_name))
 
 -- `source` is left out, whatever it says
-empty_source : SpecFault [] (spec_given (attribute (codes "source") [] ∷ [])) 2
-empty_source = SpecFault.form (FormFault.own (OwnFault.left_out (codes "source") (stands_later _ _ _ (stands_first _ [])) refl))
+empty_source : ItemFault [] (spec_given (attribute (codes "source") [] ∷ [])) 2
+empty_source = ItemFault.form elements.ElementSpec refl (FormFault.own (OwnFault.left_out (codes "source") (stands_later _ _ _ (stands_first _ [])) refl))
 
 -- a `constraintSpec` in it, and as an item
 abbrev constraint_spec : Tree
 constraint_spec = element 20 (codes "constraintSpec") [] []
 
-constraint_in_spec : SpecFault [] (spec_with 7 (constraint_spec ∷ [])) 2
-constraint_in_spec = SpecFault.form (FormFault.child constraint_spec (only_child constraint_spec) (ChildFault.left_out refl))
+constraint_in_spec : ItemFault [] (spec_with 7 (constraint_spec ∷ [])) 2
+constraint_in_spec = ItemFault.form elements.ElementSpec refl (FormFault.child constraint_spec (only_child constraint_spec) (ChildFault.left_out refl))
 
 constraint_item : ItemFault [] constraint_spec 2
 constraint_item = ItemFault.misplaced (ChildFault.left_out refl)
 
 -- what stands in its only `content` breaks the rule of the `elementSpec`
-in_its_content : (children : List Tree) (rule : ℕ) → ContentFault [] (content_with children) rule → SpecFault [] (spec_with 7 (content_with children ∷ [])) rule
-in_its_content children rule fault = SpecFault.content (content_with children) (only_child (content_with children)) refl fault
+in_its_content : (children : List Tree) (rule : ℕ) → ContentFault [] (content_with children) rule → ItemFault [] (spec_with 7 (content_with children ∷ [])) rule
+in_its_content children rule fault = ItemFault.content (content_with children) refl (only_child (content_with children)) refl fault
 
 -- an element of RELAX NG in a `content` is left out, and breaks rule 2 alone
 abbrev of_relax_ng : Tree
 of_relax_ng = element_in relax_ng_namespace 30 (codes "text") [] []
 
-relax_ng_in_content : SpecFault [] (spec_with 7 (content_with (of_relax_ng ∷ []) ∷ [])) 2
+relax_ng_in_content : ItemFault [] (spec_with 7 (content_with (of_relax_ng ∷ []) ∷ [])) 2
 relax_ng_in_content = in_its_content (of_relax_ng ∷ []) 2 (ContentFault.form (FormFault.child of_relax_ng (only_child of_relax_ng) (ChildFault.relax_ng refl)))
 
 relax_ng_breaks_two : (rule : ℕ) → ChildFault (form_at elements.Content) of_relax_ng rule → rule ≡ 2
@@ -267,7 +270,7 @@ relax_ng_breaks_two rule (ChildFault.unknown counts no_relax in_place none passe
 abbrev of_another : Tree
 of_another = element_in (codes "urn:x") 30 (codes "empty") [] []
 
-another_in_content : SpecFault [] (spec_with 7 (content_with (of_another ∷ []) ∷ [])) 3
+another_in_content : ItemFault [] (spec_with 7 (content_with (of_another ∷ []) ∷ [])) 3
 another_in_content = in_its_content (of_another ∷ []) 3 (ContentFault.form (FormFault.child of_another (only_child of_another) (ChildFault.unknown refl refl refl refl refl)))
 
 another_in_spec : MayStand (form_at elements.ElementSpec) of_another
@@ -277,7 +280,7 @@ another_in_spec = may_stand _ _ refl refl (λ none passed counts. cc)
 abbrev full : Tree
 full = element 30 (codes "empty") [] (element 37 (codes "p") [] [] ∷ [])
 
-p_in_empty : SpecFault [] (spec_with 7 (content_with (full ∷ []) ∷ [])) 3
+p_in_empty : ItemFault [] (spec_with 7 (content_with (full ∷ []) ∷ [])) 3
 p_in_empty =
     in_its_content (full ∷ []) 3 (ContentFault.inside (
       full,
@@ -286,24 +289,24 @@ p_in_empty =
     ))
 
 told_at_the_item : ItemOffends [] (spec_with 7 (content_with (full ∷ []) ∷ []) ∷ []) 7 3
-told_at_the_item = ItemOffends.alone (spec_with 7 (content_with (full ∷ []) ∷ [])) (stands_first _ []) (ItemFault.spec refl p_in_empty) refl
+told_at_the_item = ItemOffends.alone (spec_with 7 (content_with (full ∷ []) ∷ [])) (stands_first _ []) p_in_empty refl
 
 -- but a `desc` may
 desc_in_empty : MayStand (form_at elements.Empty) (desc_with [])
 desc_in_empty = may_stand _ _ refl refl (λ none passed counts. cc)
 
 -- two `content` are one too many
-two_contents : SpecFault [] (spec_with 7 (content_with [] ∷ content_with [] ∷ [])) 4
+two_contents : ItemFault [] (spec_with 7 (content_with [] ∷ content_with [] ∷ [])) 4
 two_contents =
-    SpecFault.form (FormFault.twice elements.Content (stands_first _ []) (subst (λ ts. 2 ≤ count_by (is_one_of (codes "content" ∷ [])) ts) (sym (elements_are (content_with [] ∷ content_with [] ∷ []))) (omega arith)))
+    ItemFault.form elements.ElementSpec refl (FormFault.twice elements.Content (stands_first _ []) (subst (λ ts. 2 ≤ count_by (is_one_of (codes "content" ∷ [])) ts) (sym (elements_are (content_with [] ∷ content_with [] ∷ []))) (omega arith)))
 
 -- of two rules the least is broken first, in either order of the children
 abbrev unknown_child : Tree
 unknown_child = element 15 (codes "p") [] []
 
-two_is_least : (ts : List Tree) → count_by (is_one_of (codes "content" ∷ [])) ts ≤ 1 → Each (IsFine []) ts → StandsIn ts constraint_spec → IsLeast (SpecFault [] (spec_with 7 ts)) (Some 2)
+two_is_least : (ts : List Tree) → count_by (is_one_of (codes "content" ∷ [])) ts ≤ 1 → Each (IsFine []) ts → StandsIn ts constraint_spec → IsLeast (ItemFault [] (spec_with 7 ts)) (Some 2)
 two_is_least ts once fine s = (
-  SpecFault.form (FormFault.child constraint_spec (stands ts constraint_spec s) (ChildFault.left_out refl)),
+  ItemFault.form elements.ElementSpec refl (FormFault.child constraint_spec (stands ts constraint_spec s) (ChildFault.left_out refl)),
   λ rule fault.
       let broken = spec_by_children (codes "a") [] (spec_with 7 ts) ts rule (spec_named 7 ts) (elements_are ts) once fine fault in at_least_two broken.2,
 )
@@ -316,10 +319,10 @@ two_is_least ts once fine s = (
 no_content : (around : List Bind) (child : Tree) → child_in (form_at elements.ElementSpec) child ≡ None → IsFine around child
 no_content around child not is = let no : Some elements.Content ≡ None = sym is ∙ not in cc
 
-least_at_first : IsLeast (SpecFault [] (spec_with 7 (constraint_spec ∷ unknown_child ∷ []))) (Some 2)
+least_at_first : IsLeast (ItemFault [] (spec_with 7 (constraint_spec ∷ unknown_child ∷ []))) (Some 2)
 least_at_first = two_is_least (constraint_spec ∷ unknown_child ∷ []) (omega arith) (no_content _ _ refl, (no_content _ _ refl, tt)) (stands_first _ _)
 
-least_at_last : IsLeast (SpecFault [] (spec_with 7 (unknown_child ∷ constraint_spec ∷ []))) (Some 2)
+least_at_last : IsLeast (ItemFault [] (spec_with 7 (unknown_child ∷ constraint_spec ∷ []))) (Some 2)
 least_at_last = two_is_least (unknown_child ∷ constraint_spec ∷ []) (omega arith) (no_content _ _ refl, (no_content _ _ refl, tt)) (stands_later _ _ _ (stands_first _ []))
 
 -- What items and a `schemaSpec` break
@@ -450,7 +453,7 @@ schema_is_named children = record { is_schema = refl; ident = refl; name = is_na
 
 -- what is read of an `elementSpec` at byte 7, and what such a file declares
 abbrev spec_of : Option Content → Spec
-spec_of c = record { key = element_key (codes "a"); «module» = []; ns = Some tei_namespace; content = c }
+spec_of c = record { key = element_key (codes "a"); mode = mode.Add; «module» = []; ns = Some tei_namespace; content = c }
 
 abbrev doc_of : Option Content → OddDoc
 doc_of c = record { ident = codes "s"; start = codes "a" ∷ []; entries = entry.Spec 7 (spec_of c) ∷ [] }
@@ -458,7 +461,7 @@ doc_of c = record { ident = codes "s"; start = codes "a" ∷ []; entries = entry
 item_read : (nodes_around : List Node) (children : List Tree) (c : Option Content) → GivesContent [] (spec_with 7 children) c
     → IsEntryOf (alone (schema_with nodes_around)) (spec_with 7 children) (entry.Spec 7 (spec_of c))
 item_read nodes_around children c gives =
-    IsEntryOf.spec (record { ident = codes "a"; is_spec = (refl, refl, is_name (codes "a") refl); key = refl; of_module = refl; ns = refl; content = gives })
+    IsEntryOf.spec (record { ident = codes "a"; is_spec = (refl, refl, is_name (codes "a") refl); key = refl; of_mode = refl; of_module = refl; ns = refl; content = gives })
 
 -- a file with this item alone
 abbrev file_with : Tree → Tree
@@ -512,6 +515,7 @@ texts_declare = one_item_declares (text_content ∷ []) (Some content.Text) give
 abbrev contents_of : List Entry → Option Content
 contents_of [] = None
 contents_of (entry.Spec at spec ∷ rest) = spec.content
+contents_of (e ∷ rest) = contents_of rest
 
 texts_are_some : Declares (file_with texts) (doc_of None) → ⊥
 texts_are_some h = let same : None ≡ Some content.Text = ap (λ d. contents_of d.entries) (one_doc (file_with texts) (doc_of None) _ h texts_declare) in cc
@@ -569,48 +573,76 @@ namespace_of_none = refl
 empty_namespace : namespace_given schema_ns (spec_given (with_ns [])) ≡ []
 empty_namespace = refl
 
--- Libraries
+-- one that changes gives no other than its own, and one that replaces gives that of the `schemaSpec`
+namespace_changed : namespace_in mode.Change schema_ns bare ≡ None
+namespace_changed = refl
 
--- the library of the file with texts
-abbrev texts_library : Library
-texts_library = record {
-  ident = codes "s";
-  start = codes "a" ∷ [];
-  parts = (element_key (codes "a"), component.Element (record { «module» = []; ns = tei_namespace; content = content.Text })) ∷ [];
-}
+namespace_replaced : namespace_in mode.Replace schema_ns bare ≡ Some (codes "urn:s")
+namespace_replaced = refl
 
-texts_are_held : IsLibraryOf (doc_of (Some content.Text)) texts_library
-texts_are_held = record { ident = refl; start = refl; rising = refl; holds = λ key. refl }
+-- Modes, and items that refer to something
 
--- no other is
-one_of_texts : (d : OddDoc) (library : Library) → Declares (file_with texts) d → IsLibraryOf d library → library ≡ texts_library
-one_of_texts d library declared h =
-    one_library (doc_of (Some content.Text)) library texts_library (subst (λ x. IsLibraryOf x library) (one_doc (file_with texts) d _ declared texts_declare) h) texts_are_held
+abbrev with_mode : List ℕ → Tree
+with_mode word = spec_given (attribute (codes "mode") word ∷ [])
 
-abbrev entries : List Entry
-entries = entry.Spec 7 (spec_of None) ∷ entry.Spec 9 (record { key = element_key (codes "b"); «module» = codes "m"; ns = None; content = Some content.Text }) ∷ []
+adds : mode_given bare ≡ mode.Add
+adds = refl
 
--- without a content the content is empty
-empty_at_a : declared_at entries (element_key (codes "a")) ≡ Some (component.Element (record { «module» = []; ns = tei_namespace; content = content.Empty }))
-empty_at_a = refl
+deletes : mode_given (with_mode (codes "delete")) ≡ mode.Delete
+deletes = refl
 
--- and without a namespace it is TEI's
-text_at_b : declared_at entries (element_key (codes "b")) ≡ Some (component.Element (record { «module» = codes "m"; ns = tei_namespace; content = content.Text }))
-text_at_b = refl
+-- any other word breaks rule 3
+unknown_mode : ItemFault [] (with_mode (codes "remove")) 3
+unknown_mode =
+    attribute_breaks table.mode _ 3 (stands_later _ _ _ (stands_later _ _ _ (stands_first _ []))) refl (AttributeFault.value (codes "remove") refl (ValueFault.malformed refl (λ among. false≢true among)))
+
+-- a `moduleRef` names all elements of its module, those that it includes or those that it does not except
+abbrev module_ref : List Attr → Tree
+module_ref attrs = element 40 (codes "moduleRef") (attribute (codes "key") (codes "m") ∷ attrs) []
+
+module_read : (first : Found) → IsEntryOf first (module_ref []) (entry.Module 40 (codes "m") pick.All)
+module_read first = IsEntryOf.«module» refl refl
+
+some_included : pick_given (module_ref (attribute (codes "include") (codes "b a") ∷ [])) ≡ pick.Include (codes "b" ∷ codes "a" ∷ [])
+some_included = refl
+
+one_excepted : pick_given (module_ref (attribute (codes "except") (codes "a") ∷ [])) ≡ pick.Except (codes "a" ∷ [])
+one_excepted = refl
+
+-- an `include` without a word is as if it were absent
+none_included : pick_given (module_ref (attribute (codes "include") (codes " ") ∷ attribute (codes "except") (codes "a") ∷ [])) ≡ pick.Except (codes "a" ∷ [])
+none_included = refl
+
+-- without a `key` it breaks rule 1, and with words to include and to except rule 3
+no_key : ItemFault [] (element 40 (codes "moduleRef") [] []) 1
+no_key = ItemFault.form elements.ModuleRef refl (FormFault.own (OwnFault.attribute table.key (stands_first _ _) (AttributeFault.absent refl refl)))
+
+both_given : ItemFault [] (module_ref (attribute (codes "include") (codes "a") ∷ attribute (codes "except") (codes "b") ∷ [])) 3
+both_given = ItemFault.form elements.ModuleRef refl (FormFault.own (OwnFault.demand _ (stands_first _ []) (DemandFault.both (λ same. cc) (λ same. cc))))
+
+-- a `classRef` refers to the class of its key, and has no child
+abbrev class_ref : List Tree → Tree
+class_ref children = element 50 (codes "classRef") (attribute (codes "key") (codes "a") ∷ []) children
+
+class_read : (first : Found) → IsEntryOf first (class_ref []) (entry.Take 50 (record { kind = kind.Class; ident = codes "a" }))
+class_read first = IsEntryOf.take elements.ClassRefItem refl refl refl
+
+p_in_reference : ItemFault [] (class_ref (part (codes "p") ∷ [])) 3
+p_in_reference =
+    ItemFault.form elements.ClassRefItem refl (FormFault.child (part (codes "p")) (only_child (part (codes "p"))) (ChildFault.unknown refl refl refl refl refl))
+
+-- Components
+
+-- without a content the content is empty, and without a namespace it is TEI's
+abbrev changed : Option (List ℕ) → Option Content → Spec
+changed ns content = record { key = element_key (codes "b"); mode = mode.Change; «module» = codes "m"; ns = ns; content = content }
+
+no_content_given : component_of (changed (Some (codes "urn:x")) None) ≡ component.Element (record { «module» = codes "m"; ns = codes "urn:x"; content = content.Empty })
+no_content_given = refl
+
+no_namespace_given : component_of (changed None (Some content.Text)) ≡ component.Element (record { «module» = codes "m"; ns = tei_namespace; content = content.Text })
+no_namespace_given = refl
 
 -- an empty namespace stays empty
-no_namespace : component_of (record { key = element_key (codes "a"); «module» = []; ns = Some []; content = None })
-    ≡ component.Element (record { «module» = []; ns = []; content = content.Empty })
+no_namespace : component_of (changed (Some []) None) ≡ component.Element (record { «module» = codes "m"; ns = []; content = content.Empty })
 no_namespace = refl
-
--- nothing is declared at another ident, or for a class of the ident
-nothing_at_ab : declared_at entries (element_key (codes "ab")) ≡ None
-nothing_at_ab = refl
-
-no_class : declared_at entries (record { kind = kind.Class; ident = codes "a" }) ≡ None
-no_class = refl
-
--- of two entries of one key the last would count
-last_counts : declared_at (entries ++ entry.Spec 20 (record { key = element_key (codes "b"); «module» = []; ns = Some (codes "urn:x"); content = None }) ∷ []) (element_key (codes "b"))
-    ≡ Some (component.Element (record { «module» = []; ns = codes "urn:x"; content = content.Empty }))
-last_counts = refl

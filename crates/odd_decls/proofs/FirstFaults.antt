@@ -12,7 +12,7 @@ use Rattle.odd_forms.specs.Faults.{OwnFault}
 use Rattle.odd_forms.specs.Least.{IsLeast}
 use Rattle.odd_forms.specs.Table.{form_at}
 use Rattle.odd_forms.specs.declared.element.Element.TheVariants as element
-use Rattle.odd_decls.specs.declared.reading.Fault.{Fault}
+use Rattle.odd_decls.specs.declared.fault.Fault.{Fault}
 use Rattle.odd_decls.specs.Faults.{IsEarlier, StandsAgain}
 use Rattle.odd_decls.specs.Offences.{IsFirstOf, IsNotBefore, IsSpecOf, ItemFault, ItemOffends, Offends, StandsTwice}
 use Rattle.odd_decls.specs.Offences as offences

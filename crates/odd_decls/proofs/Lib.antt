@@ -1,13 +1,14 @@
 pub mod ContentsRead
-pub mod Declaring
 pub mod Examples
 pub mod Finding
 pub mod FirstFaults
 pub mod FoundFormed
 pub mod Holding
+pub mod ItemEntries
+pub mod ItemFaults
+pub mod ItemElements
 pub mod ItemsRead
-pub mod Keyed
-pub mod OneLibrary
+pub mod OneDoc
 pub mod OneOffence
 pub mod ReadAs
 pub mod Refusing
@@ -17,4 +18,3 @@ pub mod SchemaRead
 pub mod Searched
 pub mod SeenTwice
 pub mod SmallFiles
-pub mod SpecRead

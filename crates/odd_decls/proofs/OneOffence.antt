@@ -6,7 +6,7 @@ use Rattle.odd_reader.specs.declared.tree.Tree.{Tree}
 use Rattle.odd_decls.specs.Offences.{IsNotBefore, IsRefusal}
 
 -- two offences, neither of which comes after the other, are one
-neither_after : (p r q s : ℕ) → IsNotBefore p r q s → IsNotBefore q s p r → (p ≡ q) × (r ≡ s)
+pub neither_after : (p r q s : ℕ) → IsNotBefore p r q s → IsNotBefore q s p r → (p ≡ q) × (r ≡ s)
 neither_after p r q s (inl a) (inl b) = omega (arith, a, b)
 neither_after p r q s (inl a) (inr b) = let e = b.0 in omega (arith, a, e)
 neither_after p r q s (inr a) (inl b) = let e = a.0 in omega (arith, b, e)

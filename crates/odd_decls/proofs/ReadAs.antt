@@ -1,13 +1,14 @@
 -- The entries that items are read as, with one item more.
-use Rattle.std.proofs.Common.{◌≡◌, ◌<◌, ℕ, List, [], ◌∷◌, ◌++◌, inl, inr, ⊎_elim, refl, sym, subst, ◌∙◌, append_assoc}
+use Rattle.std.proofs.Common.{◌≡◌, ◌<◌, List, [], ◌∷◌, ◌++◌, inl, inr, ⊎_elim, refl, sym, subst, ◌∙◌, append_assoc}
 use Rattle.odd_reader.specs.Elements.{StandsIn}
 use Rattle.odd_reader.specs.declared.tree.Tree.{Tree, out-Tree}
 use Rattle.odd_reader.proofs.InList.{nothing_stands, stands_around, stands_push}
 use Rattle.odd_reader.proofs.InList as standing
+use Rattle.odd_forms.specs.declared.element.Element.{Element}
 use Rattle.odd_decls.specs.Declares.{AreEntriesOf, IsEntryOf, PlacesRise}
 use Rattle.odd_decls.specs.Declares as entries
 use Rattle.odd_decls.specs.Odd.{place_of}
-use Rattle.odd_decls.specs.Offences.{IsSpecOf}
+use Rattle.odd_decls.specs.Offences.{IsItem}
 use Rattle.odd_decls.specs.Reading.{AreRead, Rises}
 use Rattle.odd_decls.specs.Search.{Found}
 use Rattle.odd_decls.specs.declared.odd.Entry.{Entry}
@@ -15,22 +16,24 @@ use Rattle.odd_decls.proofs.FirstFaults.{before_last, rises_first}
 
 -- an entry is at the place of its item
 entry_place : (first : Found) (item : Tree) (e : Entry) → IsEntryOf first item e → place_of e ≡ (out-Tree item).at
+entry_place first item _ (entries.IsEntryOf.«module» is key) = refl
+entry_place first item _ (entries.IsEntryOf.take e is kind key) = refl
 entry_place first item _ (entries.IsEntryOf.spec is) = refl
 
 -- no items are read as no entries
 pub none_read : (first : Found) → AreRead first [] []
 none_read first = record {
-  are = record { none_else = λ e s. absurd (nothing_stands e s); each = λ item ident s is. absurd (nothing_stands item s) };
+  are = record { none_else = λ e s. absurd (nothing_stands e s); each = λ item e s is. absurd (nothing_stands item s) };
   rising = λ r before after e next is. absurd (nothing_stands e (before, next ∷ after, is));
 }
 
--- an item that has no ident gives no entry
-pub other_read : (first : Found) (items : List Tree) (es : List Entry) (item : Tree) → AreRead first items es → ((word : List ℕ) → IsSpecOf word item → ⊥)
+-- an item that is no element of the table gives no entry
+pub other_read : (first : Found) (items : List Tree) (es : List Entry) (item : Tree) → AreRead first items es → ((e : Element) → IsItem e item → ⊥)
     → AreRead first (items ++ item ∷ []) es
 other_read first items es item read none = record {
   are = record {
     none_else = λ e s. let h = read.are.none_else e s in (h.0, (stands_push items item h.0).1 (inl h.1), h.2);
-    each = λ t ident s is. ⊎_elim (λ k. read.are.each t ident k is) (λ e. absurd (none ident (subst (IsSpecOf ident) (sym e) is))) ((stands_push items item t).0 s);
+    each = λ t k s is. ⊎_elim (λ u. read.are.each t k u is) (λ same. absurd (none k (subst (IsItem k) (sym same) is))) ((stands_push items item t).0 s);
   };
   rising = λ r. read.rising (rises_first 0 items item r);
 }
@@ -47,8 +50,8 @@ entry_read first items es item e read is = record {
     from f s = ⊎_elim (λ k. let h = read.are.none_else f k in (h.0, (stands_push items item h.0).1 (inl h.1), h.2))
         (λ same. (item, (stands_push items item item).1 (inr refl), subst (IsEntryOf first item) same is)) ((stands_push es e f).0 s)
 
-    to : (t : Tree) (ident : List ℕ) → StandsIn (items ++ item ∷ []) t → IsSpecOf ident t → (f : Entry) × StandsIn (es ++ e ∷ []) f × IsEntryOf first t f
-    to t ident s is_spec = ⊎_elim (λ k. let h = read.are.each t ident k is_spec in (h.0, (stands_push es e h.0).1 (inl h.1), h.2))
+    to : (t : Tree) (k : Element) → StandsIn (items ++ item ∷ []) t → IsItem k t → (f : Entry) × StandsIn (es ++ e ∷ []) f × IsEntryOf first t f
+    to t k s is_item = ⊎_elim (λ u. let h = read.are.each t k u is_item in (h.0, (stands_push es e h.0).1 (inl h.1), h.2))
         (λ same. (e, (stands_push es e e).1 (inr refl), subst (λ u. IsEntryOf first u e) same is)) ((stands_push items item t).0 s)
 
     below : Rises 0 (items ++ item ∷ []) → (f : Entry) → StandsIn es f → place_of f < place_of e

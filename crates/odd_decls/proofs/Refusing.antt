@@ -6,7 +6,7 @@ use Rattle.odd_base.specs.declared.offence.Who.TheVariants as who
 use Rattle.odd_reader.specs.Formed.{IsFormed}
 use Rattle.odd_reader.specs.declared.tree.Tree.{Tree}
 use Rattle.odd_decls.specs.declared.odd.OddDoc.{OddDoc}
-use Rattle.odd_decls.specs.declared.reading.Fault.{Fault}
+use Rattle.odd_decls.specs.declared.fault.Fault.{Fault}
 use Rattle.odd_decls.specs.declared.reading.Read.{Read}
 use Rattle.odd_decls.specs.declared.reading.Read.TheVariants as read
 use Rattle.odd_decls.specs.Declares.{Declares}

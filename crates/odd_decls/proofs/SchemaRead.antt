@@ -18,7 +18,7 @@ use Rattle.odd_decls.specs.Reading.{AreItemsRead, ArePartsRead, IsFirstIn, IsRea
 use Rattle.odd_decls.specs.Search.{Found}
 use Rattle.odd_decls.specs.declared.odd.Entry.{Entry}
 use Rattle.odd_decls.specs.declared.odd.OddDoc.{OddDoc}
-use Rattle.odd_decls.specs.declared.reading.Fault.{Fault}
+use Rattle.odd_decls.specs.declared.fault.Fault.{Fault}
 use Rattle.odd_decls.specs.declared.reading.Read.TheVariants as read
 use Rattle.odd_decls.specs.declared.reading.ReadItems.TheVariants as items
 use Rattle.odd_decls.specs.declared.reading.ReadItems.{ReadItems}

@@ -1,7 +1,7 @@
 -- Small files: that nothing in them is a form that is not read yet, that they have no offence, and what they declare.
 use Rattle.std.proofs.Common.{◌≡◌, ℕ, suc, ◌+◌, ◌≤◌, true, false, ◌||◌, List, [], ◌∷◌, ◌++◌, length, length-append, Some, None, ⊎_elim, refl, sym, ap, subst, ◌∙◌, codes, arith}
 use Rattle.std.proofs.lemmas.List.Elements.{All-nil, All-cons}
-use Rattle.std.specs.Prelude.{if◌then◌else◌, IsSome, unwrap_or, count_by, nat_lt}
+use Rattle.std.specs.Prelude.{◌&&◌, find, if◌then◌else◌, IsSome, unwrap_or, count_by, nat_lt}
 use Rattle.std.specs.Cmp.Lexicographic.{same_text}
 use Rattle.std.specs.List.{list_all, list_any}
 use Rattle.std.proofs.lemmas.Bool.{and_from, and_parts, both_ways, false≢true, or_cases}
@@ -26,15 +26,16 @@ use Rattle.odd_forms.specs.Sorted.{AreRising, IsSet}
 use Rattle.odd_forms.specs.Table.{form_at}
 use Rattle.odd_forms.specs.Words.{is_among, words_of}
 use Rattle.odd_forms.specs.declared.element.Element.TheVariants as elements
-use Rattle.odd_forms.proofs.Named.{by_name, is_name, named_not_relax, named_one}
+use Rattle.odd_forms.proofs.Named.{by_name, is_name, named_one}
 use Rattle.odd_content.specs.Breaking.{ContentFault, InnerFault, PartFault}
 use Rattle.odd_content.specs.Giving.{part_of}
 use Rattle.odd_decls.specs.Declares.{AreEntriesOf, Declares, IsEntryOf, PlacesRise}
-use Rattle.odd_decls.specs.Offences.{HasOffence, IsContentChild, IsSpecOf, ItemFault, ItemOffends, Offends, SpecFault, StandsTwice}
+use Rattle.odd_decls.specs.Offences.{HasOffence, IsContentChild, IsSpecOf, IsItem, ItemFault, ItemOffends, Offends, StandsTwice}
 use Rattle.odd_decls.specs.Pending.{Around, HoldsForm, IsForm, IsPending, around_in, outermost}
 use Rattle.odd_decls.specs.Search.{Finds, FindsAmong, Found, own, through}
 use Rattle.odd_decls.specs.Search as search
 use Rattle.odd_decls.specs.declared.odd.Entry.{Entry}
+use Rattle.odd_decls.proofs.ItemFaults.{item_placed, other_by_standing}
 use Rattle.odd_decls.proofs.Searched.{one_search}
 
 -- Trees, names and lists
@@ -233,13 +234,19 @@ pub record IsNamedSpec (word : List ℕ) (item : Tree) : Type 0 where
   pub ident : given item (codes "ident") ≡ Some word
   pub name : IsNCName word
   pub no_module : given item (codes "module") ≡ None
+  pub no_mode : given item (codes "mode") ≡ None
   pub no_prefix : given item (codes "prefix") ≡ None
   pub no_source : given item (codes "source") ≡ None
 
 -- it breaks nothing by itself
 spec_alone : (word : List ℕ) (item : Tree) → IsNamedSpec word item → (rule : ℕ) → OwnFault (form_at elements.ElementSpec) item rule → ⊥
 spec_alone word item n rule =
-    no_own_fault (form_at elements.ElementSpec) item rule (given_well item _ word n.ident refl n.name, (absent_well item _ n.no_module refl, tt)) (n.no_prefix, (n.no_source, tt)) refl
+    no_own_fault (form_at elements.ElementSpec) item rule (given_well item _ word n.ident refl n.name, (absent_well item _ n.no_module refl, (absent_well item _ n.no_mode refl, tt))) (n.no_prefix, (n.no_source, tt)) refl
+
+-- it is that element of the table
+spec_known : (word : List ℕ) (item : Tree) → IsNamedSpec word item → IsItem elements.ElementSpec item
+spec_known word item n =
+    ap (λ name. find (λ e. is_same name.ns tei_namespace && is_among ((form_at e).name ∷ []) name.local) ((form_at elements.SchemaSpec).many ++ (form_at elements.SchemaSpec).once)) n.is_spec
 
 -- a `content` among its children breaks nothing
 abbrev pub IsFine : List Bind → Tree → Type 0
@@ -247,10 +254,12 @@ IsFine around child = IsContentChild child → (rule : ℕ) → ContentFault aro
 
 -- so its children break what it breaks
 pub spec_by_children : (word : List ℕ) (around : List Bind) (item : Tree) (ts : List Tree) (rule : ℕ) → IsNamedSpec word item → children_of item ≡ ts
-    → count_by (is_one_of (codes "content" ∷ [])) ts ≤ 1 → Each (IsFine (within around item)) ts → SpecFault around item rule → Among (ChildFault (form_at elements.ElementSpec)) ts rule
-spec_by_children word around item ts rule n are once fine (SpecFault.form fault) =
-    by_children (form_at elements.ElementSpec) item ts rule are (spec_alone word item n) (once, tt) fault
-spec_by_children word around item ts rule n are once fine (SpecFault.content child s is fault) =
+    → count_by (is_one_of (codes "content" ∷ [])) ts ≤ 1 → Each (IsFine (within around item)) ts → ItemFault around item rule → Among (ChildFault (form_at elements.ElementSpec)) ts rule
+spec_by_children word around item ts rule n are once fine (ItemFault.misplaced fault) = absurd (item_placed item elements.ElementSpec rule (spec_known word item n) fault)
+spec_by_children word around item ts rule n are once fine (ItemFault.form e known fault) =
+    by_children (form_at elements.ElementSpec) item ts rule are (spec_alone word item n) (once, tt)
+    (subst (λ k. FormFault (form_at k) item rule) (same_Some _ _ (sym known ∙ spec_known word item n)) fault)
+spec_by_children word around item ts rule n are once fine (ItemFault.content child known s is fault) =
     absurd (each_such (IsFine (within around item)) ts child fine (among are s) is rule fault)
 
 -- an item that breaks no rule
@@ -260,11 +269,7 @@ IsSound around item = (rule : ℕ) → ItemFault around item rule → ⊥
 -- where its children may stand, the item breaks none
 pub spec_is_sound : (word : List ℕ) (around : List Bind) (item : Tree) (ts : List Tree) → IsNamedSpec word item → children_of item ≡ ts
     → count_by (is_one_of (codes "content" ∷ [])) ts ≤ 1 → Each (IsFine (within around item)) ts → Each (MayStand (form_at elements.ElementSpec)) ts → IsSound around item
-spec_is_sound word around item ts n are once fine stand rule (ItemFault.misplaced fault) =
-    let known : child_in (form_at elements.SchemaSpec) item ≡ Some elements.ElementSpec = ap (λ b. if b then Some elements.ElementSpec else None) (named_one _ item n.is_spec) in
-    may_stand (form_at elements.SchemaSpec) item (named_not_relax _ item n.is_spec) (by_name _ (codes "constraintSpec" ∷ []) item n.is_spec)
-    (λ none passed counts. let no : Some elements.ElementSpec ≡ None = sym known ∙ none in cc) rule fault
-spec_is_sound word around item ts n are once fine stand rule (ItemFault.spec is fault) =
+spec_is_sound word around item ts n are once fine stand rule fault =
     let broken = spec_by_children word around item ts rule n are once fine fault in
     each_such (MayStand (form_at elements.ElementSpec)) ts broken.0 stand broken.1 rule broken.2
 
@@ -272,12 +277,7 @@ spec_is_sound word around item ts n are once fine stand rule (ItemFault.spec is 
 pub bare_is_sound : (word : List ℕ) (around : List Bind) (item : Tree) → IsNamedSpec word item → children_of item ≡ [] → IsSound around item
 bare_is_sound word around item n none = spec_is_sound word around item [] n none (omega arith) tt tt
 
--- an item of another name breaks what it breaks by standing there
-pub other_by_standing : (around : List Bind) (item : Tree) (rule : ℕ) → child_in (form_at elements.SchemaSpec) item ≡ None → ItemFault around item rule → ChildFault (form_at elements.SchemaSpec) item rule
-other_by_standing around item rule not (ItemFault.misplaced fault) = fault
-other_by_standing around item rule not (ItemFault.spec is fault) = let no : Some elements.ElementSpec ≡ None = sym is ∙ not in cc
-
--- one that is none of RELAX NG and is not left out breaks rule 3 or none
+-- an item of another name that is none of RELAX NG and is not left out breaks rule 3 or none
 pub other_breaks_three : (around : List Bind) (item : Tree) (rule : ℕ) → child_in (form_at elements.SchemaSpec) item ≡ None → is_relax_ng item ≡ false
     → is_one_of (codes "constraintSpec" ∷ []) item ≡ false → ItemFault around item rule → rule ≡ 3
 other_breaks_three around item rule not no_relax in_place fault = three (other_by_standing around item rule not fault)
@@ -339,9 +339,9 @@ one_word word = record { rising = rising; none_else = λ w s. s; each = λ w s. 
     rising (b ∷ []) after w next same = cc
     rising (b ∷ (c ∷ before)) after w next same = cc
 
--- the entries of no items, of one item more that is read, and of one more that is no `elementSpec`
+-- the entries of no items, of one item more that is read, and of one more that is no element of the table
 pub no_entries : (first : Found) → AreEntriesOf first [] []
-no_entries first = record { none_else = λ entry s. absurd (nothing_stands entry s); each = λ item word s is. absurd (nothing_stands item s) }
+no_entries first = record { none_else = λ entry s. absurd (nothing_stands entry s); each = λ item e s is. absurd (nothing_stands item s) }
 
 pub entry_more : (first : Found) (item : Tree) (items : List Tree) (new : Entry) (entries : List Entry) → IsEntryOf first item new → AreEntriesOf first items entries
     → AreEntriesOf first (item ∷ items) (new ∷ entries)
@@ -349,16 +349,16 @@ entry_more first item items new entries read rest = record {
   none_else = λ one s.
       ⊎_elim (λ same. (item, stands_first item items, subst (IsEntryOf first item) (sym same) read))
       (λ later. let r = rest.none_else one later in (r.0, stands_later item r.0 items r.1, r.2)) (first_or_later new one entries s);
-  each = λ one word s is.
+  each = λ one e s is.
       ⊎_elim (λ same. (new, stands_first new entries, subst (λ t. IsEntryOf first t new) (sym same) read))
-      (λ later. let r = rest.each one word later is in (r.0, stands_later new r.0 entries r.1, r.2)) (first_or_later item one items s);
+      (λ later. let r = rest.each one e later is in (r.0, stands_later new r.0 entries r.1, r.2)) (first_or_later item one items s);
 }
 
 pub entry_less : (first : Found) (item : Tree) (items : List Tree) (entries : List Entry) → child_in (form_at elements.SchemaSpec) item ≡ None → AreEntriesOf first items entries → AreEntriesOf first (item ∷ items) entries
 entry_less first item items entries not rest = record {
   none_else = λ one s. let r = rest.none_else one s in (r.0, stands_later item r.0 items r.1, r.2);
-  each = λ one word s is.
-      ⊎_elim (λ same. let no : Some elements.ElementSpec ≡ None = sym is.0 ∙ ap (child_in (form_at elements.SchemaSpec)) same ∙ not in cc) (λ later. rest.each one word later is) (first_or_later item one items s);
+  each = λ one e s is.
+      ⊎_elim (λ same. let no : Some e ≡ None = sym is ∙ ap (child_in (form_at elements.SchemaSpec)) same ∙ not in cc) (λ later. rest.each one e later is) (first_or_later item one items s);
 }
 
 -- at most one entry rises

@@ -6,7 +6,7 @@ use Rattle.odd_base.specs.Text.{text_cmp}
 use Rattle.odd_reader.specs.declared.tree.Tree.{Tree, out-Tree}
 use Rattle.odd_reader.specs.Elements.{StandsIn}
 use Rattle.odd_decls.specs.Offences.{IsNotBefore, IsSpecOf}
-use Rattle.odd_decls.specs.declared.reading.Fault.{Fault}
+use Rattle.odd_decls.specs.declared.fault.Fault.{Fault}
 
 -- one of the items has this ident
 abbrev pub IsIdentIn : List Tree → List ℕ → Type 0

@@ -5,12 +5,10 @@ use Rattle.odd_base.specs.declared.key.Kind.TheVariants as kind
 use Rattle.odd_decls.specs.declared.odd.Entry.TheVariants as entry
 use Rattle.odd_decls.specs.declared.odd.Entry.{Entry}
 
--- the key of what the entry declares
-abbrev pub key_of : Entry → Key
-key_of (entry.Spec at spec) = spec.key
-
 -- the byte where its item begins
 abbrev pub place_of : Entry → ℕ
+place_of (entry.Module at key pick) = at
+place_of (entry.Take at key) = at
 place_of (entry.Spec at spec) = at
 
 -- the key of the element with this ident

@@ -23,16 +23,14 @@ IsItem e item = child_in (form_at element.SchemaSpec) item ≡ Some e
 abbrev pub IsContentChild : Tree → Type 0
 IsContentChild child = child_in (form_at element.ElementSpec) child ≡ Some element.Content
 
--- what an `elementSpec` breaks, by its form and in its contents
-pub data SpecFault (around : List Bind) (spec : Tree) : ℕ → Type 0 where
-  form : {rule : ℕ} → FormFault (form_at element.ElementSpec) spec rule → SpecFault around spec rule
-  content : {rule : ℕ} (child : Tree) → StandsIn (children_of spec) child → IsContentChild child → ContentFault (within around spec) child rule → SpecFault around spec rule
-
--- what an item breaks, by standing there or in itself
+-- what an item breaks, by standing there, by its form, and in its contents
 pub data ItemFault (around : List Bind) (item : Tree) : ℕ → Type 0 where
   misplaced : {rule : ℕ} → ChildFault (form_at element.SchemaSpec) item rule → ItemFault around item rule
-  spec : {rule : ℕ} → IsItem element.ElementSpec item → SpecFault around item rule → ItemFault around item rule
+  form : {rule : ℕ} (e : Element) → IsItem e item → FormFault (form_at e) item rule → ItemFault around item rule
+  content : {rule : ℕ} (child : Tree) → IsItem element.ElementSpec item → StandsIn (children_of item) child → IsContentChild child
+      → ContentFault (within around item) child rule → ItemFault around item rule
 
+-- the item declares the component of this ident
 abbrev pub IsSpecOf : List ℕ → Tree → Type 0
 IsSpecOf word item = IsItem element.ElementSpec item × (given item (codes "ident") ≡ Some word) × IsNCName word
 

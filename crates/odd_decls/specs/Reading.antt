@@ -1,25 +1,26 @@
 -- What the parts of the reading of an ODD file answer.
-use Rattle.std.specs.Prelude.{◌≡◌, ◌≤◌, ℕ, suc, List, [], ◌∷◌, ◌++◌, map, reverse, Option, Some, None, codes, unwrap_or}
-use Rattle.odd_base.specs.declared.key.Key.{Key}
+use Rattle.std.specs.Prelude.{◌≡◌, ◌⊎◌, ◌≤◌, ℕ, suc, List, [], ◌∷◌, ◌++◌, map, reverse, Option, Some, None, codes, unwrap_or}
+use Rattle.std.specs.Option.{option_map}
+use Rattle.odd_base.specs.declared.key.Kind.{Kind}
 use Rattle.odd_base.specs.declared.name.Bind.{Bind}
 use Rattle.odd_reader.specs.Elements.{StandsIn, all_binds, children_of, given, within}
 use Rattle.odd_reader.specs.declared.tree.Tree.{Tree, out-Tree}
 use Rattle.odd_content.specs.Breaking.{ContentFault}
 use Rattle.odd_content.specs.declared.content.Content.{Content}
-use Rattle.odd_forms.specs.Faults.{OwnFault}
+use Rattle.odd_forms.specs.Faults.{FormFault, OwnFault}
 use Rattle.odd_forms.specs.Table.{form_at}
+use Rattle.odd_forms.specs.declared.element.Element.{Element}
 use Rattle.odd_forms.specs.declared.element.Element.TheVariants as element
-use Rattle.odd_decls.specs.Declares.{AreEntriesOf, IsDocOf, IsEntryOf, PlacesRise, namespace_given}
+use Rattle.odd_decls.specs.Declares.{AreEntriesOf, IsDocOf, IsEntryOf, PlacesRise, kind_taken, mode_given, namespace_in, pick_given}
 use Rattle.odd_decls.specs.Faults.{StandsAgain}
-use Rattle.odd_decls.specs.Library.{declared_at}
 use Rattle.odd_decls.specs.Odd.{element_key}
-use Rattle.odd_decls.specs.Offences.{IsContentChild, IsFirstOf, IsSpecOf, ItemOffends, Offends}
+use Rattle.odd_decls.specs.Offences.{IsContentChild, IsFirstOf, IsItem, IsSpecOf, ItemOffends, Offends}
 use Rattle.odd_decls.specs.Pending.{Around as TheAround}
 use Rattle.odd_decls.specs.Search.{Finds, Found}
 use Rattle.odd_decls.specs.declared.odd.Entry.TheVariants as entry
 use Rattle.odd_decls.specs.declared.odd.Entry.{Entry}
 use Rattle.odd_decls.specs.declared.pending.Around.{Around}
-use Rattle.odd_decls.specs.declared.reading.Fault.{Fault}
+use Rattle.odd_decls.specs.declared.fault.Fault.{Fault}
 use Rattle.odd_decls.specs.declared.reading.Read.TheVariants as read
 use Rattle.odd_decls.specs.declared.reading.Read.{Read}
 use Rattle.odd_decls.specs.declared.reading.ReadItems.TheVariants as items
@@ -41,19 +42,34 @@ IsPathTo around (Some path) found = (first : Found) × (rest : List Found) × (f
 abbrev pub ContentsFault : List Bind → Tree → ℕ → Type 0
 ContentsFault around spec rule = (child : Tree) × StandsIn (children_of spec) child × IsContentChild child × ContentFault (within around spec) child rule
 
+-- what an `elementSpec` breaks by its form or in its contents
+abbrev pub SpecFault : List Bind → Tree → ℕ → Type 0
+SpecFault around spec rule = FormFault (form_at element.ElementSpec) spec rule ⊎ ContentsFault around spec rule
+
 -- the entry of an `elementSpec` with this ident and this content
 abbrev pub entry_made : Tree → Tree → List ℕ → Option Content → Entry
 entry_made schema item ident content = entry.Spec (out-Tree item).at (record {
   key = element_key ident;
+  mode = mode_given item;
   «module» = unwrap_or (given item (codes "module")) [];
-  ns = Some (namespace_given schema item);
+  ns = namespace_in (mode_given item) schema item;
   content = content;
 })
 
+-- the entry of an item that refers to a component of the kind, where it has a key
+abbrev pub taken_of : Option Kind → Tree → Option Entry
+taken_of None item = None
+taken_of (Some kind) item = option_map (λ ident. entry.Take (out-Tree item).at (record { kind = kind; ident = ident })) (given item (codes "key"))
+
+-- the entry of an item that refers to something, where it has a key
+abbrev pub reference_of : Element → Tree → Option Entry
+reference_of element.ModuleRef item = option_map (λ key. entry.Module (out-Tree item).at key (pick_given item)) (given item (codes "key"))
+reference_of e item = taken_of (kind_taken e) item
+
 -- an item is read as the entry, and one that declares nothing gives none
 abbrev pub GivesEntry : Tree → List Bind → Tree → Option Entry → Type 0
-GivesEntry schema inside item None = (word : List ℕ) → IsSpecOf word item → ⊥
-GivesEntry schema inside item (Some e) = (first : Found) → first.schema ≡ schema → within first.around first.schema ≡ inside → IsEntryOf first item e
+GivesEntry schema inside item None = (e : Element) → IsItem e item → ⊥
+GivesEntry schema inside item (Some made) = (first : Found) → first.schema ≡ schema → within first.around first.schema ≡ inside → IsEntryOf first item made
 
 -- places that rise, from one on
 abbrev pub Rises : ℕ → List Tree → Type 0
@@ -104,7 +120,3 @@ IsJoined schema own next read = (first : Found) (others : List Found) → first.
 abbrev pub IsIdentOf : Tree → Option (List ℕ) → Type 0
 IsIdentOf t None = (word : List ℕ) → IsSpecOf word t → ⊥
 IsIdentOf t (Some word) = IsSpecOf word t
-
--- at each key the same is declared
-abbrev pub DeclareTheSame : List Entry → List Entry → Type 0
-DeclareTheSame some others = (key : Key) → declared_at others key ≡ declared_at some key

@@ -1,9 +1,15 @@
 use crate::spec::Spec;
-use odd_base::{Seq, Text, Words};
+use odd_base::{Key, Seq, Text, Words};
+use odd_content::Pick;
 
 /// An item of an ODD file. `at` is the byte where its start tag begins.
 #[derive(Drop)]
 pub enum Entry {
+    /// A reference to the components of a module.
+    Module { at: u64, key: Text, pick: Pick },
+    /// A reference to one component.
+    Take { at: u64, key: Key },
+    /// A declaration.
     Spec { at: u64, spec: Spec },
 }
 

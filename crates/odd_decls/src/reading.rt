@@ -6,17 +6,18 @@ ghost use Rattle.odd_reader.specs.Formed.{IsFormed};
 ghost use Rattle.odd_reader.specs.declared.tree.Tree.{Tree as ATree};
 ghost use Rattle.odd_forms.specs.Sorted.{IsSet};
 ghost use Rattle.odd_decls.specs.Declares.{Declares, start_of};
-ghost use Rattle.odd_decls.specs.Faults.{HoldsIdents, IsEarlier, IsIdentIn, StandsAgain};
+ghost use Rattle.odd_decls.specs.Faults.{HoldsIdents, IsIdentIn, StandsAgain};
 ghost use Rattle.odd_decls.specs.Offences.{IsOffenceOf, IsRefusal, IsSpecOf};
 ghost use Rattle.odd_decls.specs.Pending.{IsPending};
 ghost use Rattle.odd_decls.specs.Search.{Finds, Found as AFound};
 ghost use Rattle.odd_decls.specs.Reading.{AreItemsRead, IsFirstIn, IsJoined, IsReadOrBroken, Rises};
 
+use crate::fault::{Fault, earlier};
 use crate::items::{ReadItem, read_item, spec_ident};
 use crate::odd::{Entries, OddDoc};
 use crate::pending::{Around, is_pending};
 use crate::searching::{binds_along, find_schemas, path_to_first};
-use odd_base::{NoMemory, Offence, Scope, Text, TryCopy, Who, Words};
+use odd_base::{NoMemory, Offence, Scope, Text, TryCopy, Words};
 use odd_forms::{Element, fault_where, lesser, own_fault, sorted, words_of};
 use odd_reader::{Bindings, Tree, attribute, elements};
 use std::alloc::Global;
@@ -70,19 +71,8 @@ pub fn read_odd(alloc: Global, tree: &Tree, file: u32, _aside: bool) -> Result<O
     };
     match read_schema(alloc, tree, schema, others)? {
         Read::Doc(doc) => Ok(doc),
-        Read::Broken(fault) => Err(OddRefusal::Offence(Offence {
-            file,
-            who: Who::At(fault.at),
-            rule: fault.rule,
-        })),
+        Read::Broken(fault) => Err(OddRefusal::Offence(fault.in_file(file))),
     }
-}
-
-// A rule that is broken at a byte.
-#[derive(Clone, Copy, Debug, PartialEq, Eq, PartialOrd, Ord)]
-struct Fault {
-    at: u64,
-    rule: u8,
 }
 
 // What a file declares, or its first fault.
@@ -177,13 +167,6 @@ fn is_again<'a>(idents: &mut BTreeSet<&'a str>, item: &'a Tree) -> Result<bool, 
         Some(ident) => Ok(!idents.insert(ident.as_str())?),
         None => Ok(false),
     }
-}
-
-// The earlier of two faults, by place and then by rule.
-fn earlier(one: Fault, other: Fault) -> Fault
-    ensures { IsEarlier one other result }
-{
-    one.min(other)
 }
 
 // The first of those `schemaSpec` that come after one, of which there may be none.

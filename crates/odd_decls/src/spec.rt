@@ -2,11 +2,25 @@ use odd_base::{Key, NoMemory, Text, TryCopy};
 use odd_content::Content;
 use std::alloc::Global;
 
+/// What a declaration does to the component of its key that was declared before.
+#[derive(Clone, Copy, Debug, PartialEq, Eq)]
+pub enum Mode {
+    /// There is a new component.
+    Add,
+    /// There is none any more.
+    Delete,
+    /// It has another of each field that is given.
+    Change,
+    /// There is a new component in its place.
+    Replace,
+}
+
 /// A declaration of a component. `module` is empty where none is given, and `ns` is the namespace of an element in
-/// documents. Without a content the component's content is empty.
+/// documents: one that is added or replaced has one.
 #[derive(Drop)]
 pub struct Spec {
     pub key: Key,
+    pub mode: Mode,
     pub module: Text,
     pub ns: Option<Text>,
     pub content: Option<Content>,
@@ -26,6 +40,7 @@ impl TryCopy for Spec {
         };
         Ok(Spec {
             key,
+            mode: self.mode,
             module,
             ns,
             content,

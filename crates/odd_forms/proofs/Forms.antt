@@ -1,5 +1,5 @@
 -- The least rule that an element breaks by its form, from those of its parts.
-use Rattle.std.proofs.Common.{◌≡◌, ◌↔◌, ◌≤◌, ◌<◌, ℕ, Bool, true, false, not, ◌||◌, if◌then◌else◌, List, [], ◌∷◌, Option, Some, None, ◌⊎◌, inl, inr, ⊎_elim, refl, sym, ap, ◌∙◌, subst, arith, leb}
+use Rattle.std.proofs.Common.{◌≡◌, ◌≢◌, ◌↔◌, ◌≤◌, ◌<◌, ℕ, Bool, true, false, not, ◌||◌, if◌then◌else◌, List, [], ◌∷◌, Option, Some, None, ◌⊎◌, inl, inr, ⊎_elim, refl, sym, ap, ◌∙◌, subst, arith, leb}
 use Rattle.std.specs.Prelude.{IsTrue, count_by, is_some, nat_le, nat_lt}
 use Rattle.std.specs.List.{list_any}
 use Rattle.std.proofs.lemmas.Bool.{both_ways, cases_Bool, false_from_ne_true, leb-false, leb-true, lt-ltb, ltb-true, not-true}
@@ -9,11 +9,11 @@ use Rattle.odd_reader.specs.Elements.{children_of, given}
 use Rattle.odd_reader.proofs.InList.{StandsOnce}
 use Rattle.odd_forms.specs.declared.element.Element.{Element}
 use Rattle.odd_forms.specs.Faults.{AttributeFault, ChildFault, DemandFault, FormFault, OwnFault, ValueFault, child_in}
-use Rattle.odd_forms.specs.Form.{AttributeForm, Form, Suits, in_order, number_told}
+use Rattle.odd_forms.specs.Form.{AttributeForm, Form, Suits, in_order, not_both, number_told}
 use Rattle.odd_forms.specs.Least.{Among, IsLeast, lesser_rule}
 use Rattle.odd_forms.specs.Names.{is_one_of, is_passed_over, is_relax_ng, is_tei}
 use Rattle.odd_forms.specs.Table.{form_at}
-use Rattle.odd_forms.specs.Words.{is_among}
+use Rattle.odd_forms.specs.Words.{is_among, words_given}
 use Rattle.odd_forms.proofs.Least.{least_if, least_or, least_same}
 use Rattle.odd_forms.proofs.Lists.{any_stands}
 
@@ -60,6 +60,13 @@ order_least t least most m n em en = least_if (DemandFault (in_order least most)
         let other : n ≡ l = same_Some _ _ (sym en ∙ el) in
         let less : n < m = omega arith in
         (lt-ltb n m less, refl)
+
+-- a word in both, where a test tells of both
+pub both_least : (t : Tree) (one other : List ℕ) (b : Bool) → (IsTrue b ↔ (words_given t one ≢ []) × (words_given t other ≢ [])) → IsLeast (DemandFault (not_both one other) t) (if b then Some 3 else None)
+both_least t one other b tells = least_if (DemandFault (not_both one other) t) b 3 (λ h. DemandFault.both (tells.0 h).0 (tells.0 h).1) back
+  where
+    back : (rule : ℕ) → DemandFault (not_both one other) t rule → (b ≡ true) × (rule ≡ 3)
+    back rule (DemandFault.both h k) = (tells.1 (h, k), refl)
 
 -- a child breaks no rule below 2
 child_from_two : (form : Form) (c : Tree) (rule : ℕ) → ChildFault form c rule → 2 ≤ rule

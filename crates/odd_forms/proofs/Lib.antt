@@ -1,3 +1,4 @@
+pub mod AnyWord
 pub mod Forms
 pub mod Least
 pub mod Lists

@@ -11,6 +11,7 @@ use Rattle.odd_forms.specs.declared.element.Element.{Element}
 pub data Kind : Type 0 where
   name : Kind
   names : Kind
+  any_names : Kind
   digits : Kind
   count : Kind
   one_of : List (List ℕ) → Kind
@@ -26,6 +27,7 @@ pub record AttributeForm : Type 0 where
 -- what must also hold of an element
 pub data Demand : Type 0 where
   in_order : (least most : List ℕ) → Demand
+  not_both : (one other : List ℕ) → Demand
 
 pub record Form : Type 0 where
   pub name : List ℕ
@@ -51,6 +53,7 @@ pub record AreNames (words : List (List ℕ)) : Type 0 where
 abbrev pub Suits : Kind → List ℕ → Type 0
 Suits name value = IsNCName value
 Suits names value = AreNames (words_of value)
+Suits any_names value = All IsNCName (words_of value)
 Suits digits value = IsTrue (are_digits value)
 Suits count value = IsTrue (are_digits value) ⊎ (value ≡ codes "unbounded")
 Suits (one_of words) value = IsTrue (is_among words value)

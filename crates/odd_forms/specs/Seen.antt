@@ -13,6 +13,7 @@ use Rattle.odd_forms.specs.declared.form.Kind.{Kind as TheKind}
 abbrev pub kind : TheKind → Kind
 kind kinds.Name = f.name
 kind kinds.Names = f.names
+kind kinds.AnyNames = f.any_names
 kind kinds.Digits = f.digits
 kind kinds.Count = f.count
 
@@ -24,6 +25,7 @@ attribute (attributes.Word local words left_out rule) =
 
 abbrev pub demand : TheDemand → Demand
 demand (demands.InOrder least most) = f.in_order least.now most.now
+demand (demands.NotBoth one other) = f.not_both one.now other.now
 
 abbrev pub form : TheForm → Form
 form a = record {

@@ -1,6 +1,6 @@
 -- The form of each element. An attribute that is not listed is passed over, and so is text.
 use Rattle.std.specs.Prelude.{ℕ, true, false, List, [], ◌∷◌, codes}
-use Rattle.odd_forms.specs.Form.{AttributeForm, Demand, Form, Kind, name, names, digits, count, one_of, in_order}
+use Rattle.odd_forms.specs.Form.{AttributeForm, Demand, Form, Kind, name, names, any_names, digits, count, one_of, in_order, not_both}
 use Rattle.odd_forms.specs.declared.element.Element.TheVariants as elements
 use Rattle.odd_forms.specs.declared.element.Element.{Element}
 
@@ -25,6 +25,13 @@ max = optional (codes "maxOccurs") count
 abbrev pub bounds : Demand
 bounds = in_order (codes "minOccurs") (codes "maxOccurs")
 
+abbrev pub key : AttributeForm
+key = needed (codes "key") name
+
+-- what a declaration does to what is declared before
+abbrev pub mode : AttributeForm
+mode = word (codes "mode") (codes "add" ∷ codes "delete" ∷ codes "change" ∷ codes "replace" ∷ []) [] 3
+
 -- what a content model is made of
 abbrev pub parts : List Element
 parts = elements.Sequence ∷ elements.Alternate ∷ elements.ElementRef ∷ elements.AnyElement ∷ elements.TextNode ∷ elements.Empty ∷ []
@@ -33,15 +40,28 @@ parts = elements.Sequence ∷ elements.Alternate ∷ elements.ElementRef ∷ ele
 abbrev pub plain : List ℕ → Form
 plain local = record { name = local; attributes = []; left_out = []; many = []; once = []; left_out_children = []; passed_over = []; demands = []; closed = false }
 
+-- an item that names one component
+abbrev pub reference : List ℕ → Form
+reference local = record (plain local) { attributes = key ∷ []; left_out = codes "source" ∷ [] }
+
 abbrev pub form_at : Element → Form
 form_at elements.SchemaSpec = record (plain (codes "schemaSpec")) {
   attributes = needed (codes "ident") name ∷ optional (codes "start") names ∷ [];
-  many = elements.ElementSpec ∷ [];
+  many = elements.ModuleRef ∷ elements.ElementRefItem ∷ elements.ClassRefItem ∷ elements.MacroRefItem ∷ elements.DataRefItem ∷ elements.ElementSpec ∷ [];
   left_out_children = codes "constraintSpec" ∷ [];
   passed_over = codes "altIdent" ∷ [];
 }
+form_at elements.ModuleRef = record (plain (codes "moduleRef")) {
+  attributes = key ∷ optional (codes "include") any_names ∷ optional (codes "except") any_names ∷ [];
+  left_out = codes "url" ∷ codes "prefix" ∷ codes "source" ∷ [];
+  demands = not_both (codes "include") (codes "except") ∷ [];
+}
+form_at elements.ElementRefItem = reference (codes "elementRef")
+form_at elements.ClassRefItem = record (reference (codes "classRef")) { left_out = codes "source" ∷ codes "include" ∷ codes "except" ∷ [] }
+form_at elements.MacroRefItem = reference (codes "macroRef")
+form_at elements.DataRefItem = reference (codes "dataRef")
 form_at elements.ElementSpec = record (plain (codes "elementSpec")) {
-  attributes = needed (codes "ident") name ∷ optional (codes "module") name ∷ [];
+  attributes = needed (codes "ident") name ∷ optional (codes "module") name ∷ mode ∷ [];
   left_out = codes "prefix" ∷ codes "source" ∷ [];
   once = elements.Content ∷ [];
   left_out_children = codes "constraintSpec" ∷ [];
@@ -55,7 +75,7 @@ form_at elements.Sequence = record (plain (codes "sequence")) {
 }
 form_at elements.Alternate = record (plain (codes "alternate")) { attributes = min ∷ max ∷ []; many = parts; demands = bounds ∷ []; closed = true }
 form_at elements.ElementRef = record (plain (codes "elementRef")) {
-  attributes = needed (codes "key") name ∷ min ∷ max ∷ [];
+  attributes = key ∷ min ∷ max ∷ [];
   left_out = codes "source" ∷ [];
   demands = bounds ∷ [];
   closed = true;

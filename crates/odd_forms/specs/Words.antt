@@ -1,8 +1,10 @@
 -- The words of an attribute's value, which is what stands between white space, and whether a text is one of some words.
-use Rattle.std.specs.Prelude.{ℕ, Bool, true, false, List, [], ◌∷◌, filter, if◌then◌else◌}
+use Rattle.std.specs.Prelude.{ℕ, Bool, true, false, List, [], ◌∷◌, filter, if◌then◌else◌, unwrap_or}
 use Rattle.std.specs.List.{list_any}
 use Rattle.odd_tokens.specs.Characters.{is_space}
 use Rattle.odd_tokens.specs.Same.{is_same}
+use Rattle.odd_reader.specs.Elements.{given}
+use Rattle.odd_reader.specs.declared.tree.Tree.{Tree}
 
 -- the character stands before the first piece
 abbrev pub begun_with : ℕ → List (List ℕ) → List (List ℕ)
@@ -29,3 +31,7 @@ ended (c ∷ cs) later = (c ∷ cs) ∷ later
 -- the text is one of the words
 abbrev pub is_among : List (List ℕ) → List ℕ → Bool
 is_among words text = list_any (is_same text) words
+
+-- the words that an element has in an attribute, and none where it is absent
+abbrev pub words_given : Tree → List ℕ → List (List ℕ)
+words_given t local = words_of (unwrap_or (given t local) [])

@@ -1,17 +1,20 @@
-ghost use Rattle.std.specs.Prelude.{◌≡◌, ◌↔◌, IfOk, IsTrue, Some};
+ghost use Rattle.std.specs.Prelude.{◌≡◌, ◌≢◌, ◌↔◌, All, IfOk, IsTrue, Some, []};
 ghost use Rattle.std.specs.Char.{is_ascii_digit};
 ghost use Rattle.std.specs.List.{list_all};
 ghost use Rattle.odd_reader.specs.Elements.{given};
 ghost use Rattle.odd_forms.specs.Faults.{AttributeFault, DemandFault, ValueFault};
-ghost use Rattle.odd_forms.specs.Form.{AreNames, Suits, are_digits as the_are_digits, number_told};
+ghost use Rattle.odd_forms.specs.Form.{Suits, are_digits as the_are_digits, number_told};
 ghost use Rattle.odd_forms.specs.Least.{IsLeast};
 ghost use Rattle.odd_forms.specs.Seen as seen;
+ghost use Rattle.odd_forms.specs.Words.{words_given};
+ghost use Rattle.odd_tokens.specs.Characters.{IsNCName};
 
 use crate::faults::{LEFT_OUT, MALFORMED, UNKNOWN, fault_where};
 use crate::form::{AttributeForm, Demand, Kind};
 use crate::words::{is_among, words_of};
 use odd_base::{NoMemory, Text};
 use odd_reader::{Tree, attribute, is_ncname};
+use odd_tokens::is_space;
 use std::alloc::Global;
 
 /// The least rule that an element breaks by an attribute that it may have.
@@ -47,22 +50,26 @@ fn suits(alloc: Global, kind: &Kind, value: &Text) -> Result<bool, NoMemory>
 {
     match kind {
         Kind::Name => Ok(is_ncname(value)),
-        Kind::Names => Ok(are_names(words_of(alloc, value.as_str())?.as_slice())),
+        Kind::Names => {
+            let words = words_of(alloc, value.as_str())?;
+            Ok(!words.is_empty() && are_names(words.as_slice()))
+        }
+        Kind::AnyNames => Ok(are_names(words_of(alloc, value.as_str())?.as_slice())),
         Kind::Digits => Ok(are_digits(value)),
         Kind::Count => Ok(are_digits(value) || value.as_str() == "unbounded"),
     }
 }
 
-// Whether these are one or more NCNames.
+// Whether these are all NCNames.
 fn are_names(words: &[Text]) -> bool
-    ensures { IsTrue result ↔ AreNames words.now }
+    ensures { IsTrue result ↔ All IsNCName words.now }
 {
     for word in words {
         if !is_ncname(word) {
             return false;
         }
     }
-    !words.is_empty()
+    true
 }
 
 // Whether a value is 1 to 9 digits.
@@ -105,9 +112,23 @@ fn number_of(value: &Text) -> Option<u32>
 pub fn demand_fault(demand: &Demand, tree: &Tree) -> Option<u8>
     ensures { IsLeast (DemandFault (seen.demand demand.now) tree.now) result }
 {
-    let Demand::InOrder(least, most) = demand;
-    match (number(tree, least), number(tree, most)) {
-        (Some(m), Some(n)) => fault_where(n < m, UNKNOWN),
-        _ => None,
+    match demand {
+        Demand::InOrder(least, most) => match (number(tree, least), number(tree, most)) {
+            (Some(m), Some(n)) => fault_where(n < m, UNKNOWN),
+            _ => None,
+        },
+        Demand::NotBoth(one, other) => {
+            fault_where(has_word(tree, one) && has_word(tree, other), UNKNOWN)
+        }
+    }
+}
+
+// Whether an element has a word in an attribute.
+fn has_word(tree: &Tree, local: &str) -> bool
+    ensures { IsTrue result ↔ (words_given tree.now local.now ≢ []) }
+{
+    match attribute(&tree.attrs, local) {
+        Some(value) => value.as_str().chars().any(|c| !is_space(c)),
+        None => false,
     }
 }

@@ -9,10 +9,17 @@ use crate::form::{AttributeForm, Demand, Form, Kind};
 #[derive(Clone, Copy, Debug, PartialEq, Eq)]
 pub enum Element {
     SchemaSpec,
+    ModuleRef,
+    /// An `elementRef` that is an item of a `schemaSpec`, and so on.
+    ElementRefItem,
+    ClassRefItem,
+    MacroRefItem,
+    DataRefItem,
     ElementSpec,
     Content,
     Sequence,
     Alternate,
+    /// An `elementRef` in a content.
     ElementRef,
     AnyElement,
     TextNode,
@@ -25,6 +32,16 @@ const MIN: AttributeForm = Optional("minOccurs", Kind::Digits);
 const MAX: AttributeForm = Optional("maxOccurs", Kind::Count);
 
 const BOUNDS: Demand = Demand::InOrder("minOccurs", "maxOccurs");
+
+const KEY: AttributeForm = Needed("key", Kind::Name);
+
+// What a declaration does to what is declared before.
+const MODE: AttributeForm = Word {
+    local: "mode",
+    words: &["add", "delete", "change", "replace"],
+    left_out: &[],
+    rule: 3,
+};
 
 // What a content model is made of.
 const PARTS: &[Element] = &[
@@ -49,18 +66,69 @@ const PLAIN: Form = Form {
     closed: false,
 };
 
+// An item that names one component.
+const REFERENCE: Form = Form {
+    attributes: &[KEY],
+    left_out: &["source"],
+    ..PLAIN
+};
+
 static SCHEMA_SPEC: Form = Form {
     name: "schemaSpec",
     attributes: &[Needed("ident", Kind::Name), Optional("start", Kind::Names)],
-    many: &[Element::ElementSpec],
+    many: &[
+        Element::ModuleRef,
+        Element::ElementRefItem,
+        Element::ClassRefItem,
+        Element::MacroRefItem,
+        Element::DataRefItem,
+        Element::ElementSpec,
+    ],
     left_out_children: &["constraintSpec"],
     passed_over: &["altIdent"],
     ..PLAIN
 };
 
+static MODULE_REF: Form = Form {
+    name: "moduleRef",
+    attributes: &[
+        KEY,
+        Optional("include", Kind::AnyNames),
+        Optional("except", Kind::AnyNames),
+    ],
+    left_out: &["url", "prefix", "source"],
+    demands: &[Demand::NotBoth("include", "except")],
+    ..PLAIN
+};
+
+static ELEMENT_REF_ITEM: Form = Form {
+    name: "elementRef",
+    ..REFERENCE
+};
+
+static CLASS_REF_ITEM: Form = Form {
+    name: "classRef",
+    left_out: &["source", "include", "except"],
+    ..REFERENCE
+};
+
+static MACRO_REF_ITEM: Form = Form {
+    name: "macroRef",
+    ..REFERENCE
+};
+
+static DATA_REF_ITEM: Form = Form {
+    name: "dataRef",
+    ..REFERENCE
+};
+
 static ELEMENT_SPEC: Form = Form {
     name: "elementSpec",
-    attributes: &[Needed("ident", Kind::Name), Optional("module", Kind::Name)],
+    attributes: &[
+        Needed("ident", Kind::Name),
+        Optional("module", Kind::Name),
+        MODE,
+    ],
     left_out: &["prefix", "source"],
     once: &[Element::Content],
     left_out_children: &["constraintSpec"],
@@ -103,7 +171,7 @@ static ALTERNATE: Form = Form {
 
 static ELEMENT_REF: Form = Form {
     name: "elementRef",
-    attributes: &[Needed("key", Kind::Name), MIN, MAX],
+    attributes: &[KEY, MIN, MAX],
     left_out: &["source"],
     demands: &[BOUNDS],
     closed: true,
@@ -137,6 +205,11 @@ impl Element {
     {
         match self {
             Element::SchemaSpec => &SCHEMA_SPEC,
+            Element::ModuleRef => &MODULE_REF,
+            Element::ElementRefItem => &ELEMENT_REF_ITEM,
+            Element::ClassRefItem => &CLASS_REF_ITEM,
+            Element::MacroRefItem => &MACRO_REF_ITEM,
+            Element::DataRefItem => &DATA_REF_ITEM,
             Element::ElementSpec => &ELEMENT_SPEC,
             Element::Content => &CONTENT,
             Element::Sequence => &SEQUENCE,

@@ -10,6 +10,8 @@ pub enum Kind {
     Name,
     /// One or more NCNames with white space between them.
     Names,
+    /// Any number of NCNames with white space between them.
+    AnyNames,
     /// 1 to 9 digits.
     Digits,
     /// 1 to 9 digits, or `unbounded`.
@@ -54,6 +56,8 @@ impl AttributeForm {
 pub enum Demand {
     /// The number of the second attribute is not below that of the first. An absent one is 1.
     InOrder(&'static str, &'static str),
+    /// One of the two attributes at most has a word.
+    NotBoth(&'static str, &'static str),
 }
 
 /// What an element of an ODD file may have.

@@ -17,7 +17,7 @@ pub use faults::{
 pub use form::{AttributeForm, Demand, Form, Kind};
 pub use names::{is_one_of, is_passed_over, is_relax_ng, is_tei};
 pub use sorting::sorted;
-pub use words::words_of;
+pub use words::{words_given, words_of};
 
 /// The namespace of the TEI Guidelines.
 pub const TEI: &str = "http://www.tei-c.org/ns/1.0";

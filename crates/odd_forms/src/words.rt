@@ -1,7 +1,8 @@
 ghost use Rattle.std.specs.Prelude.{◌≡◌, [], ◌++◌, IfOk, OnOk, map};
-ghost use Rattle.odd_forms.specs.Words.{ended, is_among as the_is_among, words_of as the_words_of};
+ghost use Rattle.odd_forms.specs.Words.{ended, is_among as the_is_among, words_given as the_words_given, words_of as the_words_of};
 
 use odd_base::{NoMemory, Text, Words};
+use odd_reader::{Tree, attribute};
 use odd_tokens::is_space;
 use std::alloc::Global;
 
@@ -21,6 +22,16 @@ pub fn words_of(alloc: Global, value: &str) -> Result<Words, NoMemory>
     }
     end_word(&mut words, word)?;
     Ok(words)
+}
+
+/// The words that an element has in an attribute, and none where it is absent.
+pub fn words_given(alloc: Global, tree: &Tree, local: &str) -> Result<Words, NoMemory>
+    ensures { IfOk result (λ words. words ≡ the_words_given tree.now local.now) }
+{
+    match attribute(&tree.attrs, local) {
+        Some(value) => words_of(alloc, value.as_str()),
+        None => Ok(Words::new(alloc)),
+    }
 }
 
 // Puts a word that ends, where one has begun.

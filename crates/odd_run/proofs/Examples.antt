@@ -1,10 +1,11 @@
 -- Small checks of what the definitions of this crate say: where they hold, and where they do not.
-use Rattle.std.proofs.Common.{◌≡◌, ◌≤◌, ◌+◌, ℕ, false, List, [], ◌∷◌, length, Some, None, inl, inr, refl, sym, ap, ◌∙◌, arith, rules, slice_get}
+use Rattle.std.proofs.Common.{◌≡◌, ◌≤◌, ◌+◌, ℕ, Bool, true, false, cond, List, [], ◌∷◌, length, Some, None, inl, inr, refl, sym, ap, ◌∙◌, arith, rules, slice_get}
 use Rattle.std.specs.Fmt.{digits}
 use Rattle.std.specs.Prelude.{◌≢◌, codes, map as map_items}
 use Rattle.std.specs.FinMap as map
 use Rattle.std.proofs.lemmas.Cmp.{nat_list_cmp_total}
 use Rattle.std.proofs.lemmas.Option.{same_Some}
+use Rattle.std.specs.Ordering.{eq_by_cmp}
 use Rattle.odd_base.specs.Text.{text_cmp}
 use Rattle.odd_base.specs.Key.{key_cmp}
 use Rattle.odd_base.specs.Shelf.{FileMap, Held}
@@ -23,7 +24,11 @@ use Rattle.odd_forms.specs.Faults.{ChildFault}
 use Rattle.odd_forms.specs.Names.{tei, tei_namespace}
 use Rattle.odd_reader.specs.Elements.{StandsIn}
 use Rattle.odd_reader.proofs.InList.{nothing_stands, stands_first}
-use Rattle.odd_decls.specs.Offences.{HasOffence, IsNotBefore, IsRefusal, IsSpecOf, ItemFault, ItemOffends, Offends}
+use Rattle.odd_decls.specs.Offences.{HasOffence, IsNotBefore, IsRefusal, IsSpecOf, ItemOffends, Offends}
+use Rattle.odd_decls.specs.Offences as form
+use Rattle.odd_decls.specs.Library.{component_of}
+use Rattle.odd_modes.specs.After.{IsLibraryAfter, held_after, held_by, last_of}
+use Rattle.odd_modes.specs.Offences.{ItemFault, SpecFault}
 use Rattle.odd_decls.specs.Pending.{IsPending, outermost}
 use Rattle.odd_decls.specs.Pending as pending
 use Rattle.odd_decls.specs.Search.{Finds}
@@ -33,6 +38,7 @@ use Rattle.odd_decls.specs.declared.library.Component.TheVariants as component
 use Rattle.odd_decls.specs.declared.library.Library.{Library}
 use Rattle.odd_decls.specs.declared.odd.Entry.TheVariants as entry
 use Rattle.odd_decls.specs.declared.odd.OddDoc.{OddDoc}
+use Rattle.odd_decls.specs.declared.spec.Mode.TheVariants as mode
 use Rattle.odd_decls.specs.declared.spec.Spec.{Spec}
 use Rattle.odd_decls.proofs.SmallFiles.{HoldsNone, IsNamedSchema, IsNamedSpec, a_alone, alone, attribute, bare_is_sound, declares, each_such, element, elements_are, entry_more, few, few_rise, found_first, found_through, in_child, items_alone, no_entries, nodes, none_held, not_pending, one_item, only_child, other_breaks_three, plain}
 use Rattle.odd_forms.proofs.Named.{is_name}
@@ -52,7 +58,7 @@ use Rattle.compile_core.specs.Schema.{IsLeastMissing, IsSchema}
 use Rattle.odd_run.specs.Note.{code_of, note_text}
 use Rattle.odd_run.specs.Words.{Compiles, WordsMean, compile}
 use Rattle.odd_run.specs.declared.status.Status.{Status}
-use Rattle.odd_run.specs.Reply.{Reply, Reads, Gives, not_xml, not_yet, offends, start_missing, no_job, no_file, too_long, refused, done}
+use Rattle.odd_run.specs.Reply.{OffendsAlone, Reply, Reads, Gives, of_form, not_xml, not_yet, offends, start_missing, no_job, no_file, too_long, refused, done}
 use Rattle.odd_run.specs.declared.words.Command.TheVariants as command
 use Rattle.odd_run.specs.declared.words.Job.{Job}
 use Rattle.odd_run.specs.declared.status.LimitKind.TheVariants as limit
@@ -252,7 +258,7 @@ abbrev a_key : Key
 a_key = element_key (codes "a")
 
 abbrev element_spec : Spec
-element_spec = record { key = a_key; «module» = []; ns = Some tei_namespace; content = None }
+element_spec = record { key = a_key; mode = mode.Add; «module» = []; ns = Some tei_namespace; content = None }
 
 abbrev one_doc : OddDoc
 one_doc = record { ident = codes "s"; start = codes "a" ∷ []; entries = entry.Spec 68 element_spec ∷ [] }
@@ -261,13 +267,14 @@ abbrev one_library : Library
 one_library = record { ident = codes "s"; start = codes "a" ∷ []; parts = (a_key, component.Element (record { «module» = []; ns = tei_namespace; content = content.Empty })) ∷ [] }
 
 element_named : IsNamedSpec (codes "a") element_tree
-element_named = record { is_spec = refl; ident = refl; name = is_name (codes "a") refl; no_module = refl; no_prefix = refl; no_source = refl }
+element_named = record { is_spec = refl; ident = refl; name = is_name (codes "a") refl; no_mode = refl; no_module = refl; no_prefix = refl; no_source = refl }
 
 element_read : IsEntryOf (alone root_tree) element_tree (entry.Spec 68 element_spec)
 element_read = IsEntryOf.spec (record {
   ident = codes "a";
   is_spec = (refl, refl, is_name (codes "a") refl);
   key = refl;
+  of_mode = refl;
   of_module = refl;
   ns = refl;
   content = GivesContent.none (λ child s is. nothing_stands child s);
@@ -280,13 +287,32 @@ one_element_declares =
     (none_held _ element_tree [] refl (plain _ _ refl (λ _. refl)) tt, tt) (bare_is_sound (codes "a") _ element_tree element_named refl, tt)
     (λ one. few (IsSpecOf one) (element_tree ∷ []) (omega arith)) (entry_more _ element_tree [] _ [] element_read (no_entries _)) (few_rise _ (omega arith))
 
+-- over no library, what it adds is not chosen
+added_sound : (before : Library) (rule : ℕ) → IsLibraryAfter [] before → ItemFault before one_doc (entry.Spec 68 element_spec) rule → ⊥
+added_sound before rule is (ItemFault.reference f) = elim f [ ]
+added_sound before rule is (ItemFault.spec (SpecFault.chosen added chosen)) = let none : None ≡ Some chosen.part = sym (is.holds a_key) ∙ chosen.held in cc
+added_sound before rule is (ItemFault.spec (SpecFault.not_chosen other none)) = other refl
+
+one_element_sound : (place rule : ℕ) → OffendsAlone one_doc place rule → ⊥
+one_element_sound place rule o =
+    each_such (λ e. ItemFault o.0 one_doc e rule → ⊥) (entry.Spec 68 element_spec ∷ []) o.2.item ((λ f. added_sound o.0 rule o.1 f), tt) o.2.stands o.2.fault
+
+-- and it is held
+one_element_held : (key : Key) → map.find key_cmp key one_library.parts ≡ held_after (one_doc ∷ []) key
+one_element_held key = held (eq_by_cmp key_cmp key a_key)
+  where
+    held : (same : Bool) → cond same (Some (component_of element_spec)) None ≡ held_by (last_of None (cond same (Some element_spec) None)) one_doc.entries key None
+    held true = refl
+    held false = refl
+
 one_element_gives : Gives one_element one_library
 one_element_gives = record {
   tree = root_tree;
   given = one_element_read;
   doc = one_doc;
   declared = one_element_declares;
-  is_library = record { ident = refl; start = refl; rising = refl; holds = λ key. refl };
+  unoffended = one_element_sound;
+  is_library = record { ident = refl; start = refl; rising = refl; holds = one_element_held };
 }
 
 a_is_held : (word : List ℕ) → StandsIn (codes "a" ∷ []) word → map.find key_cmp (element_key word) one_library.parts ≡ None → ⊥
@@ -369,6 +395,7 @@ no_element_gives = record {
   declared =
       declares (codes "s") (codes "a") (root_of []) [] [] (root_named []) refl refl search.nothing refl tt tt (λ one. few (IsSpecOf one) [] (omega arith)) (no_entries _)
       (few_rise [] (omega arith));
+  unoffended = λ place rule o. nothing_stands o.2.item o.2.stands;
   is_library = record { ident = refl; start = refl; rising = refl; holds = λ key. refl };
 }
 
@@ -412,7 +439,7 @@ p_offends = record {
   first = alone offending_tree;
   others = [];
   found = offending_schema;
-  offends = Offends.items (ItemOffends.alone p_tree (only_child p_tree) (ItemFault.misplaced (ChildFault.unknown refl refl refl refl refl)) refl);
+  offends = Offends.items (ItemOffends.alone p_tree (only_child p_tree) (form.ItemFault.misplaced (ChildFault.unknown refl refl refl refl refl)) refl);
 }
 
 -- the file has no other offence
@@ -433,7 +460,7 @@ p_refusal = record {
 }
 
 offending_reply : Reply compile_f (holding one_p) [] (status.Refused p_offence)
-offending_reply = refused one_p (f_reads one_p (omega arith)) (offends offending_tree one_p_read p_refusal)
+offending_reply = refused one_p (f_reads one_p (omega arith)) (offends offending_tree one_p_read (of_form p_refusal))
 
 -- and it has no other status
 offending_has_one : (text : List ℕ) (s : Status) → Reply compile_f (holding one_p) text s → s ≡ status.Refused p_offence

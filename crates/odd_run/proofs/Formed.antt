@@ -14,13 +14,15 @@ use Rattle.odd_reader.proofs.InList.{stands_first}
 use Rattle.odd_forms.specs.Names.{tei_namespace}
 use Rattle.odd_content.specs.declared.content.Content.{Content}
 use Rattle.odd_content.specs.declared.content.Content.TheVariants as content
-use Rattle.odd_decls.specs.Declares.{Declares, GivesContent, namespace_given}
-use Rattle.odd_decls.specs.Library.{IsLibraryOf}
+use Rattle.odd_decls.specs.Declares.{Declares, GivesContent, mode_given, namespace_given, namespace_in}
+use Rattle.odd_modes.specs.After.{IsLibraryAfter}
 use Rattle.odd_decls.specs.Odd.{element_key}
-use Rattle.odd_decls.specs.Offences.{IsSpecOf, ItemFault, ItemOffends, Offends, SpecFault}
+use Rattle.odd_decls.specs.Offences.{IsSpecOf, ItemFault, ItemOffends, Offends}
 use Rattle.odd_decls.specs.declared.library.Component.{Component}
 use Rattle.odd_decls.specs.declared.library.Library.{Library}
 use Rattle.odd_decls.specs.declared.odd.OddDoc.{OddDoc}
+use Rattle.odd_decls.specs.declared.spec.Mode.{Mode}
+use Rattle.odd_decls.specs.declared.spec.Mode.TheVariants as mode
 use Rattle.odd_decls.proofs.FoundFormed.{IsFormedSomewhere, found_formed}
 use Rattle.compile_core.specs.Conditions.{conditions_in}
 use Rattle.compile_core.specs.OrderedBounds.{AreBoundsOrdered}
@@ -42,6 +44,13 @@ legal_namespace schema item f g =
     legal_or (given item (codes "ns")) _ (λ v e. legal_given item (codes "ns") v g e)
     (legal_or (given schema (codes "ns")) tei_namespace (λ v e. legal_given schema (codes "ns") v f e) (ascii_legal tei_namespace refl))
 
+-- the one that a declaration gives, or TEI's
+legal_in : (m : Mode) (schema item : Tree) → IsFormedTag schema → IsFormedTag item → IsLegal (unwrap_or (namespace_in m schema item) tei_namespace)
+legal_in mode.Add schema item f g = legal_namespace schema item f g
+legal_in mode.Replace schema item f g = legal_namespace schema item f g
+legal_in mode.Change schema item f g = legal_or (given item (codes "ns")) tei_namespace (λ v e. legal_given item (codes "ns") v g e) (ascii_legal tei_namespace refl)
+legal_in mode.Delete schema item f g = legal_or (given item (codes "ns")) tei_namespace (λ v e. legal_given item (codes "ns") v g e) (ascii_legal tei_namespace refl)
+
 -- what an item of a file declares
 module _ (first end : ℕ) (t : Tree) (doc : OddDoc) (formed : IsFormedTree first end t) (d : Declares t doc) where
   -- the `schemaSpec`
@@ -55,9 +64,9 @@ module _ (first end : ℕ) (t : Tree) (doc : OddDoc) (formed : IsFormedTree firs
 
   -- an item breaks nothing
   item_unbroken : (item : Tree) (ident : List ℕ) → StandsIn (children_of d.first.schema) item → IsSpecOf ident item
-      → (rule : ℕ) → SpecFault (within d.first.around d.first.schema) item rule → ⊥
+      → (rule : ℕ) → ItemFault (within d.first.around d.first.schema) item rule → ⊥
   item_unbroken item ident s is rule f =
-      d.unoffended _ rule (record { first = d.first; others = []; found = d.found; offends = Offends.items (ItemOffends.alone item s (ItemFault.spec is.0 f) refl) })
+      d.unoffended _ rule (record { first = d.first; others = []; found = d.found; offends = Offends.items (ItemOffends.alone item s f refl) })
 
   -- the content that an item gives
   content_formed : (item : Tree) (ident : List ℕ) → StandsIn (children_of d.first.schema) item → IsSpecOf ident item → (o : Option Content)
@@ -68,14 +77,14 @@ module _ (first end : ℕ) (t : Tree) (doc : OddDoc) (formed : IsFormedTree firs
       let item_formed = child_formed schema_formed.2 item s in
       let f = child_formed item_formed.2 child among in (
         conditions_formed (within around item) child f.0 f.1 c (within_legal around schema_legal item_formed.2) f.2 of,
-        bounds_ordered (within around item) child c of (λ rule k. item_unbroken item ident s is rule (SpecFault.content child among content k)),
+        bounds_ordered (within around item) child c of (λ rule k. item_unbroken item ident s is rule (ItemFault.content child is.0 among content k)),
       )
 
   -- what is held at a key is formed
   held_formed : (key : Key) (part : Component) → IsHeld d.first key part → (key.kind ≡ kind.Element) × IsNCName key.ident × IsFormedPart part
   held_formed key part h =
       let key_made : element_key h.read.ident ≡ key = sym h.read.key ∙ h.key_is in
-      let legal = legal_namespace d.first.schema h.item (tag_formed schema_formed.2)
+      let legal = legal_in (mode_given h.item) d.first.schema h.item (tag_formed schema_formed.2)
       (tag_formed (child_formed schema_formed.2 h.item h.stands).2) in
       let c = content_formed h.item h.read.ident h.stands h.read.is_spec h.made.content h.read.content in (
         sym (ap (λ (k : Key). k.kind) key_made),
@@ -83,6 +92,6 @@ module _ (first end : ℕ) (t : Tree) (doc : OddDoc) (formed : IsFormedTree firs
         subst IsFormedPart h.part_is (record { legal = subst (λ o. IsLegal (unwrap_or o tei_namespace)) (sym h.read.ns) legal; conditions = c.0; ordered = c.1 }),
       )
 
-pub library_formed : (first end : ℕ) (t : Tree) (doc : OddDoc) (library : Library) → IsFormedTree first end t → Declares t doc → IsLibraryOf doc library → IsFormed library
+pub library_formed : (first end : ℕ) (t : Tree) (doc : OddDoc) (library : Library) → IsFormedTree first end t → Declares t doc → IsLibraryAfter (doc ∷ []) library → IsFormed library
 library_formed first end t doc library f d l =
     record { rising = l.rising; formed = λ key part e. held_formed first end t doc f d key part (held_item t doc library d l key part e) }

@@ -1,4 +1,5 @@
 -- What the attributes and the declarations of a formed element give is of XML's characters.
+use Rattle.odd_forms.specs.Words.{words_given}
 use Rattle.std.proofs.Common.{◌≡◌, ℕ, true, false, List, [], ◌∷◌, Option, Some, None, cond, refl, subst}
 use Rattle.std.specs.Prelude.{All, unwrap_or}
 use Rattle.std.proofs.lemmas.List.Elements.{All-append, All-contains, All-head, All-tail}
@@ -14,7 +15,6 @@ use Rattle.odd_reader.proofs.InList.{contained}
 use Rattle.odd_decls.proofs.FoundFormed.{IsFormedSomewhere, children_formed}
 use Rattle.odd_forms.specs.Words.{words_of}
 use Rattle.odd_forms.proofs.WordsLegal.{words_legal}
-use Rattle.odd_content.specs.Excepting.{words_given}
 
 -- a formed element has a formed tag
 pub tag_formed : {first end : ℕ} {t : Tree} → IsFormedTree first end t → IsFormedTag t

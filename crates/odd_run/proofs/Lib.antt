@@ -1,3 +1,4 @@
+pub mod Alone
 pub mod AroundLegal
 pub mod BoundsOrdered
 pub mod ConditionsFormed

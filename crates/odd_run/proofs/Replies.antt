@@ -14,11 +14,15 @@ use Rattle.odd_reader.proofs.Refusing.{gives_not_deep}
 use Rattle.odd_reader.proofs.Places.{one_depth, one_fault}
 use Rattle.odd_reader.proofs.Spelling.{one_tree}
 use Rattle.odd_decls.specs.Declares.{Declares}
-use Rattle.odd_decls.specs.Library.{IsLibraryOf}
 use Rattle.odd_decls.specs.declared.library.Library.{Library}
+use Rattle.odd_decls.specs.declared.odd.OddDoc.{OddDoc}
 use Rattle.odd_decls.specs.Offences.{IsRefusal}
 use Rattle.odd_decls.specs.Pending.{IsPending}
-use Rattle.odd_decls.proofs.OneLibrary.{one_doc, one_library}
+use Rattle.odd_decls.proofs.OneDoc.{one_doc}
+use Rattle.odd_modes.specs.After.{IsLibraryAfter}
+use Rattle.odd_modes.specs.Offences.{IsFirstOffence}
+use Rattle.odd_modes.proofs.OneFirst.{one_first}
+use Rattle.odd_modes.proofs.OneLibrary.{one_library}
 use Rattle.odd_decls.proofs.OneOffence.{one_offence}
 use Rattle.odd_forms.proofs.OneSet.{neither_below}
 use Rattle.rng_patterns.specs.declared.grammar.Grammar.{Grammar}
@@ -31,7 +35,7 @@ use Rattle.odd_run.specs.declared.status.Status.TheVariants as status
 use Rattle.odd_run.specs.declared.status.LimitKind.TheVariants as limit
 use Rattle.odd_run.specs.declared.words.Job.{Job}
 use Rattle.odd_run.specs.Words.{WordsMean, Compiles, compile}
-use Rattle.odd_run.specs.Reply.{file_bytes, start_offence, FileRefusal, not_xml, too_deep, not_yet, offends, start_missing, too_large, Reply, Reads, Gives, no_job, no_file, too_long, refused, done}
+use Rattle.odd_run.specs.Reply.{file_bytes, start_offence, FileRefusal, IsOffence, OffendsAlone, of_form, of_items, not_xml, too_deep, not_yet, offends, start_missing, too_large, Reply, Reads, Gives, no_job, no_file, too_long, refused, done}
 use Rattle.odd_run.specs.Running.{IsReplied, IsSilent, IsReadPlace, IsComplete, IsSchemaOf, IsStartError, IsRefusalOf, Compiling, compiled_text}
 
 one_file : (words : List (List ℕ)) (f g : List ℕ) → Compiles words f → Compiles words g → f ≡ g
@@ -48,7 +52,7 @@ one_gift : (bytes : List ℕ) (l m : Library) → Gives bytes l → Gives bytes 
 one_gift bytes l m p q =
     let trees : p.tree ≡ q.tree = one_tree bytes p.tree q.tree p.given.spelled q.given.spelled in
     let docs : p.doc ≡ q.doc = one_doc q.tree p.doc q.doc (subst (λ t. Declares t p.doc) trees p.declared) q.declared in
-    one_library q.doc l m (subst (λ d. IsLibraryOf d l) docs p.is_library) q.is_library
+    one_library (q.doc ∷ []) l m (subst (λ d. IsLibraryAfter (d ∷ []) l) docs p.is_library) q.is_library
 
 -- a library has one grammar of its start words
 one_schema : (l m : Library) (g h : Grammar) → l ≡ m → IsGrammarOf l l.start g → IsGrammarOf m m.start h → g ≡ h
@@ -144,14 +148,30 @@ one_given bytes t u g h = one_tree bytes t u g.spelled h.spelled
 pending_gives_none : (bytes : List ℕ) (t : Tree) (library : Library) → GivesTree bytes t → IsPending t → Gives bytes library → ⊥
 pending_gives_none bytes t library g p h = h.declared.all_read (subst IsPending (one_given bytes t h.tree g h.given) p)
 
-pending_has_none : (bytes : List ℕ) (t u : Tree) (offence : Offence) → GivesTree bytes t → IsPending t → GivesTree bytes u → IsRefusal u 1 offence → ⊥
-pending_has_none bytes t u offence g p h r = r.is_one.all_read (subst IsPending (one_given bytes t u g h) p)
+pending_has_none : (bytes : List ℕ) (t u : Tree) (offence : Offence) → GivesTree bytes t → IsPending t → GivesTree bytes u → IsOffence u offence → ⊥
+pending_has_none bytes t u offence g p h (of_form r) = r.is_one.all_read (subst IsPending (one_given bytes t u g h) p)
+pending_has_none bytes t u offence g p h (of_items doc d r) = d.all_read (subst IsPending (one_given bytes t u g h) p)
+
+-- a tree with an offence of form declares nothing
+offends_declares_none : (t : Tree) (doc : OddDoc) (offence : Offence) → IsRefusal t 1 offence → Declares t doc → ⊥
+offends_declares_none t doc offence r d = d.unoffended r.is_one.place offence.rule r.is_one.offends
 
 -- a file with an offence gives no library
-offends_gives_none : (bytes : List ℕ) (t : Tree) (offence : Offence) (library : Library) → GivesTree bytes t → IsRefusal t 1 offence → Gives bytes library → ⊥
+offence_but : (t : Tree) (doc : OddDoc) (offence : Offence) → Declares t doc → ((place rule : ℕ) → OffendsAlone doc place rule → ⊥) → IsOffence t offence → ⊥
+offence_but t doc offence d none (of_form r) = offends_declares_none t doc offence r d
+offence_but t doc offence d none (of_items other e r) = none r.place offence.rule (subst (λ x. OffendsAlone x r.place offence.rule) (one_doc t other doc e d) r.is_first.is_one)
+
+offends_gives_none : (bytes : List ℕ) (t : Tree) (offence : Offence) (library : Library) → GivesTree bytes t → IsOffence t offence → Gives bytes library → ⊥
 offends_gives_none bytes t offence library g r h =
-    let moved : IsRefusal h.tree 1 offence = subst (λ x. IsRefusal x 1 offence) (one_given bytes t h.tree g h.given) r in
-    h.declared.unoffended moved.is_one.place offence.rule moved.is_one.offends
+    offence_but h.tree h.doc offence h.declared h.unoffended (subst (λ x. IsOffence x offence) (one_given bytes t h.tree g h.given) r)
+
+-- a file has one first offence
+one_offence_of : (t : Tree) (o p : Offence) → IsOffence t o → IsOffence t p → o ≡ p
+one_offence_of t o p (of_form r) (of_form q) = one_offence t 1 o p r q
+one_offence_of t o p (of_form r) (of_items doc d q) = absurd (offends_declares_none t doc o r d)
+one_offence_of t o p (of_items doc d r) (of_form q) = absurd (offends_declares_none t doc p q d)
+one_offence_of t o p (of_items doc d r) (of_items other e q) =
+    one_first (OffendsAlone other) 1 o p (subst (λ x. IsFirstOffence (OffendsAlone x) 1 o) (one_doc t doc other d e) r) q
 
 -- a library whose schema passes a limit has none that passes none
 large_but : (l m : Library) (g : Grammar) → l ≡ m → HasLargeSchema l l.start → IsSchema m m.start g → ⊥
@@ -192,7 +212,7 @@ one_refusal bytes s r (offends t g a) (not_xml q n) = absurd (no_refusal_of_tree
 one_refusal bytes s r (offends t g a) (too_deep q d) = absurd (gives_not_deep bytes t q g d)
 one_refusal bytes s r (offends {offence = o} t g a) (not_yet u h b) = absurd (pending_has_none bytes u t o h b g a)
 one_refusal bytes s r (offends {offence = o} t g a) (offends {offence = p} u h b) =
-    ap status.Refused (one_offence u 1 o p (subst (λ x. IsRefusal x 1 o) (one_given bytes t u g h) a) b)
+    ap status.Refused (one_offence_of u o p (subst (λ x. IsOffence x o) (one_given bytes t u g h) a) b)
 one_refusal bytes s r (offends {offence = o} t g a) (start_missing w l k x e) = absurd (offends_gives_none bytes t o l g a k)
 one_refusal bytes s r (offends {offence = o} t g a) (too_large l k x) = absurd (offends_gives_none bytes t o l g a k)
 one_refusal bytes s r (start_missing v l g x d) (not_xml q n) = absurd (no_refusal_of_tree bytes g.tree q g.given n)

@@ -1,5 +1,5 @@
 -- What the program answers to words and files: the bytes of the reply and the status.
-use Rattle.std.specs.Prelude.{◌≡◌, ◌≤◌, ◌<◌, ℕ, List, [], length}
+use Rattle.std.specs.Prelude.{◌≡◌, ◌≤◌, ◌<◌, ℕ, List, [], ◌∷◌, length}
 use Rattle.odd_base.specs.Shelf.{FileMap, Held, NotHeld}
 use Rattle.odd_base.specs.declared.offence.Offence.{Offence}
 use Rattle.odd_base.specs.declared.offence.Who.TheVariants as who
@@ -8,9 +8,10 @@ use Rattle.odd_reader.specs.Spelled.{DepthPlace, GivesTree, IsNotXml}
 use Rattle.odd_decls.specs.declared.odd.OddDoc.{OddDoc}
 use Rattle.odd_decls.specs.declared.library.Library.{Library}
 use Rattle.odd_decls.specs.Declares.{Declares}
-use Rattle.odd_decls.specs.Library.{IsLibraryOf}
 use Rattle.odd_decls.specs.Offences.{IsRefusal}
 use Rattle.odd_decls.specs.Pending.{IsPending}
+use Rattle.odd_modes.specs.After.{IsLibraryAfter}
+use Rattle.odd_modes.specs.Offences.{IsFirstOffence, Offends}
 use Rattle.rng_patterns.specs.declared.grammar.Grammar.{Grammar}
 use Rattle.rng_emit.specs.Grammar.{grammar_text}
 use Rattle.compile_core.specs.Schema.{HasLargeSchema, IsLeastMissing, IsSchema}
@@ -31,13 +32,23 @@ pub record Reads (words : List (List ℕ)) (files : FileMap) (bytes : List ℕ) 
   pub held : Held files file bytes
   pub within : length bytes ≤ file_bytes
 
--- the file gives a tree, and the library is what that declares
+-- what a file that stands alone breaks against the library before it, which is the one before the first file
+abbrev pub OffendsAlone : OddDoc → ℕ → ℕ → Type 0
+OffendsAlone doc place rule = (before : Library) × IsLibraryAfter [] before × Offends before doc place rule
+
+-- the first offence of a file: of form, and where there is none against the library before it
+pub data IsOffence (tree : Tree) (offence : Offence) : Type 0 where
+  of_form : IsRefusal tree 1 offence → IsOffence tree offence
+  of_items : (doc : OddDoc) → Declares tree doc → IsFirstOffence (OffendsAlone doc) 1 offence → IsOffence tree offence
+
+-- the file gives a tree, that declares a doc without an offence, and the library is the one after it
 pub record Gives (bytes : List ℕ) (library : Library) : Type 0 where
   pub tree : Tree
   pub given : GivesTree bytes tree
   pub doc : OddDoc
   pub declared : Declares tree doc
-  pub is_library : IsLibraryOf doc library
+  pub unoffended : (place rule : ℕ) → OffendsAlone doc place rule → ⊥
+  pub is_library : IsLibraryAfter (doc ∷ []) library
 
 abbrev pub start_offence : List ℕ → Offence
 start_offence word = record { file = 1; who = who.Start word; rule = 20 }
@@ -47,7 +58,7 @@ pub data FileRefusal (bytes : List ℕ) : Status → Type 0 where
   not_xml : (place : ℕ) → IsNotXml bytes place → FileRefusal bytes (status.NotXml 1 place)
   too_deep : (place : ℕ) → DepthPlace bytes place → FileRefusal bytes (status.Limit (limit.Depth 1 place))
   not_yet : (tree : Tree) → GivesTree bytes tree → IsPending tree → FileRefusal bytes (status.NotYet 1)
-  offends : {offence : Offence} (tree : Tree) → GivesTree bytes tree → IsRefusal tree 1 offence → FileRefusal bytes (status.Refused offence)
+  offends : {offence : Offence} (tree : Tree) → GivesTree bytes tree → IsOffence tree offence → FileRefusal bytes (status.Refused offence)
   start_missing : {offence : Offence} (word : List ℕ) (library : Library) → Gives bytes library → IsLeastMissing library library.start word → offence ≡ start_offence word
       → FileRefusal bytes (status.Refused offence)
   too_large : (library : Library) → Gives bytes library → HasLargeSchema library library.start → FileRefusal bytes (status.Limit limit.Nodes)

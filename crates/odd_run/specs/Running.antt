@@ -3,6 +3,8 @@ use Rattle.std.specs.Prelude.{◌≡◌, ◌↔◌, ◌⊎◌, ℕ, Bool, List, 
 use Rattle.odd_base.specs.Count.{HasRisen, next_count}
 use Rattle.odd_base.specs.Shelf.{FileMap, Held, NotHeld, LeavesSuffix}
 use Rattle.odd_decls.specs.declared.library.Library.{Library}
+use Rattle.odd_decls.specs.declared.odd.OddDoc.{OddDoc}
+use Rattle.odd_modes.specs.Offences.{IsFirstOffence}
 use Rattle.odd_reader.specs.declared.tree.Tree.{Tree}
 use Rattle.odd_meaning.specs.Admission.{Admits}
 use Rattle.rng_patterns.specs.Acceptance.{Accepts}
@@ -15,7 +17,7 @@ use Rattle.odd_run.specs.declared.status.Status.{Status}
 use Rattle.odd_run.specs.declared.status.Status.TheVariants as status
 use Rattle.odd_run.specs.Words.{Compiles}
 use Rattle.odd_run.specs.Note.{IsFrontWritten}
-use Rattle.odd_run.specs.Reply.{FileRefusal, Reads, Gives, start_offence}
+use Rattle.odd_run.specs.Reply.{FileRefusal, Reads, Gives, OffendsAlone, start_offence}
 
 -- the answer is none of those that the outside causes
 abbrev pub IsReplied : Status → Type 0
@@ -80,6 +82,12 @@ pub record AcceptsOfWords (words : List (List ℕ)) (files : FileMap) (text : Li
 -- why a file of these bytes has no schema, or there was no memory
 abbrev pub IsRefusalOf : List ℕ → Status → Type 0
 IsRefusalOf bytes s = (s ≡ status.NoMemory) ⊎ FileRefusal bytes s
+
+-- why a file that stands alone has no library, once it is read
+abbrev pub IsItemsError : OddDoc → Status → Type 0
+IsItemsError doc (status.Refused offence) = IsFirstOffence (OffendsAlone doc) 1 offence
+IsItemsError doc status.NoMemory = Unit {0}
+IsItemsError doc s = ⊥
 
 -- why a library has no schema
 abbrev pub IsStartError : Library → Status → Type 0

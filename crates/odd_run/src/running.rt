@@ -1,8 +1,9 @@
-ghost use Rattle.std.specs.Prelude.{◌≡◌, ◌≢◌, ◌↔◌, ◌≤◌, ◌+◌, ℕ, List, Some, IsTrue, IfOk, IfErr, OnOk, MatchOption, [], ◌++◌, length};
+ghost use Rattle.std.specs.Prelude.{◌≡◌, ◌≢◌, ◌↔◌, ◌≤◌, ◌+◌, ℕ, List, Some, IsTrue, IfOk, IfErr, IsOk, OnOk, MatchOption, [], ◌∷◌, ◌++◌, length};
 ghost use Rattle.odd_base.specs.Count.{HasRisen, next_count};
 ghost use Rattle.odd_base.specs.Shelf.{FileMap, NotHeld};
 ghost use Rattle.odd_base.specs.Sink.{IsPartWritten};
 ghost use Rattle.odd_decls.specs.declared.library.Library.{Library as ALibrary};
+ghost use Rattle.odd_modes.specs.After.{IsLibraryAfter};
 ghost use Rattle.compile_core.specs.Schema.{IsFormed, IsSchema};
 ghost use Rattle.rng_emit.specs.Grammar.{grammar_text};
 ghost use Rattle.rng_patterns.specs.declared.grammar.Grammar.{Grammar as AGrammar};
@@ -10,8 +11,8 @@ ghost use Rattle.odd_run.specs.Note.{note_text};
 ghost use Rattle.odd_run.specs.Words.{Compiles, WordsMean};
 ghost use Rattle.odd_run.specs.declared.words.Job.{Job as AJob};
 ghost use Rattle.odd_run.specs.declared.status.Status.{Status as AStatus};
-ghost use Rattle.odd_run.specs.Reply.{file_bytes, Reply, Reads, Gives};
-ghost use Rattle.odd_run.specs.Running.{BeginsItsFile, IsReplied, IsSilent, IsReadPlace, IsNoted, IsComplete, IsSchemaOf, IsRefusalOf, IsStartError, Compiling, compiled_text, AcceptsAdmitted, AcceptsOfFile, AcceptsOfWords};
+ghost use Rattle.odd_run.specs.Reply.{file_bytes, Reply, Reads, Gives, OffendsAlone};
+ghost use Rattle.odd_run.specs.Running.{BeginsItsFile, IsReplied, IsSilent, IsReadPlace, IsNoted, IsComplete, IsSchemaOf, IsRefusalOf, IsItemsError, IsStartError, Compiling, compiled_text, AcceptsAdmitted, AcceptsOfFile, AcceptsOfWords};
 
 use crate::note::write_note;
 use crate::status::{LimitKind, Status};
@@ -19,7 +20,8 @@ use crate::words::read_words;
 use compile_core::{CompileRefusal, compile};
 use odd_base::writing::write_whole;
 use odd_base::{Bytes, NoMemory, Offence, Shelf, Sink, SlurpRefusal, Text, Words, slurp};
-use odd_decls::{Library, OddRefusal, library_of, read_odd};
+use odd_decls::{Library, OddDoc, OddRefusal, read_odd};
+use odd_modes::step;
 use odd_reader::{ReadRefusal, read_tree};
 use rng_emit::print_rng;
 use std::alloc::Global;
@@ -150,9 +152,23 @@ fn library_of_file(alloc: Global, bytes: &Bytes) -> Result<Library, Status>
         Err(OddRefusal::NotYet) => return Err(Status::NotYet { file: 1 }),
         Err(OddRefusal::NoMemory) => return Err(Status::NoMemory),
     };
-    match library_of(alloc, &doc) {
+    library_of_doc(alloc, &doc)
+}
+
+// The library after a file that stands alone, or its first offence against the library before it.
+fn library_of_doc(alloc: Global, doc: &OddDoc) -> Result<Library, Status>
+    ensures ok { IfOk result (IsLibraryAfter (doc.now ∷ [])) }
+    ensures sound { IsOk result → (place rule : ℕ) → OffendsAlone doc.now place rule → ⊥ }
+    ensures err { IfErr result (IsItemsError doc.now) }
+{
+    let Ok(before) = Library::empty(alloc) else {
+        return Err(Status::NoMemory);
+    };
+    match step(alloc, &before, doc, 1) {
         Ok(library) => Ok(library),
-        Err(NoMemory) => Err(Status::NoMemory),
+        Err(OddRefusal::Offence(offence)) => Err(Status::Refused(offence)),
+        Err(OddRefusal::NotYet) => Err(Status::NotYet { file: 1 }),
+        Err(OddRefusal::NoMemory) => Err(Status::NoMemory),
     }
 }
 

@@ -4,7 +4,7 @@ use crate::making::{key, many_words, text};
 use compile_core::{CompileRefusal, compile};
 use odd_base::{Kind, NoMemory, Text, TryCopy, Who, Words};
 use odd_content::Content;
-use odd_decls::{Component, ElementPart, Library, Spec};
+use odd_decls::{Component, ElementPart, Library, Mode, Spec};
 use rng_emit::print_rng;
 use std::alloc::Global;
 use std::test::Fail;
@@ -103,12 +103,13 @@ fn components_and_specs_are_copied(rt: HostRuntime) -> Result<(), Fail> {
     assert!(rt; part.module.as_str().is_empty() && matches!(part.content, Content::Text));
     let spec = Spec {
         key: key(rt.alloc(), Kind::Element, "a")?,
+        mode: Mode::Change,
         module: text(rt.alloc(), "m")?,
         ns: Some(text(rt.alloc(), "n")?),
         content: Some(Content::Text),
     };
     let copy = spec.copy(rt.alloc())?;
-    assert!(rt; copy.key == spec.key);
+    assert!(rt; copy.key == spec.key && copy.mode == Mode::Change);
     assert_eq!(rt; copy.module.as_str(), "m");
     assert!(rt; matches!(copy.content, Some(Content::Text)));
     Ok(())

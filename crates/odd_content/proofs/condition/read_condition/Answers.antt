@@ -1,3 +1,4 @@
+use Rattle.odd_forms.specs.Words.{words_given}
 use Rattle.std.proofs.Common.{◌≡◌, map, take, refl, sym, subst, ◌∙◌}
 use Rattle.std.specs.Prelude.{codes}
 use Rattle.std.proofs.lemmas.List.{take_all}
@@ -5,7 +6,7 @@ use Rattle.odd_base.specs.Text.{text_cmp}
 use Rattle.odd_reader.specs.Elements.{StandsIn, all_binds}
 use Rattle.odd_reader.proofs.InList.{ends}
 use Rattle.odd_forms.specs.Sorted.{IsSet}
-use Rattle.odd_content.specs.Excepting.{IsReadAs, words_given}
+use Rattle.odd_content.specs.Excepting.{IsReadAs}
 use Rattle.odd_content.proofs.Sorting.{name_sorted, names_set, none_sorted, same_sorted, space_sorted, spaces_set, unbound_sorted}
 use Rattle.odd_content.proofs.condition.read_condition.Goals as goal
 use Rattle.odd_content.proofs.condition.read_condition.Goals.{in-Space+in_ok-push-in-Space, in-Name+in_ok-push-in-Name, in-Unbound}

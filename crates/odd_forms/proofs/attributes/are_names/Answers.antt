@@ -1,18 +1,16 @@
-use Rattle.std.proofs.Common.{◌↔◌, All, IsTrue, List, [], ◌∷◌, ℕ, length, not, sym, subst, refl, rules}
-use Rattle.std.specs.Prelude.{◌==◌}
-use Rattle.odd_tokens.specs.Characters.{IsNCName}
-use Rattle.odd_forms.specs.Form.{AreNames}
-use Rattle.odd_reader.proofs.InList.{ends}
+use Rattle.std.proofs.Common.{All, sym, subst, refl}
 use Rattle.std.proofs.lemmas.Bool.{both_ways}
 use Rattle.std.proofs.lemmas.List.{take_all}
 use Rattle.std.proofs.lemmas.List.Elements.{All-push}
+use Rattle.odd_tokens.specs.Characters.{IsNCName}
+use Rattle.odd_reader.proofs.InList.{ends}
 use Rattle.odd_forms.proofs.attributes.are_names.Goals as goal
 
 pub returns-then-not-is_ncname : goal.returns-then-not-is_ncname
 returns-then-not-is_ncname c =
     let item = c.word-item.result in
     let no = λ (named : IsNCName item). both_ways c.is_ncname.result c.if-not-is_ncname.true (c.is_ncname.ensures.1 named) in
-    (λ h. cc, λ names. absurd (no (subst IsNCName (sym c.word-item.is) (names.named c.loop-word.word-index item c.loop-word-test.true))))
+    (λ h. cc, λ names. absurd (no (subst IsNCName (sym c.word-item.is) (names c.loop-word.word-index item c.loop-word-test.true))))
 
 pub loop-word-preserved : goal.loop-word-preserved
 loop-word-preserved c =
@@ -22,11 +20,4 @@ loop-word-preserved c =
     (All-push IsNCName _ item c.loop-word.invariant (c.is_ncname.ensures.0 c.if-not-is_ncname.false))
 
 pub returns : goal.returns
-returns c =
-    let words = c.args.words.now in
-    let named : All IsNCName words = subst (All IsNCName) (take_all c.loop-word.word-index words c.loop-word-test.false) c.loop-word.invariant in
-    rw c.is_empty.ensures (some words named)
-  where
-    some : (words : List (List ℕ)) → All IsNCName words → IsTrue (not (length words == 0)) ↔ AreNames words
-    some [] named = (λ h. cc, λ names. absurd (names.some refl))
-    some (w ∷ ws) named = (λ h. record { some = λ e. cc; named = named }, λ names. search rules)
+returns c = (λ h. subst (All IsNCName) (take_all c.loop-word.word-index c.args.words.now c.loop-word-test.false) c.loop-word.invariant, λ h. refl)

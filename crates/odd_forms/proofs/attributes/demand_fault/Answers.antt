@@ -1,17 +1,25 @@
-use Rattle.std.proofs.Common.{◌≡◌, List, ℕ, refl, sym, ◌∙◌}
-use Rattle.std.specs.Borrow.{Bor}
-use Rattle.odd_forms.specs.declared.form.Demand.TheVariants as demands
-use Rattle.odd_forms.specs.declared.form.Demand.{Demand}
-use Rattle.odd_forms.proofs.Forms.{order_least}
+use Rattle.std.proofs.Common.{sym, ◌∙◌}
+use Rattle.std.proofs.lemmas.Bool.{both_ways}
+use Rattle.odd_forms.proofs.Forms.{both_least, order_least}
 use Rattle.odd_forms.proofs.attributes.demand_fault.Goals as goal
-
--- each demand is of one shape
-in_order : (d : Demand) → (least : Bor (List ℕ)) × (most : Bor (List ℕ)) × (d ≡ demands.InOrder least most)
-in_order (demands.InOrder least most) = (least, most, refl)
+use Rattle.odd_forms.proofs.attributes.demand_fault.Goals.{then-has_word, else-has_word}
 
 pub returns-in-Some-Some : goal.returns-in-Some-Some
 returns-in-Some-Some c =
     let k = c.in-Some-Some in
-    let d = in_order c.args.demand.now in
-    rw (d.2, c.fault_where.ensures)
-    (order_least c.args.tree.now d.0.now d.1.now k.m k.n (sym (rw d.2 at c.number.ensures) ∙ k.is-0) (sym (rw d.2 at c.number-2.ensures) ∙ k.is-1))
+    let d = c.in-InOrder in
+    rw (d.is, c.fault_where.ensures)
+    (order_least c.args.tree.now d.least.now d.most.now k.m k.n (sym c.number.ensures ∙ k.is-0) (sym c.number-in-InOrder.ensures ∙ k.is-1))
+
+pub returns-after-has_word : goal.returns-after-has_word
+returns-after-has_word c =
+    let d = c.in-NotBoth in
+    let one = c.has_word in
+    let least = both_least c.args.tree.now d.one.now d.other.now in
+    rw (d.is, c.fault_where-in-NotBoth.ensures)
+    (elim c.if-has_word.branch [
+      | then-has_word w ↦
+          let other = w.has_word-then-has_word in
+          least _ (λ h. (one.ensures.0 w.if-has_word.true, other.ensures.0 (sym w.fault_where-is ∙ h)), λ h. w.fault_where-is ∙ other.ensures.1 h.1)
+      | else-has_word w ↦ least _ (λ h. cc, λ h. absurd (both_ways one.result w.if-has_word.false (one.ensures.1 h.0)))
+    ])

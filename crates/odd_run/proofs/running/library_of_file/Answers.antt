@@ -1,7 +1,7 @@
 use Rattle.std.proofs.Common.{ap, subst, Err, inr}
 use Rattle.odd_reader.specs.Spelled.{DepthPlace, GivesTree, IsNotXml}
-use Rattle.odd_run.specs.Reply.{not_xml, too_deep, not_yet, offends}
-use Rattle.odd_run.proofs.Formed.{library_formed}
+use Rattle.odd_run.specs.Reply.{not_xml, too_deep, not_yet, of_form, offends}
+use Rattle.odd_run.proofs.Alone.{formed_given, items_refused, library_given}
 use Rattle.odd_run.proofs.running.library_of_file.Goals as goal
 
 pub returns-in-Err-NotXml-clause-err : goal.returns-in-Err-NotXml-clause-err
@@ -24,8 +24,24 @@ returns-in-Err-Offence-clause-err c =
     let t = c.in-Ok.tree in
     let o = c.in-Err-Offence.offence in
     rw c.in-Err-Offence.field-0-is (inr (offends t (subst (λ b. GivesTree b t) c.as_slice.ensures c.in-Ok.ensures.ok)
-    (c.in-Err-Offence.ensures.offence o _ _ c.in-Ok.ensures.formed (ap Err c.in-Err-Offence.field-0-is))))
+    (of_form (c.in-Err-Offence.ensures.offence o _ _ c.in-Ok.ensures.formed (ap Err c.in-Err-Offence.field-0-is)))))
 
-pub returns-in-Ok-library_of-clause-formed : goal.returns-in-Ok-library_of-clause-formed
-returns-in-Ok-library_of-clause-formed c =
-    library_formed _ _ c.in-Ok.tree c.in-Ok-read_odd.doc c.in-Ok-library_of.library c.in-Ok.ensures.formed (c.in-Ok-read_odd.ensures.ok _ _ c.in-Ok.ensures.formed) c.in-Ok-library_of.ensures
+pub returns-clause-ok : goal.returns-clause-ok
+returns-clause-ok c =
+    let t = c.in-Ok.tree in
+    let d = c.in-Ok-read_odd.ensures.ok _ _ c.in-Ok.ensures.formed in
+    library_given _ t c.in-Ok-read_odd.doc (subst (λ b. GivesTree b t) c.as_slice.ensures c.in-Ok.ensures.ok) d c.library_of_doc.result c.library_of_doc.ensures.ok
+    c.library_of_doc.ensures.sound
+
+pub returns-clause-formed : goal.returns-clause-formed
+returns-clause-formed c =
+    let t = c.in-Ok.tree in
+    let d = c.in-Ok-read_odd.ensures.ok _ _ c.in-Ok.ensures.formed in
+    formed_given _ t c.in-Ok-read_odd.doc (subst (λ b. GivesTree b t) c.as_slice.ensures c.in-Ok.ensures.ok) d _ _ c.library_of_doc.result c.in-Ok.ensures.formed
+    c.library_of_doc.ensures.ok
+
+pub returns-clause-err : goal.returns-clause-err
+returns-clause-err c =
+    let t = c.in-Ok.tree in
+    let d = c.in-Ok-read_odd.ensures.ok _ _ c.in-Ok.ensures.formed in
+    items_refused _ t c.in-Ok-read_odd.doc (subst (λ b. GivesTree b t) c.as_slice.ensures c.in-Ok.ensures.ok) d c.library_of_doc.result c.library_of_doc.ensures.err

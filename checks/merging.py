@@ -1,0 +1,308 @@
+#!/usr/bin/env python3
+"""Works out what chains of docs give, apart from odd.
+
+    checks/merging.py [FILE..]
+
+Prints the case crates/odd_cases/data/cases/merging/random: chains made from a fixed seed, with the library after each and what
+its last doc chooses, or the first offence, as docs/merging.md says. With FILES, which are cases of docs, prints each answer that
+says otherwise, and ends with 1 where there is one.
+"""
+
+import collections
+import pathlib
+import random
+import re
+import sys
+
+SEED = 20261128
+COUNT = 300
+TEI = "http://www.tei-c.org/ns/1.0"
+KINDS = ["element", "class", "macro", "datatype"]
+IDENTS, MODULES = "abcdef", "mno"
+NAMESPACES, CONTENTS = ["", "urn:x", "urn:y", TEI], ["empty", "text", "a", "b"]
+MODES = ["add", "delete", "change", "replace"]
+
+# A key is a kind and an ident. A library is a dictionary from keys to components. An item is the list of its words.
+Component = collections.namedtuple("Component", "module ns content")
+Doc = collections.namedtuple("Doc", "ident start items")
+BY_ITSELF = Component("", TEI, "empty")
+
+
+class Offence(Exception):
+    """The first offence of a chain: its file, its place and its rule."""
+
+
+# What docs/merging.md says.
+
+
+def by_module(library):
+    """The keys of a library by their modules."""
+    modules = collections.defaultdict(set)
+    for key, part in library.items():
+        modules[part.module].add(key)
+    return modules
+
+
+def elements(words):
+    """The keys of the elements of these idents."""
+    return {("element", ident) for ident in words}
+
+
+def named(keys, pick):
+    """Those of a module's keys that a reference to it chooses. What is no element comes in either case."""
+    match pick:
+        case ["include", *words]:
+            return keys & elements(words) | {key for key in keys if key[0] != "element"}
+        case ["except", *words]:
+            return keys - elements(words)
+    return keys
+
+
+def chosen(library, doc):
+    """The keys of the components that a doc chooses."""
+    modules, keys = by_module(library), set()
+    for item in doc.items:
+        match item:
+            case ["module", module, *pick]:
+                keys |= named(modules[module], pick)
+            case ["take", *key]:
+                keys |= {tuple(key)} & library.keys()
+    return keys
+
+
+def declaration(item):
+    """The mode, the key and the fields of a declaration."""
+    if item[0] not in MODES:
+        return None
+    mode, kind, ident, *fields = item
+    return mode, (kind, ident), dict(field.split("=") for field in fields)
+
+
+def broken_by_reference(library, modules, item):
+    """The rules that an item breaks as a reference."""
+    match item:
+        case ["take", *key] if tuple(key) not in library:
+            yield 6
+        case ["module", module, *pick]:
+            if not modules[module]:
+                yield 7
+            if not elements(pick[1:]) <= modules[module]:
+                yield 8
+
+
+def broken_by_declaration(taken, item):
+    """The rules that an item breaks as a declaration."""
+    if found := declaration(item):
+        mode, key, _ = found
+        if (key in taken) == (mode == "add"):
+            yield 5 if mode == "add" else 6
+
+
+def offences(library, doc, of_references_alone=False):
+    """The places and the rules of the offences of a doc."""
+    modules, taken = by_module(library), chosen(library, doc)
+    for place, item in enumerate(doc.items, 1):
+        yield from ((place, rule) for rule in broken_by_reference(library, modules, item))
+        if not of_references_alone:
+            yield from ((place, rule) for rule in broken_by_declaration(taken, item))
+
+
+def held_after(library, doc):
+    """The library after a doc that breaks no rule."""
+    made = {key: library[key] for key in chosen(library, doc)}
+    for mode, key, fields in filter(None, map(declaration, doc.items)):
+        if mode == "delete":
+            del made[key]
+        elif mode == "change":
+            made[key] = made[key]._replace(**{name: value for name, value in fields.items() if name != "module"})
+        else:
+            made[key] = BY_ITSELF._replace(**fields)
+    return made
+
+
+def library_after(docs):
+    """The library after docs, or their first offence."""
+    library = {}
+    for file, doc in enumerate(docs, 1):
+        if found := list(offences(library, doc)):
+            raise Offence(file, *min(found))
+        library = held_after(library, doc)
+    return library
+
+
+# What is told of it.
+
+
+def key_order(key):
+    kind, ident = key
+    return KINDS.index(kind), ident.encode()
+
+
+def told_component(key, component):
+    """A key, and the fields in which a component differs from what is declared without any."""
+    fields = [
+        f"{name}={value} 1..1" if name == "content" and value != "text" else f"{name}={value}"
+        for name, value, without in zip(Component._fields, component, BY_ITSELF)
+        if value != without
+    ]
+    return " ".join([*key, *fields])
+
+
+def told_library(docs):
+    """The lines of the library after docs."""
+    library = library_after(docs)
+    ident, start = docs[-1][:2] if docs else ("bare", ["TEI"])
+    return [" ".join([ident, *start]), *(told_component(key, library[key]) for key in sorted(library, key=key_order))]
+
+
+def told_chosen(docs):
+    """The lines of what the last of the docs chooses: where there is none, nothing."""
+    if not docs:
+        return []
+    *before, last = docs
+    library = library_after(before)
+    if found := list(offences(library, last, of_references_alone=True)):
+        raise Offence(len(docs), *min(found))
+    return [" ".join(key) for key in sorted(chosen(library, last), key=key_order)]
+
+
+def answer(told, docs):
+    """The lines that a question is answered by."""
+    try:
+        return told(docs)
+    except Offence as offence:
+        return ["file {} at {} rule {}".format(*offence.args)]
+
+
+# Random chains.
+
+
+def random_pick(rng, library, module):
+    """What of a module a reference names: mostly elements of the module."""
+    idents = sorted(ident for _, ident in by_module(library)[module])
+    word = rng.choice(["", "include", "except"])
+    wrong = rng.choices(IDENTS, k=1 if rng.random() < 0.04 or not idents else 0)
+    return [word, *rng.choices(idents, k=rng.randrange(1, 4) if idents else 0), *wrong] if word else []
+
+
+def random_reference(rng, library):
+    """A reference, mostly to what is held."""
+    if not library or rng.random() < 0.04:
+        module = rng.choice(MODULES)
+        of_module = ["module", module, *random_pick(rng, library, module)]
+        return rng.choice([of_module, ["take", rng.choice(KINDS), rng.choice(IDENTS)]])
+    key = rng.choice(sorted(library))
+    module = library[key].module
+    if module and rng.random() < 0.75:
+        return ["module", module, *random_pick(rng, library, module)]
+    return ["take", *key]
+
+
+def random_declaration(rng, taken, ident):
+    """A declaration of an element, mostly in a mode that it may have."""
+    is_taken = ("element", ident) in taken
+    is_wrong = rng.random() < (0.1 if is_taken else 0.04 if taken else 0.005)
+    mode = "add" if is_taken == is_wrong else rng.choice(["delete", "change", "change", "replace"])
+    fields = {"module": rng.choice(MODULES), "ns": rng.choice(NAMESPACES), "content": rng.choice(CONTENTS)}
+    given = [f"{name}={value}" for name, value in fields.items() if rng.random() < (0.8 if name == "module" else 0.4)]
+    return [mode, "element", ident, *given]
+
+
+def random_doc(rng, library):
+    """A doc over a library, its items in any order."""
+    ident, start = rng.choice("stu"), sorted(rng.sample(IDENTS, rng.randrange(1, 3)))
+    count = rng.randrange(1, 4) if library else rng.random() < 0.05
+    doc = Doc(ident, start, [random_reference(rng, library) for _ in range(count)])
+    taken = chosen(library, doc)
+    declared = rng.sample(IDENTS, rng.randrange(4) if library else rng.randrange(3, 7))
+    doc.items.extend(random_declaration(rng, taken, ident) for ident in declared)
+    rng.shuffle(doc.items)
+    return doc
+
+
+def random_chain(rng):
+    """Docs of a chain. What is over a doc that offends is over the library before it."""
+    library, docs = {}, []
+    for _ in range(rng.randrange(2, 5)):
+        docs.append(random_doc(rng, library))
+        if not list(offences(library, docs[-1])):
+            library = held_after(library, docs[-1])
+    return docs
+
+
+def random_case():
+    """The case of random chains."""
+    rng, lines = random.Random(SEED), []
+    for _ in range(COUNT):
+        docs = random_chain(rng)
+        lines += ["=== docs", *(line for doc in docs for line in written(doc))]
+        for head, told in QUESTIONS.items():
+            lines += [f"=== {head}", *answer(told, docs)]
+    return "\n".join([*lines, ""])
+
+
+def written(doc):
+    """The lines of a doc."""
+    return [" ".join(words) for words in (["doc", doc.ident, *doc.start], *doc.items)]
+
+
+# Cases.
+
+QUESTIONS = {"library": told_library, "chosen": told_chosen}
+
+
+def sections(case):
+    """The heads of a case with the lines below them. What goes on with a text is put to it."""
+    found = []
+    for head, body in re.findall(r"^=== (.*)\n((?:(?!=== ).*\n)*)", case, re.M):
+        kind, *words = head.split()
+        text = body[:-1] if words and words[-1] == "bare" else body
+        if kind not in ("each", "then"):
+            found.append([kind, text])
+        elif kind == "then":
+            found[-1][1] += text
+        else:
+            first, last = int(words[0]), int(words[1])
+            step = 1 if first <= last else -1
+            found[-1][1] += "".join(text.replace("#", str(number)) for number in range(first, last + step, step))
+    return [(kind, text.splitlines()) for kind, text in found]
+
+
+def read_docs(lines):
+    """The docs of their lines."""
+    docs = []
+    for words in map(str.split, lines):
+        if words[0] == "doc":
+            docs.append(Doc(words[1], words[2:], []))
+        else:
+            docs[-1].items.append(words)
+    return docs
+
+
+def differences(case):
+    """What the answers of a case say otherwise than is worked out."""
+    docs, number = None, 0
+    for kind, lines in sections(case):
+        if kind == "docs":
+            docs, number = read_docs(lines), number + 1
+        elif lines != (worked_out := answer(QUESTIONS[kind], docs)):
+            yield f"chain {number} {kind}, {shown(lines, worked_out)}, and not {shown(worked_out, lines)}"
+
+
+def shown(lines, others):
+    """The number of the first line where others differ, and the line."""
+    at = next((at for at, (line, other) in enumerate(zip(lines, others)) if line != other), min(len(lines), len(others)))
+    return f"line {at + 1}: {lines[at] if at < len(lines) else 'none'}"
+
+
+def main(files):
+    if not files:
+        sys.stdout.write(random_case())
+    found = [f"{file}: {told}" for file in files for told in differences(pathlib.Path(file).read_text())]
+    for told in found:
+        print(told)
+    return 1 if found else 0
+
+
+if __name__ == "__main__":
+    sys.exit(main(sys.argv[1:]))

@@ -1,0 +1,170 @@
+-- A tree declares one doc.
+use Rattle.std.proofs.Common.{◌≡◌, ◌≤◌, ◌+◌, Bool, true, false, cond, None, List, [], ◌∷◌, Option, Some, ⊎_elim, refl, sym, ap, subst, ◌∙◌, arith, suc}
+use Rattle.std.specs.Prelude.{count_by}
+use Rattle.std.proofs.lemmas.Bool.{cases_Bool}
+use Rattle.std.proofs.lemmas.Cmp.{nat_cmp_total, on_total}
+use Rattle.std.proofs.lemmas.List.Sums.{sum_by-cons}
+use Rattle.std.proofs.lemmas.Option.{same_Some}
+use Rattle.std.specs.Cmp.{nat_cmp_is}
+use Rattle.std.specs.Option.{option_map}
+use Rattle.std.specs.Ordering.{nat_cmp}
+use Rattle.std.specs.declared.cmp.Ordering.{Ordering}
+use Rattle.std.specs.declared.cmp.Ordering.TheVariants.{Less}
+use Rattle.odd_base.specs.declared.name.Bind.{Bind}
+use Rattle.odd_reader.specs.Elements.{StandsIn, children_of, within}
+use Rattle.odd_reader.specs.declared.tree.Tree.{Tree, out-Tree}
+use Rattle.odd_reader.proofs.InList.{first_or_later, nothing_stands, stands_first}
+use Rattle.odd_forms.specs.Faults.{FormFault}
+use Rattle.odd_forms.specs.Names.{is_one_of}
+use Rattle.odd_forms.specs.Sorted.{IsSet}
+use Rattle.odd_forms.specs.Table.{form_at}
+use Rattle.odd_forms.specs.declared.element.Element.{Element}
+use Rattle.odd_forms.specs.declared.element.Element.TheVariants as element
+use Rattle.odd_forms.proofs.OneSet.{one_set}
+use Rattle.odd_content.proofs.OneContent.{one_content, one_texts}
+use Rattle.odd_content.specs.Giving.{IsContentOf}
+use Rattle.odd_content.specs.declared.content.Content.{Content}
+use Rattle.odd_decls.specs.declared.odd.Entry.{Entry}
+use Rattle.odd_decls.specs.declared.odd.Entry.TheVariants as entry
+use Rattle.odd_decls.specs.declared.odd.OddDoc.{OddDoc}
+use Rattle.odd_decls.specs.declared.spec.Spec.{Spec}
+use Rattle.odd_decls.specs.Declares.{AreEntriesOf, Declares, GivesContent, IsDocOf, IsEntryOf, IsReadAs, PlacesRise, kind_taken, pick_given}
+use Rattle.odd_decls.specs.Odd.{element_key, place_of}
+use Rattle.odd_decls.specs.Offences.{IsContentChild, IsItem, ItemFault, ItemOffends, Offends}
+use Rattle.odd_decls.specs.Reading.{reference_of, taken_of}
+use Rattle.odd_decls.specs.Search.{Found}
+use Rattle.odd_decls.proofs.ItemElements.{reference_taken}
+use Rattle.odd_decls.proofs.Searched.{one_search}
+
+-- an item more that passes a test
+one_more : {A : Type 0} (test : A → Bool) (xs : List A) (y : A) → test y ≡ true → count_by test (y ∷ xs) ≡ suc (count_by test xs)
+one_more test xs y h = sum_by-cons (λ z. cond (test z) 1 0) y xs ∙ ap (λ b. cond b 1 0 + count_by test xs) h ∙ omega arith
+
+-- an item more counts no fewer
+not_fewer : {A : Type 0} (test : A → Bool) (xs : List A) (y : A) → count_by test xs ≤ count_by test (y ∷ xs)
+not_fewer test xs y = let counts = sum_by-cons (λ z. cond (test z) 1 0) y xs in omega arith
+
+-- what stands in a list and passes is counted
+some_pass : {A : Type 0} (test : A → Bool) (xs : List A) (x : A) → StandsIn xs x → test x ≡ true → 1 ≤ count_by test xs
+some_pass test [] x s h = absurd (nothing_stands x s)
+some_pass test (y ∷ xs) x s h =
+    ⊎_elim (λ e. omega (arith, one_more test xs y (ap test (sym e) ∙ h))) (λ t. omega (arith, some_pass test xs x t h, not_fewer test xs y)) (first_or_later y x xs s)
+
+-- where no two items pass, two that do are one
+one_passes : {A : Type 0} (test : A → Bool) (xs : List A) (x y : A) → (2 ≤ count_by test xs → ⊥) → StandsIn xs x → test x ≡ true → StandsIn xs y → test y ≡ true → x ≡ y
+one_passes test [] x y few s h t k = absurd (nothing_stands x s)
+one_passes {A} test (z ∷ xs) x y few s h t k =
+    ⊎_elim (λ e. ⊎_elim (λ f. e ∙ sym f) (λ u. absurd (two x y e u h k)) (first_or_later z y xs t))
+    (λ v. ⊎_elim (λ f. absurd (two y x f v k h)) (λ u. one_passes test xs x y (λ both. few (omega (arith, both, not_fewer test xs z))) v h u k) (first_or_later z y xs t))
+    (first_or_later z x xs s)
+  where
+    two : (first later : A) → first ≡ z → StandsIn xs later → test first ≡ true → test later ≡ true → ⊥
+    two first later e u p q = few (omega (arith, one_more test xs z (ap test (sym e) ∙ p), some_pass test xs later u q))
+
+-- an `elementSpec` has two children that are a `content`
+abbrev HasTwo : Tree → Type 0
+HasTwo item = 2 ≤ count_by (is_one_of ((form_at element.Content).name ∷ [])) (children_of item)
+
+-- a `content` child has that name
+is_content : (child : Tree) → IsContentChild child → is_one_of ((form_at element.Content).name ∷ []) child ≡ true
+is_content child h =
+    ⊎_elim (λ e. e) (λ e. let none : cond false (Some element.Content) None ≡ Some element.Content = subst (λ b. cond b (Some element.Content) None ≡ Some element.Content) e h in cc)
+    (cases_Bool (is_one_of ((form_at element.Content).name ∷ []) child))
+
+-- an item without two gives one content
+one_given : (around : List Bind) (item : Tree) (o p : Option Content) → (HasTwo item → ⊥) → GivesContent around item o → GivesContent around item p → o ≡ p
+one_given around item o p few (GivesContent.none h) (GivesContent.none k) = refl
+one_given around item o p few (GivesContent.none h) (GivesContent.some child s is gives) = absurd (h child s is)
+one_given around item o p few (GivesContent.some child s is gives) (GivesContent.none h) = absurd (h child s is)
+one_given around item o p few (GivesContent.some {content = c} child s is gives) (GivesContent.some {content = d} other t also told) =
+    let same : child ≡ other = one_passes (is_one_of ((form_at element.Content).name ∷ [])) (children_of item) child other few s (is_content child is) t (is_content other also) in
+    ap Some (one_content (within around item) other c d (subst (λ t. IsContentOf (within around item) t c) same gives) told)
+
+-- and is read as one spec
+one_spec : (first : Found) (item : Tree) (a b : Spec) → (HasTwo item → ⊥) → IsReadAs first item a → IsReadAs first item b → a ≡ b
+one_spec first item a b few p q =
+    let keys : a.key ≡ b.key = p.key ∙ ap element_key (same_Some _ _ (sym p.is_spec.1 ∙ q.is_spec.1)) ∙ sym q.key in
+    let modes : a.mode ≡ b.mode = p.of_mode ∙ sym q.of_mode in
+    let modules : a.«module» ≡ b.«module» = p.of_module ∙ sym q.of_module in
+    let namespaces : a.ns ≡ b.ns = p.ns ∙ sym q.ns in
+    let contents : a.content ≡ b.content = one_given _ item _ _ few p.content q.content in
+    λ n. record { key = keys n; mode = modes n; «module» = modules n; ns = namespaces n; content = contents n }
+
+-- an item refers to the entry that it is read as, or is an `elementSpec` that declares it
+data IsMadeOf (first : Found) (item : Tree) (k : Element) : Entry → Type 0 where
+  reference : {e : Entry} → (k ≡ element.ElementSpec → ⊥) → reference_of k item ≡ Some e → IsMadeOf first item k e
+  declaration : {spec : Spec} → k ≡ element.ElementSpec → IsReadAs first item spec → IsMadeOf first item k (entry.Spec (out-Tree item).at spec)
+
+made_of : (first : Found) (item : Tree) (e : Entry) → IsEntryOf first item e → (k : Element) × IsItem k item × IsMadeOf first item k e
+made_of first item e (IsEntryOf.«module» is keyed) = (element.ModuleRef, is, IsMadeOf.reference (λ same. cc) (ap (option_map (λ word. entry.Module (out-Tree item).at word (pick_given item))) keyed))
+made_of first item e (IsEntryOf.take {of_kind = of_kind} {ident = ident} k is takes keyed) =
+    let other : (l : Element) → kind_taken l ≡ None → k ≡ l → ⊥ = λ l none same. (let no : Some of_kind ≡ None = sym takes ∙ ap kind_taken same ∙ none in cc) in (
+      k,
+      is,
+      IsMadeOf.reference (other element.ElementSpec refl)
+          (reference_taken item k (other element.ModuleRef refl) ∙ ap (λ o. taken_of o item) takes ∙ ap (option_map (λ word. entry.Take (out-Tree item).at (record { kind = of_kind; ident = word }))) keyed),
+    )
+made_of first item e (IsEntryOf.spec p) = (element.ElementSpec, p.is_spec.0, IsMadeOf.declaration refl p)
+
+-- so an item is read as one entry
+one_made : (first : Found) (item : Tree) (k : Element) (e f : Entry) → (k ≡ element.ElementSpec → HasTwo item → ⊥) → IsMadeOf first item k e → IsMadeOf first item k f → e ≡ f
+one_made first item k e f few (IsMadeOf.reference n p) (IsMadeOf.reference m q) = same_Some _ _ (sym p ∙ q)
+one_made first item k e f few (IsMadeOf.reference n p) (IsMadeOf.declaration is q) = absurd (n is)
+one_made first item k e f few (IsMadeOf.declaration is p) (IsMadeOf.reference n q) = absurd (n is)
+one_made first item k e f few (IsMadeOf.declaration {spec = a} is p) (IsMadeOf.declaration {spec = b} also q) = ap (λ s. entry.Spec (out-Tree item).at s) (one_spec first item a b (few is) p q)
+
+one_entry : (first : Found) (item : Tree) (e f : Entry) → (IsItem element.ElementSpec item → HasTwo item → ⊥) → IsEntryOf first item e → IsEntryOf first item f → e ≡ f
+one_entry first item e f few p q =
+    let m = made_of first item e p in
+    let n = made_of first item f q in
+    let same : n.0 ≡ m.0 = same_Some _ _ (sym n.1 ∙ m.1) in
+    one_made first item m.0 e f (λ is. few (subst (λ k. IsItem k item) is m.1)) m.2 (subst (λ k. IsMadeOf first item k f) same n.2)
+
+-- no item of the `schemaSpec` has two
+abbrev NoneHasTwo : Found → Type 0
+NoneHasTwo first = (item : Tree) → StandsIn (children_of first.schema) item → IsItem element.ElementSpec item → HasTwo item → ⊥
+
+-- an item with two breaks rule 4
+none_has_two : (t : Tree) (doc : OddDoc) (declares : Declares t doc) → NoneHasTwo declares.first
+none_has_two t doc declares item s is two =
+    declares.unoffended (out-Tree item).at 4 (record {
+      first = declares.first;
+      others = [];
+      found = declares.found;
+      offends = Offends.items (ItemOffends.alone item s (ItemFault.form element.ElementSpec is (FormFault.twice element.Content (stands_first element.Content []) two)) refl);
+    })
+
+-- entries by their places
+abbrev by_place : Entry → Entry → Ordering
+by_place e f = nat_cmp (place_of e) (place_of f)
+
+-- an item of the `schemaSpec` is read as the entry
+abbrev IsEntryIn : Found → Entry → Type 0
+IsEntryIn first e = (item : Tree) × StandsIn (children_of first.schema) item × IsEntryOf first item e
+
+-- the entries are the set of those
+entries_set : (first : Found) (entries : List Entry) → NoneHasTwo first → AreEntriesOf first (children_of first.schema) entries → PlacesRise entries → IsSet by_place (IsEntryIn first) entries
+entries_set first entries none are rise = record {
+  rising = λ before after e next is. sym (nat_cmp_is (place_of e) (place_of next) Less (rise before after e next is));
+  none_else = are.none_else;
+  each = λ e h.
+      let made = made_of first h.0 e h.2 in
+      let o = are.each h.0 made.0 h.1 made.1 in
+      subst (StandsIn entries) (one_entry first h.0 o.0 e (none h.0 h.1) o.2 h.2) o.1;
+}
+
+-- a `schemaSpec` declares one doc
+one_doc_of : (first : Found) (d e : OddDoc) → NoneHasTwo first → IsDocOf first d → IsDocOf first e → d ≡ e
+one_doc_of first d e none p q =
+    let idents : d.ident ≡ e.ident = same_Some _ _ (sym p.ident ∙ q.ident) in
+    let starts : d.start ≡ e.start = one_texts _ _ _ p.start q.start in
+    let entries : d.entries ≡ e.entries =
+    one_set by_place (on_total place_of nat_cmp_total) (IsEntryIn first) _ _ (entries_set first _ none p.entries p.rising) (entries_set first _ none q.entries q.rising) in
+    λ n. record { ident = idents n; start = starts n; entries = entries n }
+
+-- a tree declares one doc
+pub one_doc : (t : Tree) (d e : OddDoc) → Declares t d → Declares t e → d ≡ e
+one_doc t d e p q =
+    let found : p.first ∷ [] ≡ q.first ∷ [] = one_search [] t _ _ p.found q.found in
+    let firsts : p.first ≡ q.first = cc in
+    one_doc_of q.first d e (none_has_two t e q) (subst (λ f. IsDocOf f d) firsts p.is_doc) q.is_doc

@@ -1,0 +1,15 @@
+//! What one file of a chain does to the library before it: which components it chooses and which it changes.
+#![tactic(auto)]
+
+mod editing;
+mod faults;
+mod fronted;
+mod named;
+mod references;
+mod selecting;
+mod specs_by_key;
+mod stepping;
+
+pub use editing::edit;
+pub use selecting::select;
+pub use stepping::step;
