@@ -20,7 +20,6 @@ DOCUMENTS = 20
 # excepts, as pairs of a namespace and a local name.
 Part = collections.namedtuple("Part", "kind low high of", defaults=(1, 1, None))
 Condition = collections.namedtuple("Condition", "required namespaces names")
-EMPTY = Part("empty")
 
 # The start words, the ns of the schemaSpec, and for each ident the ns of its elementSpec and its content: a sequence of the
 # parts that stand in it, or None where there is no content. An ns that is absent is None.
@@ -35,7 +34,7 @@ NAMESPACES = [TEI, "urn:x", "http://y/", "z"]
 EXCEPTED_NAMESPACES = ["http://y/", "z", TEI, "urn:", "http://none/"]
 PREFIXES = ["p", "q", "urn", "tei.1"]
 LEAVES = {"empty": 2, "textNode": 5, "elementRef": 16, "anyElement": 5}
-BRANCHES = {"sequence": 12, "alternate": 12}
+BRANCHES = {"sequence": 8, "alternate": 8}
 BOUNDS = {
     **{(1, 1): 12, (0, 0): 1, (0, 1): 6, (0, None): 5, (1, None): 5, (2, 4): 2, (1, 2): 2, (2, None): 2},
     **{(0, 2): 1, (0, 3): 1, (1, 3): 1, (1, 4): 1, (2, 2): 1, (2, 3): 1, (3, 3): 1, (3, None): 1, (3, 5): 1},
@@ -69,7 +68,7 @@ def made_library(rng):
         elements = {ident: Spec(made_ns(rng), made_content(rng, idents)) for ident in idents}
         library = Library(start, ns, elements)
         size = min(sizes(library)[word] for word in start)
-        plain = max(weight(content_of(library, word)) for word in start) < 4
+        plain = max(weight(elements[word].content or Part("empty")) for word in start) < 4
         if (size <= GREATEST_SIZE or size == NEVER and rng.random() < 0.1) and (not plain or rng.random() < 0.1):
             return library
 
@@ -93,7 +92,7 @@ def made_content(rng, idents):
 
 def made_part(rng, idents, levels):
     """A part with at most so many levels of sequence and alternate."""
-    kind = chosen(rng, {**LEAVES, **BRANCHES} if levels else LEAVES)
+    kind = chosen(rng, {**LEAVES, **BRANCHES, **dict.fromkeys(BRANCHES, 12)} if levels else LEAVES)
     if kind in ("empty", "textNode"):
         return Part(kind)
     low, high = chosen(rng, BOUNDS)
@@ -119,15 +118,10 @@ def weight(part):
     return inside * max(1, part.high or part.low + 1)
 
 
-def content_of(library, ident):
-    """The content of a held element, as a part."""
-    return library.elements[ident].content or EMPTY
-
-
 def greatest_depth(library):
-    """How deep a document may be before it grows no further. Where a child can be taken in many ways, the time that validators
-    take is a power of the depth."""
-    heaviest = max(weight(content_of(library, ident)) for ident in library.elements)
+    """How deep a document may be before it gets no larger. Where a child can be taken in many ways, validators may take time
+    that is a power of the depth: what they hold at once is bounded so."""
+    heaviest = max(weight(spec.content or Part("empty")) for spec in library.elements.values())
     return next(depth for depth in (5, 4, 3, 2) if depth == 2 or heaviest**depth <= 20_000)
 
 
@@ -152,21 +146,16 @@ def odd_file(rng, library):
 
 def written_spec(rng, ident, spec, scope):
     """The elementSpec of an element."""
-    ns, bound = "" if spec.ns is None else f" ns={quoteattr(spec.ns)}", bound_anew(rng)
-    inside = "" if spec.content is None else written_branch(rng, "content", "", spec.content.of, {**scope, **bound})
-    return f'<elementSpec ident="{ident}"{ns}{declarations(bound)}>{inside}</elementSpec>\n'
+    ns = "" if spec.ns is None else f" ns={quoteattr(spec.ns)}"
+    inside = "" if spec.content is None else written_branch(rng, "content", "", spec.content.of, scope)
+    return f'<elementSpec ident="{ident}"{ns}>{inside}</elementSpec>\n'
 
 
 def written_branch(rng, tag, attributes, parts, scope):
-    """A content, sequence or alternate."""
-    bound = bound_anew(rng)
+    """A content, sequence or alternate, which may bind some prefixes anew."""
+    bound = {prefix: rng.choice(NAMESPACES) for prefix in PREFIXES if rng.random() < 0.05}
     inside = "".join(written_aside(rng) + written_part(rng, part, {**scope, **bound}) for part in parts)
     return f"<{tag}{declarations(bound)}{attributes}>{inside}{written_aside(rng)}</{tag}>"
-
-
-def bound_anew(rng):
-    """Prefixes that a tag binds anew, mostly none."""
-    return {prefix: rng.choice(NAMESPACES) for prefix in PREFIXES if rng.random() < 0.05}
 
 
 def written_part(rng, part, scope):
@@ -186,8 +175,8 @@ def written_bounds(rng, part):
     """The bounds of a part. A bound of 1 may be absent, and a number may begin with zeros."""
     low, high = (rng.choice(["", "", "", "0"]) + str(bound) for bound in (part.low, part.high))
     minimum = "" if part.low == 1 and rng.random() < 0.7 else f' minOccurs="{low}"'
-    high = "unbounded" if part.high is None else high
-    return minimum + ("" if part.high == 1 and rng.random() < 0.7 else f' maxOccurs="{high}"')
+    maximum = "" if part.high == 1 and rng.random() < 0.7 else f' maxOccurs="{high if part.high is not None else "unbounded"}"'
+    return minimum + maximum
 
 
 def written_condition(rng, condition, scope):
@@ -245,10 +234,42 @@ class Verdicts:
 
     def is_valid_for_held(self, element, ident):
         """The same, worked out."""
+        content = self.library.elements[ident].content or Part("empty")
         if split_name(element.tag) != (namespace(self.library, ident), ident) or element.attrib:
             return False
-        content = content_of(self.library, ident)
-        return any(len(items) in Ends(self, items).of(content, 0) for items in significant(element))
+        return any(len(items) in self.ends(content, items, 0) for items in significant(element))
+
+    def ends(self, part, items, begin):
+        """Where the items that the part admits, as often as its bounds say, may end if they begin there."""
+        reached, count = {begin}, 0
+        found = set(reached) if part.low == 0 else set()
+        while reached and count != part.high:
+            reached, count = {end for at in reached for end in self.ends_once(part, items, at)}, count + 1
+            if count >= part.low:
+                if reached <= found:
+                    break
+                found |= reached
+        return found
+
+    def ends_once(self, part, items, begin):
+        """The same for one time."""
+        if part.kind == "empty":
+            return {begin}
+        if part.kind == "sequence":
+            return self.ends_in_order(part.of, items, begin)
+        if part.kind == "alternate":
+            return {end for each in part.of for end in self.ends(each, items, begin)}
+        if part.kind == "textNode":
+            end = next((at for at in range(begin, len(items)) if not isinstance(items[at], str)), len(items))
+            return set(range(begin, end + 1))
+        return {begin + 1} if begin < len(items) and self.counts(items[begin], part) else set()
+
+    def ends_in_order(self, parts, items, begin):
+        """Where the items that the parts admit in their order may end."""
+        reached = {begin}
+        for part in parts:
+            reached = {end for at in reached for end in self.ends(part, items, at)}
+        return reached
 
     def counts(self, item, part):
         """Whether the item is an element that an elementRef or an anyElement admits."""
@@ -257,65 +278,6 @@ class Verdicts:
         if part.kind == "elementRef":
             return self.is_valid(item, part.of)
         return all(is_met(part.of, *split_name(element.tag)) for element in item.iter())
-
-
-class Ends:
-    """Where pieces of a list of items may end that a part admits, by where they begin. What is worked out is kept."""
-
-    def __init__(self, verdicts, items):
-        self.verdicts, self.items = verdicts, items
-        self.known, self.known_once = {}, {}
-
-    def of(self, part, begin):
-        """Where a piece may end that the part admits, as often as its bounds say."""
-        question = id(part), begin
-        if question not in self.known:
-            self.known[question] = self.of_bounds(part, begin)
-        return self.known[question]
-
-    def of_bounds(self, part, begin):
-        """The same, worked out."""
-        reached, count = {begin}, 0
-        found = set(reached) if part.low == 0 else set()
-        while reached and count != part.high:
-            reached, count = {end for at in reached for end in self.once(part, at)}, count + 1
-            if count >= part.low:
-                if reached <= found:
-                    break
-                found |= reached
-        return found
-
-    def once(self, part, begin):
-        """Where a piece may end that the part admits once."""
-        question = id(part), begin
-        if question not in self.known_once:
-            self.known_once[question] = self.of_kind(part, begin)
-        return self.known_once[question]
-
-    def of_kind(self, part, begin):
-        """The same, worked out."""
-        if part.kind == "empty":
-            return {begin}
-        if part.kind == "sequence":
-            return self.in_order(part.of, begin)
-        if part.kind == "alternate":
-            return {end for each in part.of for end in self.of(each, begin)}
-        if part.kind == "textNode":
-            return {*range(begin, self.texts_end(begin) + 1)}
-        return {begin + 1} if begin < len(self.items) and self.verdicts.counts(self.items[begin], part) else set()
-
-    def texts_end(self, begin):
-        """Where the texts end that stand there."""
-        while begin < len(self.items) and isinstance(self.items[begin], str):
-            begin += 1
-        return begin
-
-    def in_order(self, parts, begin):
-        """Where a piece may end that the parts admit in their order."""
-        reached = {begin}
-        for part in parts:
-            reached = {end for at in reached for end in self.of(part, at)}
-        return reached
 
 
 def is_met(condition, ns, local):
@@ -348,6 +310,13 @@ class Node:
     def __init__(self, ns, local, attributes=(), children=()):
         self.ns, self.local, self.attributes, self.children = ns, local, dict(attributes), list(children)
 
+    def nodes(self):
+        """The node and all that are inside."""
+        yield self
+        for child in self.children:
+            if isinstance(child, Node):
+                yield from child.nodes()
+
     def copied(self):
         """The same once more."""
         children = [child.copied() if isinstance(child, Node) else child for child in self.children]
@@ -359,7 +328,7 @@ def sizes(library):
     found, before = dict.fromkeys(library.elements, NEVER), None
     while found != before:
         before = found
-        found = {ident: 1 + least(content_of(library, ident), before) for ident in library.elements}
+        found = {ident: 1 + least(spec.content or Part("empty"), before) for ident, spec in library.elements.items()}
     return found
 
 
@@ -404,7 +373,7 @@ class Grower:
         if ident not in self.library.elements:
             return Node(TEI, ident)
         self.grown, self.depth = self.grown + 1, self.depth + 1
-        children = self.part(content_of(self.library, ident))
+        children = self.part(self.library.elements[ident].content or Part("empty"))
         self.depth -= 1
         return Node(namespace(self.library, ident), ident, (), children)
 
@@ -455,7 +424,7 @@ class Grower:
         return self.meeting(Condition([], [], []), 1)
 
 
-# Changes of a document, each at a child of a node or at a node
+# Changes of a document, each at a child of a node, or at a node
 
 
 def leave_out(_grower, parent, at):
@@ -583,8 +552,9 @@ def written_node(rng, node, scope):
     """An element, with the namespace declarations that it needs and perhaps others."""
     bound = {}
     name = written_name(rng, node.ns, node.local, scope, bound)
-    names = [written_attribute_name(rng, ns, local, scope, bound) for ns, local in node.attributes]
-    attributes = "".join(f" {name}={quoteattr(value)}" for name, value in zip(names, node.attributes.values()))
+    attributes = "".join(
+        f" {written_attribute_name(rng, ns, local, scope, bound)}={quoteattr(value)}" for (ns, local), value in node.attributes.items()
+    )
     inside = written_children(rng, node, {**scope, **bound})
     if not inside and rng.random() < 0.5:
         return f"<{name}{declarations(bound)}{attributes}/>"
@@ -619,9 +589,8 @@ def written_attribute_name(rng, ns, local, scope, bound):
 
 def written_children(rng, node, scope):
     """What stands in an element: between its children comments and, where it says nothing, white space."""
-    texts = [isinstance(child, str) for child in node.children]
-    spaced = not all(texts) or not texts and rng.random() < 0.1
-    written = [(written_text if text else written_node)(rng, child, scope) for text, child in zip(texts, node.children)]
+    written = [written_text(rng, child) if isinstance(child, str) else written_node(rng, child, scope) for child in node.children]
+    spaced = any(isinstance(child, Node) for child in node.children) or not node.children and rng.random() < 0.1
     gaps = [written_gap(rng, spaced) for _ in range(len(written) + 1)]
     return gaps[0] + "".join(child + gap for child, gap in zip(written, gaps[1:]))
 
@@ -632,7 +601,7 @@ def written_gap(rng, spaced):
     return spaces[0] + (rng.choice(ASIDES) if rng.random() < 0.06 else "") + spaces[1]
 
 
-def written_text(rng, text, _scope):
+def written_text(rng, text):
     """A text, in two pieces with perhaps a comment between them."""
     at = rng.randint(0, len(text))
     return written_piece(rng, text[:at]) + written_gap(rng, False) + written_piece(rng, text[at:])

@@ -43,7 +43,7 @@ fn front(text: &str) -> u64
     u64::from_be_bytes(front)
 }
 
-/// The keys in rising order, each once.
+/// The keys, each once, in an order in which those of one kind rise.
 pub fn in_order(alloc: Global, keys: &Keys) -> Result<Keys, NoMemory>
     ensures { IfOk result (λ made. (key : AKey) → StandsIn made key ↔ StandsIn keys.now key) }
 {
