@@ -11,11 +11,13 @@ writes files into FOLDER (a new one under /tmp where none is given):
 - 333,000 elementSpec and nothing else, with their idents rising, falling and shuffled;
 - 10,000 elementSpec with a content of 30 parts each, in a sequence or an alternate, with bounds of all forms;
 - one elementSpec with a content of 100,000 parts, with the same bounds;
+- a chain of two files: a source of 2,000 elements in 40 modules, each with prose and a content of 8 parts, and a
+  customisation that takes half of each module and changes 100 elements; and a chain of twice as many;
 - a root with 200,000 attributes.
 
 The two files with contents are also made at half their size, for the growth.
 
-Then it runs `PROGRAM compile FILE` and `xmllint --noout FILE` in turn, five times each, and prints the least processor time
+Then it runs `PROGRAM compile FILE..` and `xmllint --noout FILE..` in turn, five times each, and prints the least processor time
 (user and system) in seconds, the greatest memory in MB, how many times the file that is, and how many times xmllint's time
 and memory the program takes; where there is a half, also how many times the time and the memory that the half takes. The
 program compiles the first, the declarations and the contents, and answers the others with code 10. The last file goes to
@@ -38,6 +40,10 @@ MODELS = 10_000
 PARTS_OF_EACH = 30
 PARTS_OF_ONE = 100_000
 ATTRIBUTES = 200_000
+CHAINED = 4_000
+IN_MODULE = 50
+CHANGED = 20
+PARTS_OF_CHAINED = 8
 RUNS = 5
 # Small bounds of all forms: a part with them has three elements of the schema on an average.
 BOUNDS = (
@@ -123,6 +129,34 @@ def parts_file(count):
     return schema_file([f'<elementSpec ident="a000000"><content>\n{parts}</content></elementSpec>\n'])
 
 
+def content_of(number, count):
+    parts = "".join(part((number * 7919 + index * 31) % count, number + index) for index in range(PARTS_OF_CHAINED))
+    return f"<content><alternate>\n{parts}</alternate></content>"
+
+
+def source_spec(number, count):
+    return (
+        f'<elementSpec ident="a{number:06}" module="m{number // IN_MODULE}">\n<gloss xml:lang="en">an element</gloss>\n'
+        f"<desc>{prose(number)}</desc>\n{content_of(number, count)}\n</elementSpec>\n"
+    )
+
+
+def module_half(module):
+    """A reference to a module that takes each second element of it."""
+    words = " ".join(f"a{number:06}" for number in range(module * IN_MODULE, (module + 1) * IN_MODULE, 2))
+    return f'<moduleRef key="m{module}" include="{words}"/>\n'
+
+
+def chain_files(count):
+    """A source of so many elements, and a customisation that takes half of them and changes one in twenty."""
+    taken = "".join(module_half(module) for module in range(count // IN_MODULE))
+    changes = "".join(
+        f'<elementSpec ident="a{number:06}" mode="change">{content_of(number + 1, count)}</elementSpec>\n'
+        for number in range(0, count, CHANGED)
+    )
+    return schema_file(source_spec(number, count) for number in range(count)), schema_file([taken, changes])
+
+
 def wide_file():
     attributes = "".join(f" a{number}='{number}'" for number in range(ATTRIBUTES))
     return f"<wide{attributes}/>\n"
@@ -142,7 +176,7 @@ def run(words):
     return usage.ru_utime + usage.ru_stime, memory / 1024, os.waitstatus_to_exitcode(status)
 
 
-# The name of a file, how it is made, and whether xmllint reads it too. A half stands before its whole.
+# The name of a file or a chain, how it is made, and whether xmllint reads it too. A half stands before its whole.
 FILES = (
     ("large.odd", odd_file, True),
     ("empty.xml", empty_file, True),
@@ -154,6 +188,8 @@ FILES = (
     ("contents.odd", lambda: models_file(MODELS), True),
     ("parts-half.odd", lambda: parts_file(PARTS_OF_ONE // 2), True),
     ("parts.odd", lambda: parts_file(PARTS_OF_ONE), True),
+    ("chain-half.odd", lambda: chain_files(CHAINED // 2), True),
+    ("chain.odd", lambda: chain_files(CHAINED), True),
     ("wide.xml", wide_file, False),
 )
 
@@ -167,6 +203,16 @@ def measured(readers):
     for each in runs:
         seconds, memory, codes = zip(*each)
         yield min(seconds), max(memory), sorted(set(codes))
+
+
+def put(folder, name, made):
+    """Writes a file, or the files of a chain, and gives the paths."""
+    texts = [made] if isinstance(made, str) else made
+    paths = [os.path.join(folder, f"{number}-{name}" if number else name) for number in range(len(texts))]
+    for path, text in zip(paths, texts):
+        with open(path, "w", encoding="utf-8", newline="") as file:
+            file.write(text)
+    return paths
 
 
 def compared(title, one, other):
@@ -184,14 +230,12 @@ def main():
     os.makedirs(folder, exist_ok=True)
     own = {}
     for name, make, beside in FILES:
-        path = os.path.join(folder, name)
-        with open(path, "w", encoding="utf-8", newline="") as file:
-            file.write(make())
-        size = os.path.getsize(path)
+        paths = put(folder, name, make())
+        size = sum(map(os.path.getsize, paths))
         print(f"{name}: {size} bytes")
-        readers = [[program, "compile", path]]
+        readers = [[program, "compile", *paths]]
         if beside:
-            readers.append(["xmllint", "--huge", "--noout", path])
+            readers.append(["xmllint", "--huge", "--noout", *paths])
         results = list(measured(readers))
         for words, (seconds, memory, codes) in zip(readers, results):
             print(f"  {os.path.basename(words[0])}: {seconds:.3f} s, {memory:.0f} MB, {memory * 1048576 / size:.1f} times the file, codes {codes}")

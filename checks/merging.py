@@ -3,9 +3,9 @@
 
     checks/merging.py [FILE..]
 
-Prints the case crates/odd_cases/data/cases/merging/random: chains made from a fixed seed, with the library after each and what
-its last doc chooses, or the first offence, as docs/merging.md says. With FILES, which are cases of docs, prints each answer that
-says otherwise, and ends with 1 where there is one.
+Prints the case crates/odd_layer_cases/data/cases/merging/random: chains made from a fixed seed, with the library after each and
+what its last doc chooses, or the first offence, as docs/merging.md says. With FILES, which are cases of docs, prints each answer
+that says otherwise, and ends with 1 where there is one.
 """
 
 import collections

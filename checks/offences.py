@@ -1,12 +1,13 @@
 #!/usr/bin/env python3
-"""Compares what the program answers to ODD files that were made at random with what the documents say of them:
-docs/odd-files.md, docs/content.md and docs/schema.md.
+"""Compares what the program answers to chains of ODD files that were made at random with what the documents say of them:
+docs/commands.md, docs/odd-files.md, docs/content.md, docs/merging.md and docs/schema.md.
 
     checks/offences.py PROGRAM [COUNT]
 
-PROGRAM is the built program odd, COUNT how many files are made (20,000 where it is not given), from a fixed seed. The
+PROGRAM is the built program odd, COUNT how many chains are made (20,000 where it is not given), from a fixed seed. The
 answer is worked out here, apart from the program: the exit code, the line on standard error, and the whole schema where
-one is written. Ends with 1 where one of them differs. A run has 2 GiB of memory at most, and no file needs as much.
+one is written; what a file does to the library before it, by checks/merging.py. Ends with 1 where one of them differs. A
+run has 2 GiB of memory at most, and no chain needs as much.
 """
 
 import collections
@@ -19,16 +20,18 @@ import sys
 import tempfile
 import xml.parsers.expat
 
+import merging
+
 TEI = "http://www.tei-c.org/ns/1.0"
 RELAX_NG = "http://relaxng.org/ns/structure/1.0"
 DATATYPES = "http://www.w3.org/2001/XMLSchema-datatypes"
 XML = "http://www.w3.org/XML/1998/namespace"
 OTHER = "urn:x"
 PASSED_OVER = set("gloss desc equiv exemplum remarks listRef model modelGrp modelSequence moduleSpec defaultVal".split())
-PENDING = set(
-    "moduleRef classRef macroRef dataRef classSpec macroSpec dataSpec classes attList altIdent datatype valList specGrp"
-    " specGrpRef".split()
-)
+PENDING = set("classSpec macroSpec dataSpec classes attList altIdent datatype valList specGrp specGrpRef".split())
+PENDING_IN_CONTENT = {"classRef", "macroRef", "dataRef"}
+# The references among the items, with the kind of what each refers to.
+TAKEN = {"elementRef": "element", "classRef": "class", "macroRef": "macro", "dataRef": "datatype"}
 LEVELS = {"sequence", "alternate"}
 BOUNDED = LEVELS | {"elementRef", "anyElement"}
 PARTS = BOUNDED | {"textNode", "empty"}
@@ -46,24 +49,30 @@ Markup = collections.namedtuple("Markup", "tag pairs parts text size")
 
 # How a file is made: names with their weights, by what is around.
 
-ANYWHERE = "elementSpec:8 content:3 empty:2 textNode:2 desc:2 exemplum:1 remarks:1 constraintSpec:1 p:1 schemaSpec:1"
+ANYWHERE = (
+    "elementSpec:8 content:3 empty:2 textNode:2 desc:2 exemplum:1 remarks:1 constraintSpec:1 p:1 schemaSpec:1 moduleRef:1"
+    " elementRef:1 classRef:1"
+)
 IN_CONTENT = (
     "elementRef:600 anyElement:180 sequence:260 alternate:260 textNode:160 empty:120 desc:100"
     " p:2 x:2 rng:2 content:2 constraintSpec:1 elementSpec:1"
 )
 IN_LEAF = "desc:20 p:1 x:1 rng:1 textNode:1 elementRef:1 sequence:1"
 CHILDREN = {
-    "schemaSpec": "elementSpec:90 desc:6 p:1 constraintSpec:1 content:1 schemaSpec:1 x:3 rng:1",
+    "schemaSpec": (
+        "elementSpec:90 desc:6 p:1 constraintSpec:1 content:1 schemaSpec:1 x:3 rng:1 moduleRef:2 elementRef:1 classRef:1"
+        " macroRef:1 dataRef:1"
+    ),
     "elementSpec": "desc:400 exemplum:100 x:100 content:12 p:4 constraintSpec:4 elementSpec:3 rng:4 empty:3",
     **dict.fromkeys(["content", *LEVELS], IN_CONTENT),
-    **dict.fromkeys(["elementRef", "anyElement", "textNode", "empty"], IN_LEAF),
+    **dict.fromkeys(["elementRef", "anyElement", "textNode", "empty", "moduleRef", "classRef", "macroRef", "dataRef"], IN_LEAF),
 }
 COUNTS = {
     "schemaSpec": [0, 2, 4, 6],
     "elementSpec": [0, 0, 0, 1, 2],
     "content": [0, 1, 1, 1, 2, 2, 3, 4],
     **dict.fromkeys(LEVELS, [0, 1, 2, 2, 3, 3, 4]),
-    **dict.fromkeys(["elementRef", "anyElement", "textNode", "empty"], [*[0] * 30, 1]),
+    **dict.fromkeys(["elementRef", "anyElement", "textNode", "empty", "moduleRef", "classRef", "macroRef", "dataRef"], [*[0] * 30, 1]),
 }
 IDENTS = ["a", "b", "TEI", "\u00e9", *(letter + end for letter in "cdefghijklmnoPQRST" for end in ("", "-1", ".2", "_\u00e9", "1", "10"))]
 BAD_NAMES = ["1", "", " a", "a b", "a:b"]
@@ -71,23 +80,28 @@ VALUES = {
     "ident": [*IDENTS, *BAD_NAMES],
     "start": ["a", "a b", "TEI", " b\n a\t", "b a b", "", " ", "a 1", "a\u00a0b"],
     "module": ["core", "tei", "", "a b"],
+    "include": ["", " ", "a", "b a", "TEI", "a 1", "a:b"],
+    "except": ["", " ", "b", "a\tb", "c", " 1"],
+    "url": ["u"],
     "ns": [OTHER, "", TEI, "a\"<>&'b", "a\tb\nc\rd"],
     "key": [*["a", "b", "TEI"] * 20, *IDENTS, *BAD_NAMES],
     "preserveOrder": ["true", "1", "false", "0", "", "True", " true"],
     "prefix": ["p"],
     "source": [""],
-    "mode": ["add"],
+    "mode": ["add", "delete", "change", "replace", "", "Add", " add"],
     "rend": ["x"],
     "minOccurs": ["2", "x"],
     "maxOccurs": ["0", "unbounded"],
 }
 # Where the front of these ends whose values are good. The others are drawn seldom.
-GOOD = {"ident": -5, "start": 5, "module": 2, "key": -5, "preserveOrder": 2}
-RARE = {"prefix": 0.002, "source": 0.002, "mode": 0.0005, "rend": 0.1}
+GOOD = {"ident": -5, "start": 5, "module": 2, "key": -5, "preserveOrder": 2, "mode": 4, "include": 5, "except": 5}
+RARE = {"prefix": 0.002, "source": 0.002, "mode": 0.002, "rend": 0.1}
 LIKELY = {
     "elementSpec": {"ident": 0.985, "module": 0.3, "ns": 0.2},
     "schemaSpec": {"ident": 0.985, "start": 0.8, "ns": 0.2},
-    "elementRef": {"key": 0.999},
+    "changedSpec": {"module": 0.2, "ns": 0.2, "mode": 0},
+    **dict.fromkeys(TAKEN, {"key": 0.999}),
+    "moduleRef": {"key": 0.95, "include": 0.3, "except": 0.2, "url": 0.05},
     "sequence": {"preserveOrder": 0.1},
     "alternate": {"preserveOrder": 0.05},
     "textNode": {"minOccurs": 0.05, "maxOccurs": 0.05},
@@ -170,6 +184,52 @@ def made_chain(rng):
     return chain + rng.choice(["", made(rng, "textNode", 0), made(rng, "desc", 0)])
 
 
+def made_pick(rng, held):
+    """`include` or `except` of a module with these elements, mostly of some of them."""
+    name = rng.choice(["", "", "include", "except"])
+    if not name:
+        return ""
+    words = [*rng.sample(held, rng.randrange(len(held) + 1)), *(["zz"] if rng.random() < 0.05 else [])]
+    return f' {name}="{" ".join(words)}"'
+
+
+def made_references(rng, library):
+    """References of a file over this library, mostly to what is held."""
+    modules = merging.by_module(library)
+    for module in sorted(modules):
+        if module and rng.random() < 0.8:
+            yield f'<moduleRef key="{module}"{made_pick(rng, sorted(ident for _, ident in modules[module]))}/>'
+    for (_, ident), part in sorted(library.items()):
+        if rng.random() < (0.1 if part.module else 0.8):
+            yield f'<elementRef key="{ident}"/>'
+    if rng.random() < 0.04:
+        yield f'<{rng.choice(sorted(TAKEN))} key="{rng.choice("abz")}"/>'
+    if rng.random() < 0.02:
+        yield f'<moduleRef key="{rng.choice(["core", "tei", "none"])}"/>'
+
+
+def made_declaration(rng, library, ident, taken):
+    """A declaration, mostly in a mode that it may have where these keys are chosen."""
+    is_right = rng.random() < 0.97
+    modes = ["change", "change", "delete", "replace"] if (("element", ident) in taken) == is_right else ["add", ""]
+    mode = rng.choice(modes)
+    named = f' mode="{mode}"' if mode else ""
+    inside = made(rng, "content", 4) if mode != "delete" and rng.random() < 0.7 else ""
+    return f'<elementSpec ident="{ident}"{named}{"".join(made_attributes(rng, "changedSpec"))}>{inside}</elementSpec>'
+
+
+def made_items(rng, library):
+    """The items of a file over the library that the files before it give."""
+    references = list(made_references(rng, library))
+    around = f'<schemaSpec xmlns="{TEI}">{"".join(references)}</schemaSpec>'
+    taken = merging.chosen(library, doc_of(read(around.encode()), []))
+    idents = sorted({ident for _, ident in library} | {"a", "b", "TEI"})
+    declared = [ident for ident in idents if rng.random() < 0.3]
+    items = references + [made_declaration(rng, library, ident, taken) for ident in declared]
+    rng.shuffle(items)
+    return "".join(items)
+
+
 def made_children(rng, local, levels):
     for _ in range(rng.choice(COUNTS.get(local, [0, 1]))):
         name = chosen(rng, CHILDREN.get(local, ANYWHERE))
@@ -201,8 +261,16 @@ def made(rng, local, levels):
     return f"<{tag}{attributes}>{made_inside(rng, local, levels)}</{tag}>"
 
 
-def made_file(rng):
-    inner = made(rng, "schemaSpec", 6)
+def made_schema(rng, library):
+    """A `schemaSpec` over the library that the files before it give."""
+    if not library:
+        return made(rng, "schemaSpec", 6)
+    extra = "".join(made_children(rng, "schemaSpec", 3)) if rng.random() < 0.1 else ""
+    return f"<schemaSpec{''.join(made_attributes(rng, 'schemaSpec'))}>{made_items(rng, library)}{extra}</schemaSpec>"
+
+
+def made_file(rng, library):
+    inner = made_schema(rng, library)
     if rng.random() < 0.02:
         end = inner.rindex("</")
         inner = inner[:end] + FULL + inner[end:]
@@ -217,13 +285,47 @@ def made_file(rng):
     return (head + bound + inner[len(head) :]).encode()
 
 
-def brought_near(rng, data):
-    """The file with so large a number in its element `full` that its schema is about as large as a schema may be."""
+def brought_near(rng, chain):
+    """The chain with so large a number in the element `full` of its last file that the schema is about as large as one may be."""
+    if TIMES.encode() not in chain[-1] or answer(chain).code:
+        return chain
+    times = int(TIMES) + MOST_NODES - grammar_of(*library_of(chain)).size + rng.choice([-1, 0, 0, 1, 1, 2])
+    return [*chain[:-1], chain[-1].replace(TIMES.encode(), f"{times:09}".encode())]
+
+
+def is_sound(data):
     root = read(data)
-    if TIMES.encode() not in data or answer(root).code:
-        return data
-    times = int(TIMES) + MOST_NODES - grammar_of(next(found(root))).size + rng.choice([-1, 0, 0, 1, 1, 2])
-    return data.replace(TIMES.encode(), f"{times:09}".encode())
+    return next(found(root), None) is not None and not holds_pending(root) and not any(form_offences(root))
+
+
+def made_sound_file(rng, library):
+    """A file without an offence of form, where one is made in a few tries."""
+    for _ in range(8):
+        data = made_file(rng, library)
+        if is_sound(data):
+            break
+    return data
+
+
+def made_files(rng):
+    """The files of a chain. What is made over a file that offends is over the library before that."""
+    library, chain = {}, []
+    is_clean = rng.random() < 0.75
+    for _ in range(rng.choice([1, 1, 2, 2, 2, 2, 3, 3, 3, 4, 5, *[16] * (rng.random() < 0.05)])):
+        chain.append((made_sound_file if is_clean or rng.random() < 0.6 else made_file)(rng, library))
+        if is_sound(chain[-1]):
+            doc = doc_of(next(found(read(chain[-1]))), [])
+            if not any(merging.offences(library, doc)):
+                library = merging.held_after(library, doc)
+    return chain
+
+
+def spoiled(rng, chain):
+    """The chain, seldom with a file that is not there, as None, or with one whose last byte is left out."""
+    for at in range(len(chain)):
+        if rng.random() < 0.01:
+            chain[at] = rng.choice([None, chain[at][:-1]])
+    return chain
 
 
 # How a file is read.
@@ -289,9 +391,7 @@ def excepted(part):
 
 
 def holds_pending(element, in_content=False):
-    if is_tei(element, *PENDING) or is_tei(element) and "mode" in element.attrs:
-        return True
-    if is_tei(element, "elementRef") and not in_content:
+    if is_tei(element, *PENDING) or in_content and is_tei(element, *PENDING_IN_CONTENT):
         return True
     return any(holds_pending(child, in_content or is_tei(element, "content")) for child in element.inside)
 
@@ -357,6 +457,8 @@ def spec_rules(spec):
         yield 1
     if "prefix" in spec.attrs or "source" in spec.attrs:
         yield 2
+    if mode_of(spec) not in merging.MODES:
+        yield 3
     yield from child_rules(spec, {"content"})
     contents = [child for child in spec.inside if is_tei(child, "content")]
     if len(contents) > 1:
@@ -365,16 +467,42 @@ def spec_rules(spec):
         yield from content_rules(content)
 
 
+def module_rules(reference):
+    """The rules that a `moduleRef` breaks."""
+    words = [words_of(reference.attrs.get(name, "")) for name in ("include", "except")]
+    if not is_name(reference.attrs.get("key")) or not all(map(is_name, sum(words, []))):
+        yield 1
+    if not reference.attrs.keys().isdisjoint(["url", "prefix", "source"]):
+        yield 2
+    if all(words):
+        yield 3
+    yield from child_rules(reference, set())
+
+
+def reference_rules(reference):
+    """The rules that a reference to one component breaks."""
+    left_out = {"source", *(["include", "except"] if reference.local == "classRef" else [])}
+    if not is_name(reference.attrs.get("key")):
+        yield 1
+    if not left_out.isdisjoint(reference.attrs):
+        yield 2
+    yield from child_rules(reference, set())
+
+
 def item_rules(item):
     if item.ns == RELAX_NG or is_tei(item, "constraintSpec"):
         yield 2
     elif is_tei(item, "elementSpec"):
         yield from spec_rules(item)
+    elif is_tei(item, "moduleRef"):
+        yield from module_rules(item)
+    elif is_tei(item, *TAKEN):
+        yield from reference_rules(item)
     elif is_tei(item) and item.local not in PASSED_OVER:
         yield 3
 
 
-def offences(root):
+def form_offences(root):
     schema, *others = found(root)
     words = start_words(schema)
     if not is_name(schema.attrs.get("ident")) or not words or not all(map(is_name, words)):
@@ -391,7 +519,68 @@ def offences(root):
             seen.add(item.attrs["ident"])
 
 
-# The schema of a file without an offence.
+# What a file declares, in the words of checks/merging.py, and the library after a chain.
+
+
+def mode_of(spec):
+    return spec.attrs.get("mode", "add")
+
+
+def fields_of(schema, spec, contents):
+    """The fields that a declaration gives. Its content is told by its place among `contents`, to which it is put."""
+    if "module" in spec.attrs:
+        yield "module=" + spec.attrs["module"]
+    if mode_of(spec) in ("add", "replace"):
+        yield "ns=" + spec.attrs.get("ns", schema.attrs.get("ns", TEI))
+    elif "ns" in spec.attrs:
+        yield "ns=" + spec.attrs["ns"]
+    for content in spec.inside:
+        if is_tei(content, "content"):
+            contents.append(content)
+            yield f"content={len(contents) - 1}"
+
+
+def words_of_item(schema, item, contents):
+    """An item, or None of what is passed over."""
+    if is_tei(item, "moduleRef"):
+        picks = [[name, *words_of(item.attrs.get(name, ""))] for name in ("include", "except")]
+        return ["module", item.attrs["key"], *next((pick for pick in picks if pick[1:]), [])]
+    if is_tei(item, *TAKEN):
+        return ["take", TAKEN[item.local], item.attrs["key"]]
+    if is_tei(item, "elementSpec"):
+        return [mode_of(item), "element", item.attrs["ident"], *fields_of(schema, item, contents)]
+    return None
+
+
+def doc_of(schema, contents):
+    """What a file declares that breaks no rule of form."""
+    items = [words_of_item(schema, item, contents) for item in schema.inside]
+    start = sorted(set(start_words(schema)), key=str.encode)
+    return merging.Doc(schema.attrs.get("ident"), start, [item for item in items if item])
+
+
+def places_of(schema):
+    """The bytes at which the items of the doc begin."""
+    return [item.at for item in schema.inside if is_tei(item, "moduleRef", "elementSpec", *TAKEN)]
+
+
+def item_offences(schema, library, doc):
+    """The places and the rules of the offences of a file's items against the library before it."""
+    places = places_of(schema)
+    for number, rule in merging.offences(library, doc):
+        yield places[number - 1], rule
+
+
+def library_of(chain):
+    """The start words and the library after a chain without an offence, and the contents that this tells by their places."""
+    library, contents, start = {}, [], ["TEI"]
+    for data in chain:
+        doc = doc_of(next(found(read(data))), contents)
+        library, start = merging.held_after(library, doc), doc.start
+    return start, library, contents
+
+
+# The schema of a library.
 
 
 def markup(tag, parts=(), text="", **pairs):
@@ -491,26 +680,20 @@ def condition_define(name, condition):
     return markup("define", once(body), name=name)
 
 
-def element_define(schema, spec, held, numbers):
-    ident, ns = spec.attrs["ident"], spec.attrs.get("ns", schema.attrs.get("ns", TEI))
-    contents = [child for child in spec.inside if is_tei(child, "content")]
-    patterns = [pattern for content in contents for pattern in patterns_of(content, held, numbers)]
+def element_define(ident, ns, content, held, numbers):
+    patterns = patterns_of(content, held, numbers) if content else []
     body = markup("element", once(joined("group", "empty", patterns)), name=ident, ns=ns)
     return markup("define", once(body), name="e." + ident)
 
 
-def specs_of(schema):
-    return {item.attrs["ident"]: item for item in schema.inside if is_tei(item, "elementSpec")}
-
-
-def grammar_of(schema):
-    specs = specs_of(schema)
-    contents = [child for spec in specs.values() for child in spec.inside if is_tei(child, "content")]
-    conditions = sorted({condition for content in contents for condition in conditions_in(content)})
+def grammar_of(start, library, contents):
+    held = {ident for _, ident in library}
+    content_of = {ident: contents[int(part.content)] if part.content.isdigit() else None for (_, ident), part in library.items()}
+    conditions = sorted({condition for content in content_of.values() if content for condition in conditions_in(content)})
     numbers = {condition: number for number, condition in enumerate(conditions, 1)}
     defines = [condition_define(f"a.{number}", condition) for condition, number in numbers.items()]
-    defines += [element_define(schema, spec, specs, numbers) for spec in specs.values()]
-    start = joined("choice", "notAllowed", once(*(reference("e." + word) for word in sorted(set(start_words(schema))))))
+    defines += [element_define(ident, part.ns, content_of[ident], held, numbers) for (_, ident), part in library.items()]
+    start = joined("choice", "notAllowed", once(*(reference("e." + word) for word in start)))
     inside = [markup("start", once(start)), *sorted(defines, key=lambda define: define.pairs["name"])]
     return markup("grammar", once(*inside), xmlns=RELAX_NG, datatypeLibrary=DATATYPES)
 
@@ -524,21 +707,58 @@ def written(element):
     return f"<{element.tag}{pairs}>\n{inside}</{element.tag}>\n" if inside else f"<{element.tag}{pairs}/>\n"
 
 
-def answer(root):
-    """What the documents say of the file."""
-    schema = next(found(root), None)
-    if schema is None or holds_pending(root):
-        return Answer(10, "odd: file 1: not yet\n", "")
-    first = min(offences(root), default=None)
-    if first:
-        return Answer(2, f"odd: file 1: byte {first[0]}: rule {first[1]}\n", "")
-    missing = set(start_words(schema)) - set(specs_of(schema))
+def unread(chain):
+    """The answer to the first file that is not there or whose end is left out."""
+    for file, data in enumerate(chain, 1):
+        if data is None:
+            return Answer(6, f"odd: read fault file {file}\n", "")
+        if not data.endswith(b">"):
+            return Answer(3, f"odd: file {file}: byte {data.rindex(b'<')}: not XML\n", "")
+    return None
+
+
+def refusal(chain):
+    """The first offence of a chain: of the first file that has one, those of form before those of its items."""
+    library = {}
+    for file, data in enumerate(chain, 1):
+        root = read(data)
+        schema = next(found(root))
+        first = min(form_offences(root), default=None)
+        if not first:
+            doc = doc_of(schema, [])
+            first = min(item_offences(schema, library, doc), default=None)
+        if first:
+            return Answer(2, f"odd: file {file}: byte {first[0]}: rule {first[1]}\n", "")
+        library = merging.held_after(library, doc)
+    return None
+
+
+def not_yet(chain):
+    """The answer to the first file that has a form that is not read yet."""
+    for file, data in enumerate(chain, 1):
+        root = read(data)
+        if next(found(root), None) is None or holds_pending(root):
+            return Answer(10, f"odd: file {file}: not yet\n", "")
+    return None
+
+
+def compiled(chain):
+    """The answer to a chain that has no offence."""
+    start, library, contents = library_of(chain)
+    missing = {word for word in start if ("element", word) not in library}
     if missing:
-        return Answer(2, f"odd: start {min(missing)}: rule 20\n", "")
-    grammar = grammar_of(schema)
+        return Answer(2, f"odd: start {min(missing, key=str.encode)}: rule 20\n", "")
+    grammar = grammar_of(start, library, contents)
     if grammar.size > MOST_NODES:
         return Answer(5, "odd: limit nodes\n", "")
     return Answer(0, "", '<?xml version="1.0" encoding="UTF-8"?>\n' + written(grammar))
+
+
+def answer(chain):
+    """What the documents say of the chain."""
+    if len(chain) > 16:
+        return Answer(5, "odd: limit files\n", "")
+    return unread(chain) or not_yet(chain) or refusal(chain) or compiled(chain)
 
 
 # The comparison.
@@ -551,26 +771,39 @@ def shown(text):
     return text if len(text) < 5000 else f"{text[:5000]} .. of {len(text)} characters"
 
 
+def put(folder, chain):
+    """Writes the files of the chain, and gives their names."""
+    names = [f"{file}.odd" for file in range(1, len(chain) + 1)]
+    for name, data in zip(names, chain):
+        if data is None:
+            (folder / name).unlink(missing_ok=True)
+        else:
+            (folder / name).write_bytes(data)
+    return names
+
+
 def main(program, count):
     resource.setrlimit(resource.RLIMIT_AS, (MOST_MEMORY, MOST_MEMORY))
-    rng, differing, told, forms = random.Random(9), 0, collections.Counter(), collections.Counter()
+    program = pathlib.Path(program).resolve()
+    rng, differing, told, forms, lengths = random.Random(9), 0, *(collections.Counter() for _ in range(3))
     with tempfile.TemporaryDirectory() as name:
-        path = pathlib.Path(name) / "x.odd"
+        folder = pathlib.Path(name)
         for _ in range(count):
-            data = brought_near(rng, made_file(rng))
-            path.write_bytes(data)
-            wanted = answer(read(data))
-            result = subprocess.run([program, "compile", path], capture_output=True)
+            chain = spoiled(rng, brought_near(rng, made_files(rng)))
+            wanted = answer(chain)
+            result = subprocess.run([program, "compile", *put(folder, chain)], capture_output=True, cwd=folder)
             given = Answer(result.returncode, result.stderr.decode(), result.stdout.decode())
             told[re.sub(r"byte \d+|start \S+", "..", wanted.note) or "the schema is written\n"] += 1
+            lengths[len(chain)] += 1
             forms.update(form for form in FORMS if form in wanted.schema)
             if given != wanted:
                 differing += 1
-                print(data.decode(), *map(shown, map(str, [*wanted, *given])), sep="\n", end="\n\n")
+                print(*(data and data.decode() for data in chain), *map(shown, map(str, [*wanted, *given])), sep="\n", end="\n\n")
     for line, number in told.most_common():
         print(number, line, end="")
+    print("chains of", ", ".join(f"{length}: {number}" for length, number in sorted(lengths.items())))
     print("schemas with", ", ".join(f"{form}: {forms[form]}" for form in FORMS))
-    print(f"{count} files, {differing} that differ")
+    print(f"{count} chains, {differing} that differ")
     return 1 if differing else 0
 
 

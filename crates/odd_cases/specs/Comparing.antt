@@ -1,11 +1,10 @@
 -- When an answer is the wanted one.
-use Rattle.std.specs.Prelude.{◌≡◌, ◌<◌, ℕ, List, Bool, All, IsTrue, is_some, length, drop, nat_eq}
+use Rattle.std.specs.Prelude.{◌≡◌, ◌<◌, ℕ, List, All, IsTrue, length, drop, nat_eq}
 use Rattle.std.specs.List.{starts_with}
-use Rattle.odd_cases.specs.declared.case.Wanted.{Wanted}
-use Rattle.odd_cases.specs.declared.case.Wanted.TheVariants.{Whole, Holding}
-use Rattle.odd_cases.specs.declared.case.Reply.{Reply}
+use Rattle.odd_cases.specs.declared.question.Wanted.{Wanted}
+use Rattle.odd_cases.specs.declared.question.Wanted.TheVariants.{Whole, Holding}
+use Rattle.odd_cases.specs.declared.question.Reply.{Reply}
 use Rattle.odd_cases.specs.declared.comparing.Answer.{Answer}
-use Rattle.odd_cases.specs.declared.outcome.Outcome.{Outcome}
 
 -- the part stands in the bytes, from one of them on
 unfoldable pub StandsIn : List ℕ → List ℕ → Type 0
@@ -24,7 +23,3 @@ IsWanted (Holding parts) bytes = HoldsEach parts.items bytes
 abbrev pub IsAnswered : Reply → Answer → Type 0
 IsAnswered reply answer =
     (reply.code ≡ answer.code) × IsWanted reply.note answer.note × IsWanted reply.out answer.out
-
--- whether an outcome tells a difference
-abbrev pub differs : Outcome → Bool
-differs outcome = is_some outcome.difference

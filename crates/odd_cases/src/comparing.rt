@@ -1,7 +1,7 @@
 ghost use Rattle.std.specs.Prelude.{◌≡◌, ◌↔◌, IsTrue};
 ghost use Rattle.odd_cases.specs.Comparing.{IsAnswered, IsWanted, StandsIn, HoldsEach};
 
-use crate::case::{Reply, Wanted};
+use crate::question::{Reply, Wanted};
 use odd_base::Bytes;
 
 /// What a run answered.

@@ -1,9 +1,6 @@
-use crate::all_words::all_words;
-use crate::case::{Case, Chain, Faulty, Over, Question, Reply, Shown, Wanted};
-use crate::docs::read_docs;
-use crate::fault::CaseFault;
-use crate::part::{Device, Head, Part, read_parts};
-use odd_base::{Bytes, Calls, File, Files, NoMemory, Text, Words};
+use crate::question::{Faulty, Question, Reply, Wanted};
+use odd_base::{Bytes, Calls, File, Files, Text, Words};
+use odd_case_files::{CaseFault, Device, Head, Part, Shown, said_answer, said_words, set_once};
 use std::alloc::Global;
 
 // What is read of a case so far.
@@ -14,9 +11,6 @@ struct Draft {
     reply: ReplyDraft,
     faulty: Faulty,
     shown: Option<(Shown, Bytes)>,
-    asked: Option<Words>,
-    patterns: Option<(Over, Bytes)>,
-    chains: Vec<Chain>,
 }
 
 // What is read of a reply so far. The parts are those that the output must have.
@@ -28,10 +22,10 @@ struct ReplyDraft {
     parts: Vec<Bytes>,
 }
 
-/// The case of a file.
-pub fn read_case(alloc: Global, text: &str) -> Result<Case, CaseFault> {
+/// The question of a case.
+pub fn read_question(alloc: Global, parts: Vec<Part<'_>>) -> Result<Question, CaseFault> {
     let mut draft = empty_draft(alloc);
-    for part in read_parts(alloc, text)? {
+    for part in parts {
         put_part(alloc, &mut draft, part)?;
     }
     finish(alloc, draft)
@@ -53,19 +47,13 @@ fn empty_draft(alloc: Global) -> Draft {
             note: Calls::new(alloc),
         },
         shown: None,
-        asked: None,
-        patterns: None,
-        chains: Vec::new(alloc),
     }
 }
 
 fn put_part(alloc: Global, draft: &mut Draft, part: Part<'_>) -> Result<(), CaseFault> {
     let Part { head, text } = part;
     match head {
-        Head::Words => {
-            let words = read_words(alloc, text.as_slice())?;
-            set_once(&mut draft.words, words)
-        }
+        Head::Words => set_once(&mut draft.words, said_words(alloc, text.as_slice())?),
         Head::File(name) => {
             let name = Text::from_str(alloc, name)?;
             let bytes = Bytes::from_vec(text);
@@ -75,75 +63,18 @@ fn put_part(alloc: Global, draft: &mut Draft, part: Part<'_>) -> Result<(), Case
         Head::Code(code) => set_once(&mut draft.reply.code, code),
         Head::Note => set_once(&mut draft.reply.note, Bytes::from_vec(text)),
         Head::Out => set_once(&mut draft.reply.out, Bytes::from_vec(text)),
-        Head::OutHas | Head::Asked if text.is_empty() => Err(CaseFault::NoLines),
+        Head::OutHas if text.is_empty() => Err(CaseFault::NoLines),
         Head::OutHas => {
             draft.reply.parts.push(Bytes::from_vec(text))?;
             Ok(())
         }
         Head::Fails(device, call) => put_failing(&mut draft.faulty, device, call),
         Head::Shown(shown) => {
-            let wanted = shown_of(alloc, text.as_slice())?;
+            let wanted = said_answer(alloc, text.as_slice())?;
             set_once(&mut draft.shown, (shown, wanted))
         }
-        Head::Asked => set_once(&mut draft.asked, read_words(alloc, text.as_slice())?),
-        Head::AllWords(length, symbols) => {
-            set_once(&mut draft.asked, all_words(alloc, length, symbols)?)
-        }
-        Head::Patterns(over) => {
-            let wanted = shown_of(alloc, text.as_slice())?;
-            set_once(&mut draft.patterns, (over, wanted))
-        }
-        Head::Docs => {
-            draft.chains.push(begun_chain(alloc, text.as_slice())?)?;
-            Ok(())
-        }
-        Head::Library => {
-            let wanted = shown_of(alloc, text.as_slice())?;
-            set_once(&mut last_chain(draft)?.library, wanted)
-        }
-        Head::Chosen => {
-            let wanted = shown_of(alloc, text.as_slice())?;
-            set_once(&mut last_chain(draft)?.chosen, wanted)
-        }
+        _ => Err(CaseFault::NotAlone),
     }
-}
-
-// A chain of which nothing is asked so far.
-fn begun_chain(alloc: Global, text: &[u8]) -> Result<Chain, CaseFault> {
-    Ok(Chain {
-        docs: read_docs(alloc, text)?,
-        library: None,
-        chosen: None,
-    })
-}
-
-fn last_chain(draft: &mut Draft) -> Result<&mut Chain, CaseFault> {
-    draft.chains.last_mut().ok_or(CaseFault::NoDocs)
-}
-
-fn set_once<T: Drop>(place: &mut Option<T>, value: T) -> Result<(), CaseFault> {
-    if place.is_some() {
-        return Err(CaseFault::Twice);
-    }
-    *place = Some(value);
-    Ok(())
-}
-
-// The words of a text, apart at blanks and line breaks.
-fn read_words(alloc: Global, text: &[u8]) -> Result<Words, CaseFault> {
-    let Ok(text) = str::from_utf8(text) else {
-        return Err(CaseFault::NotText);
-    };
-    let mut words = Words::new(alloc);
-    for word in text.split_ascii_whitespace() {
-        words.push(Text::from_str(alloc, word)?)?;
-    }
-    Ok(words)
-}
-
-// What a text shows, to which its last line break does not belong.
-fn shown_of(alloc: Global, text: &[u8]) -> Result<Bytes, NoMemory> {
-    Bytes::from_slice(alloc, text.strip_suffix(b"\n").unwrap_or(text))
 }
 
 fn put_failing(faulty: &mut Faulty, device: Device, call: u64) -> Result<(), CaseFault> {
@@ -155,54 +86,39 @@ fn put_failing(faulty: &mut Faulty, device: Device, call: u64) -> Result<(), Cas
     Ok(())
 }
 
-// The case of a draft, where it asks one thing.
-fn finish(alloc: Global, draft: Draft) -> Result<Case, CaseFault> {
+// The question of a draft, where it asks one thing.
+fn finish(alloc: Global, draft: Draft) -> Result<Question, CaseFault> {
     let Draft {
         files,
         words,
         reply,
         faulty,
         shown,
-        asked,
-        patterns,
-        chains,
     } = draft;
-    let is_bare = !has_reply(&reply, &faulty);
-    let has_chains = !chains.is_empty();
-    let question = match (words, shown, asked, patterns) {
-        (None, None, None, None) if has_chains && is_bare && files.is_empty() => {
-            chains_question(chains)?
-        }
-        _ if has_chains => return Err(CaseFault::DocsNotAlone),
-        (Some(words), None, None, None) => Question::Run {
+    match (words, shown) {
+        (Some(words), None) => Ok(Question::Run {
+            files,
             words,
             faulty,
             reply: reply_of(alloc, reply)?,
-        },
-        (None, Some((shown, wanted)), None, None) if is_bare && files.len() == 1 => {
-            Question::Shown { shown, wanted }
-        }
-        (None, None, Some(asked), Some((over, wanted))) if is_bare && files.is_empty() => {
-            Question::Patterns {
-                over,
-                asked,
-                wanted,
-            }
-        }
-        (None, None, None, None) => return Err(CaseFault::NothingAsked),
-        _ => return Err(CaseFault::NotAlone),
-    };
-    Ok(Case { files, question })
+        }),
+        (None, Some((shown, wanted))) if !has_reply(&reply, &faulty) => Ok(Question::Shown {
+            file: only_file(files)?,
+            shown,
+            wanted,
+        }),
+        (None, None) => Err(CaseFault::NothingAsked),
+        _ => Err(CaseFault::NotAlone),
+    }
 }
 
-// The question of chains, of each of which something is asked.
-fn chains_question(chains: Vec<Chain>) -> Result<Question, CaseFault> {
-    for chain in &chains {
-        if chain.library.is_none() && chain.chosen.is_none() {
-            return Err(CaseFault::NothingAsked);
-        }
+// The bytes of a file beside which no other one stands.
+fn only_file(files: Files) -> Result<Bytes, CaseFault> {
+    let mut files = files.into_items();
+    match files.pop() {
+        Some(File { name: _, bytes }) if files.is_empty() => Ok(bytes),
+        _ => Err(CaseFault::NotAlone),
     }
-    Ok(Question::Chains(chains))
 }
 
 // Whether something is said of a reply.

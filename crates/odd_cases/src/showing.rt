@@ -1,12 +1,37 @@
-use odd_base::{Name, NoMemory, Text};
-use odd_reader::{Node, Tree, read_tree};
+use odd_base::{NoMemory, Text};
+use odd_case_files::{Shown, add_content, add_name};
+use odd_content::{ContentRefusal, read_content};
+use odd_reader::{Node, Tree, elements, read_tree};
 use std::alloc::Global;
 
-/// Puts the tree of a file, as it is shown.
-pub fn add_tree_of(alloc: Global, out: &mut Text, bytes: &[u8]) -> Result<(), NoMemory> {
+/// A file, as this of it is shown.
+pub fn shown_text(alloc: Global, shown: Shown, bytes: &[u8]) -> Result<Text, NoMemory> {
+    let mut out = Text::new(alloc);
     match read_tree(alloc, bytes) {
-        Ok(tree) => add_tree(alloc, out, &tree),
-        Err(_) => out.push_str("no tree"),
+        Ok(tree) => add_shown(alloc, &mut out, shown, &tree)?,
+        Err(_) => out.push_str("no tree")?,
+    }
+    Ok(out)
+}
+
+fn add_shown(alloc: Global, out: &mut Text, shown: Shown, tree: &Tree) -> Result<(), NoMemory> {
+    match shown {
+        Shown::Tree => add_tree(alloc, out, tree),
+        Shown::Content => add_content_of(alloc, out, tree),
+    }
+}
+
+// Puts what the first child of a root says as a `content`.
+fn add_content_of(alloc: Global, out: &mut Text, root: &Tree) -> Result<(), NoMemory> {
+    let Some(child) = elements(root).next() else {
+        return out.push_str("no content");
+    };
+    match read_content(alloc, child, &root.binds) {
+        Ok(content) => add_content(alloc, out, &content),
+        Err(ContentRefusal::Rule(rule)) => {
+            out.push_str(format!(in alloc; "rule {rule}")?.as_str())
+        }
+        Err(ContentRefusal::NoMemory) => Err(NoMemory),
     }
 }
 
@@ -34,16 +59,6 @@ fn add_tag(alloc: Global, out: &mut Text, tree: &Tree) -> Result<(), NoMemory> {
     out.push_str(format!(in alloc; "@{}", tree.at)?.as_str())?;
     add_binds(out, tree)?;
     add_attributes(out, tree)
-}
-
-/// Puts a name with its namespace in braces, where it has one.
-pub fn add_name(out: &mut Text, name: &Name) -> Result<(), NoMemory> {
-    if !name.ns.as_str().is_empty() {
-        out.push('{')?;
-        out.push_str(name.ns.as_str())?;
-        out.push('}')?;
-    }
-    out.push_str(name.local.as_str())
 }
 
 fn add_binds(out: &mut Text, tree: &Tree) -> Result<(), NoMemory> {

@@ -35,7 +35,7 @@ use Rattle.odd_decls.specs.Declares.{Declares, GivesContent, IsEntryOf, PlacesRi
 use Rattle.odd_decls.specs.Library.{component_of}
 use Rattle.odd_decls.specs.Odd.{element_key}
 use Rattle.odd_decls.specs.Offences.{HasOffence, IsContentChild, IsFirstOf, IsItem, IsNotBefore, IsSpecOf, ItemFault, ItemOffends, Offends}
-use Rattle.odd_decls.specs.Pending.{IsPending, outermost}
+use Rattle.odd_decls.specs.Pending.{IsForm, IsPending, outermost}
 use Rattle.odd_decls.specs.Pending as pending
 use Rattle.odd_decls.specs.Search.{Finds, Found, foreign, own, through}
 use Rattle.odd_decls.specs.Search as search
@@ -168,13 +168,27 @@ att_list_in_desc = IsPending.form (in_child outermost _ _ (elements_are (part (c
 other_ident : IsPending (element 0 (codes "schemaSpec") [] (part (codes "altIdent") ∷ []))
 other_ident = IsPending.form (in_child outermost _ _ (elements_are (part (codes "altIdent") ∷ [])) (pending.here (pending.attributes refl)))
 
--- an `elementRef` in prose, by the row of references; the parts of a `content` are read
-reference_in_prose : IsPending (p_with (part (codes "elementRef") ∷ []))
-reference_in_prose = IsPending.form (in_child outermost _ _ (elements_are (part (codes "elementRef") ∷ [])) (pending.here (pending.references refl refl)))
+-- references outside a `content` are read, also to what is no element, and so are the parts of a `content`
+abbrev referring : List Tree
+referring = part (codes "moduleRef") ∷ part (codes "elementRef") ∷ part (codes "classRef") ∷ []
+
+references_read : HoldsNone outermost (p_with referring)
+references_read = none_held _ _ referring (elements_are referring) (plain _ _ refl) (leaf (plain _ _ refl), (leaf (plain _ _ refl), (leaf class_outside, tt)))
+  where
+    leaf : {local : List ℕ} → (IsForm outermost (part local) → ⊥) → HoldsNone outermost (part local)
+    leaf none = none_held _ _ [] refl none tt
+
+    class_outside : IsForm outermost (part (codes "classRef")) → ⊥
+    class_outside (pending.classes is) = false≢true is
+    class_outside (pending.members inside is) = false≢true inside
+    class_outside (pending.attributes is) = false≢true is
+    class_outside (pending.datatypes is) = false≢true is
+    class_outside (pending.data_in_content inside is) = false≢true inside
+    class_outside (pending.groups is) = false≢true is
 
 parts_in_content : HoldsNone outermost (content_with (part (codes "sequence") ∷ []))
 parts_in_content =
-    none_held _ _ (part (codes "sequence") ∷ []) (elements_are (part (codes "sequence") ∷ [])) (plain _ _ refl (λ _. refl)) (none_held _ _ [] refl (plain _ _ refl (λ _. refl)) tt, tt)
+    none_held _ _ (part (codes "sequence") ∷ []) (elements_are (part (codes "sequence") ∷ [])) (plain _ _ refl) (none_held _ _ [] refl (plain _ _ refl) tt, tt)
 
 -- a `classRef` in a `p` in a `content`, by the row of members
 abbrev class_in_p : Tree
@@ -188,23 +202,6 @@ class_in_content =
 -- a file without a `schemaSpec`
 no_schema_pending : IsPending (element 0 (codes "TEI") [] [])
 no_schema_pending = IsPending.no_schema (through [] refl search.nothing refl)
-
--- the attribute `mode` on an element of TEI's
-mode_pending : IsPending (element 0 (codes "schemaSpec") (attribute (codes "mode") (codes "add") ∷ []) [])
-mode_pending = IsPending.form (pending.here (pending.modes refl refl))
-
--- not the same name in a namespace, nor on an element of another namespace
-abbrev foreign_p : Tree
-foreign_p = element_in (codes "urn:x") 9 (codes "p") (attribute (codes "mode") (codes "add") ∷ []) []
-
-abbrev foreign_mode : Tree
-foreign_mode = element 0 (codes "schemaSpec") (record { name = record { ns = codes "urn:x"; local = codes "mode" }; value = codes "add" } ∷ []) (foreign_p ∷ [])
-
-foreign_mode_read : IsPending foreign_mode → ⊥
-foreign_mode_read =
-    not_pending foreign_mode (alone foreign_mode) [] (found_through [] foreign_mode (foreign_p ∷ []) [] (elements_are (foreign_p ∷ [])) refl (found_first [] _ [] (foreign refl)))
-    (none_held _ _ (foreign_p ∷ []) (elements_are (foreign_p ∷ [])) (plain _ _ refl (λ _. refl))
-    (none_held _ _ [] refl (plain _ _ refl (λ c. cc)) tt, tt))
 
 -- What an `elementSpec` breaks
 
@@ -470,7 +467,7 @@ file_with item = schema_with (nodes (item ∷ []))
 one_item_declares : (children : List Tree) (c : Option Content) → GivesContent [] (spec_with 7 children) c → Finds [] (spec_with 7 children) []
     → HoldsNone outermost (spec_with 7 children) → IsSound [] (spec_with 7 children) → Declares (file_with (spec_with 7 children)) (doc_of c)
 one_item_declares children c gives none_found holds sound =
-    declares (codes "s") (codes "a") (file_with (spec_with 7 children)) (spec_with 7 children ∷ []) _ (schema_is_named _) refl (elements_are _) (found_first [] _ [] none_found) refl
+    declares (codes "s") (codes "a") (file_with (spec_with 7 children)) (spec_with 7 children ∷ []) _ (schema_is_named _) refl (elements_are _) (found_first [] _ [] none_found)
     (holds, tt) (sound, tt) (λ one. few (IsSpecOf one) (spec_with 7 children ∷ []) (omega arith)) (entry_more _ _ [] _ [] (item_read _ children c gives) (no_entries _)) (few_rise _ (omega arith))
 
 -- `<elementSpec ident="a"/>` in it declares an element without a content
@@ -478,7 +475,7 @@ abbrev bare : Tree
 bare = spec_with 7 []
 
 bare_holds : HoldsNone outermost bare
-bare_holds = none_held _ bare [] refl (plain _ bare refl (λ _. refl)) tt
+bare_holds = none_held _ bare [] refl (plain _ bare refl) tt
 
 bare_gives : GivesContent [] bare None
 bare_gives = GivesContent.none (λ child s is. nothing_stands child s)
@@ -497,9 +494,9 @@ texts_found =
 
 texts_hold : HoldsNone outermost texts
 texts_hold =
-    none_held _ texts (text_content ∷ []) (elements_are _) (plain _ _ refl (λ _. refl)) (
-      none_held _ text_content (part (codes "textNode") ∷ []) (elements_are _) (plain _ _ refl (λ _. refl))
-          (none_held _ (part (codes "textNode")) [] refl (plain _ _ refl (λ _. refl)) tt, tt),
+    none_held _ texts (text_content ∷ []) (elements_are _) (plain _ _ refl) (
+      none_held _ text_content (part (codes "textNode") ∷ []) (elements_are _) (plain _ _ refl)
+          (none_held _ (part (codes "textNode")) [] refl (plain _ _ refl) tt, tt),
       tt,
     )
 
@@ -527,8 +524,8 @@ described = schema_with (Text (codes "some words") ∷ nodes (desc_with [] ∷ b
 described_declares : Declares described (doc_of None)
 described_declares =
     declares (codes "s") (codes "a") described (desc_with [] ∷ bare ∷ []) _ (schema_is_named _) refl (text_first (codes "some words") (nodes (desc_with [] ∷ bare ∷ [])) _ (elements_are _))
-    (search.element [] [] (found_through [] (desc_with []) [] [] refl refl search.nothing) (found_first [] bare [] (found_through [] bare [] [] refl refl search.nothing)) refl) refl
-    (none_held _ (desc_with []) [] refl (plain _ _ refl (λ _. refl)) tt, (bare_holds, tt))
+    (search.element [] [] (found_through [] (desc_with []) [] [] refl refl search.nothing) (found_first [] bare [] (found_through [] bare [] [] refl refl search.nothing)) refl)
+    (none_held _ (desc_with []) [] refl (plain _ _ refl) tt, (bare_holds, tt))
     (desc_sound, (bare_is_sound (codes "a") [] bare (spec_named 7 []) refl, tt))
     (λ one both. few (IsSpecOf one) (bare ∷ []) (omega arith) (twice_later (IsSpecOf one) (desc_with []) (bare ∷ []) (λ is. let no : None ≡ Some elements.ElementSpec = is.0 in cc) both))
     (entry_less (alone described) (desc_with []) (bare ∷ []) _ refl (entry_more (alone described) bare [] _ [] (item_read _ [] None bare_gives) (no_entries _))) (few_rise _ (omega arith))

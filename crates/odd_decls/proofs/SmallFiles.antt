@@ -1,5 +1,5 @@
 -- Small files: that nothing in them is a form that is not read yet, that they have no offence, and what they declare.
-use Rattle.std.proofs.Common.{◌≡◌, ℕ, suc, ◌+◌, ◌≤◌, true, false, ◌||◌, List, [], ◌∷◌, ◌++◌, length, length-append, Some, None, ⊎_elim, refl, sym, ap, subst, ◌∙◌, codes, arith}
+use Rattle.std.proofs.Common.{◌≡◌, ℕ, Bool, suc, ◌+◌, ◌≤◌, true, false, ◌||◌, List, [], ◌∷◌, ◌++◌, length, length-append, Some, None, ⊎_elim, refl, sym, ap, subst, ◌∙◌, codes, arith}
 use Rattle.std.proofs.lemmas.List.Elements.{All-nil, All-cons}
 use Rattle.std.specs.Prelude.{◌&&◌, find, if◌then◌else◌, IsSome, unwrap_or, count_by, nat_lt}
 use Rattle.std.specs.Cmp.Lexicographic.{same_text}
@@ -31,7 +31,7 @@ use Rattle.odd_content.specs.Breaking.{ContentFault, InnerFault, PartFault}
 use Rattle.odd_content.specs.Giving.{part_of}
 use Rattle.odd_decls.specs.Declares.{AreEntriesOf, Declares, IsEntryOf, PlacesRise}
 use Rattle.odd_decls.specs.Offences.{HasOffence, IsContentChild, IsSpecOf, IsItem, ItemFault, ItemOffends, Offends, StandsTwice}
-use Rattle.odd_decls.specs.Pending.{Around, HoldsForm, IsForm, IsPending, around_in, outermost}
+use Rattle.odd_decls.specs.Pending.{HoldsForm, IsForm, IsPending, around_in, outermost}
 use Rattle.odd_decls.specs.Search.{Finds, FindsAmong, Found, own, through}
 use Rattle.odd_decls.specs.Search as search
 use Rattle.odd_decls.specs.declared.odd.Entry.{Entry}
@@ -141,31 +141,28 @@ none_of words more t all not is =
 
 -- the names of the rows
 abbrev row_names : List (List ℕ)
-row_names = codes "moduleRef" ∷ codes "elementRef" ∷ codes "classRef" ∷ codes "macroRef" ∷ codes "dataRef" ∷ codes "classSpec" ∷ codes "macroSpec" ∷ codes "classes" ∷ codes "attList"
+row_names = codes "classRef" ∷ codes "macroRef" ∷ codes "dataRef" ∷ codes "classSpec" ∷ codes "macroSpec" ∷ codes "classes" ∷ codes "attList"
     ∷ codes "altIdent" ∷ codes "dataSpec" ∷ codes "datatype" ∷ codes "valList" ∷ codes "specGrp" ∷ codes "specGrpRef" ∷ []
 
--- an element of none of them and without a mode is no form
-pub plain : (a : Around) (t : Tree) → is_one_of row_names t ≡ false → (is_tei t ≡ true → given t (codes "mode") ≡ None) → IsForm a t → ⊥
-plain a t not no_mode (IsForm.modules is) = none_of (codes "moduleRef" ∷ []) row_names t refl not is
-plain a t not no_mode (IsForm.references out is) = none_of (codes "elementRef" ∷ codes "classRef" ∷ codes "macroRef" ∷ codes "dataRef" ∷ []) row_names t refl not is
-plain a t not no_mode (IsForm.modes is some) = false≢true (subst IsSome (no_mode is) some)
-plain a t not no_mode (IsForm.classes is) = none_of (codes "classSpec" ∷ codes "macroSpec" ∷ codes "classes" ∷ []) row_names t refl not is
-plain a t not no_mode (IsForm.members c is) = none_of (codes "classRef" ∷ codes "macroRef" ∷ []) row_names t refl not is
-plain a t not no_mode (IsForm.attributes is) = none_of (codes "attList" ∷ codes "altIdent" ∷ []) row_names t refl not is
-plain a t not no_mode (IsForm.datatypes is) = none_of (codes "dataSpec" ∷ codes "datatype" ∷ codes "valList" ∷ []) row_names t refl not is
-plain a t not no_mode (IsForm.data_in_content c is) = none_of (codes "dataRef" ∷ []) row_names t refl not is
-plain a t not no_mode (IsForm.groups is) = none_of (codes "specGrp" ∷ codes "specGrpRef" ∷ []) row_names t refl not is
+-- an element of none of them is no form
+pub plain : (a : Bool) (t : Tree) → is_one_of row_names t ≡ false → IsForm a t → ⊥
+plain a t not (IsForm.classes is) = none_of (codes "classSpec" ∷ codes "macroSpec" ∷ codes "classes" ∷ []) row_names t refl not is
+plain a t not (IsForm.members c is) = none_of (codes "classRef" ∷ codes "macroRef" ∷ []) row_names t refl not is
+plain a t not (IsForm.attributes is) = none_of (codes "attList" ∷ codes "altIdent" ∷ []) row_names t refl not is
+plain a t not (IsForm.datatypes is) = none_of (codes "dataSpec" ∷ codes "datatype" ∷ codes "valList" ∷ []) row_names t refl not is
+plain a t not (IsForm.data_in_content c is) = none_of (codes "dataRef" ∷ []) row_names t refl not is
+plain a t not (IsForm.groups is) = none_of (codes "specGrp" ∷ codes "specGrpRef" ∷ []) row_names t refl not is
 
-abbrev pub HoldsNone : Around → Tree → Type 0
+abbrev pub HoldsNone : Bool → Tree → Type 0
 HoldsNone a t = HoldsForm a t → ⊥
 
 -- an element that is no form, and whose children hold none, holds none
-pub none_held : (a : Around) (t : Tree) (ts : List Tree) → children_of t ≡ ts → (IsForm a t → ⊥) → Each (HoldsNone (around_in a t)) ts → HoldsNone a t
+pub none_held : (a : Bool) (t : Tree) (ts : List Tree) → children_of t ≡ ts → (IsForm a t → ⊥) → Each (HoldsNone (around_in a t)) ts → HoldsNone a t
 none_held a t ts are no_form below (HoldsForm.here is) = no_form is
 none_held a t ts are no_form below (HoldsForm.inside child s holds) = each_such (HoldsNone (around_in a t)) ts child below (among are s) holds
 
 -- an element whose only child holds a form holds one
-pub in_child : (a : Around) (t child : Tree) → children_of t ≡ child ∷ [] → HoldsForm (around_in a t) child → HoldsForm a t
+pub in_child : (a : Bool) (t child : Tree) → children_of t ≡ child ∷ [] → HoldsForm (around_in a t) child → HoldsForm a t
 in_child a t child is holds = HoldsForm.inside child (among (sym is) (stands_first child [])) holds
 
 -- a file with a `schemaSpec` that holds none
@@ -370,10 +367,10 @@ few_rise entries short before after one next is =
 -- A file that is a `schemaSpec` with one start word declares the entries of its items, where they hold no form that is not read yet, no other `schemaSpec`
 -- and no offence.
 pub declares : (word start : List ℕ) (schema : Tree) (ts : List Tree) (entries : List Entry) → IsNamedSchema word start schema → words_of start ≡ start ∷ [] → children_of schema ≡ ts
-    → FindsAmong (within [] schema) ts [] → given schema (codes "mode") ≡ None → Each (HoldsNone (around_in outermost schema)) ts → Each (IsSound (within [] schema)) ts
+    → FindsAmong (within [] schema) ts [] → Each (HoldsNone (around_in outermost schema)) ts → Each (IsSound (within [] schema)) ts
     → ((one : List ℕ) → StandsTwice (IsSpecOf one) ts → ⊥) → AreEntriesOf (alone schema) ts entries → PlacesRise entries
     → Declares schema (record { ident = word; start = start ∷ []; entries = entries })
-declares word start schema ts entries n one_start are none_found no_mode held sound once of_items rise = record {
+declares word start schema ts entries n one_start are none_found held sound once of_items rise = record {
   all_read = not_pending schema (alone schema) [] found (none_held outermost schema ts are no_form held);
   unoffended = λ place rule h. sound_items (within [] schema) ts sound once place rule (items_alone word start schema schema ts found n are place rule h);
   first = alone schema;
@@ -397,4 +394,4 @@ declares word start schema ts entries n one_start are none_found no_mode held so
     is_none names not = by_name (codes "schemaSpec") names schema n.is_schema ∙ not
 
     no_form : IsForm outermost schema → ⊥
-    no_form = plain outermost schema (is_none row_names refl) (λ _. no_mode)
+    no_form = plain outermost schema (is_none row_names refl)

@@ -15,19 +15,14 @@ use Rattle.odd_decls.specs.Declares.{AreEntriesOf, IsDocOf, IsEntryOf, PlacesRis
 use Rattle.odd_decls.specs.Faults.{StandsAgain}
 use Rattle.odd_decls.specs.Odd.{element_key}
 use Rattle.odd_decls.specs.Offences.{IsContentChild, IsFirstOf, IsItem, IsSpecOf, ItemOffends, Offends}
-use Rattle.odd_decls.specs.Pending.{Around as TheAround}
 use Rattle.odd_decls.specs.Search.{Finds, Found}
 use Rattle.odd_decls.specs.declared.odd.Entry.TheVariants as entry
 use Rattle.odd_decls.specs.declared.odd.Entry.{Entry}
-use Rattle.odd_decls.specs.declared.pending.Around.{Around}
 use Rattle.odd_decls.specs.declared.fault.Fault.{Fault}
 use Rattle.odd_decls.specs.declared.reading.Read.TheVariants as read
 use Rattle.odd_decls.specs.declared.reading.Read.{Read}
 use Rattle.odd_decls.specs.declared.reading.ReadItems.TheVariants as items
 use Rattle.odd_decls.specs.declared.reading.ReadItems.{ReadItems}
-
-abbrev pub the_around : Around → TheAround
-the_around a = record { content = a.content; datatype = a.datatype }
 
 -- what the search finds in the element is put after what was found
 abbrev pub AddsFound : Tree → List Tree → List Tree → Type 0

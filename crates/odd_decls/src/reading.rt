@@ -15,7 +15,7 @@ ghost use Rattle.odd_decls.specs.Reading.{AreItemsRead, IsFirstIn, IsJoined, IsR
 use crate::fault::{Fault, earlier};
 use crate::items::{ReadItem, read_item, spec_ident};
 use crate::odd::{Entries, OddDoc};
-use crate::pending::{Around, is_pending};
+use crate::pending::is_pending;
 use crate::searching::{binds_along, find_schemas, path_to_first};
 use odd_base::{NoMemory, Offence, Scope, Text, TryCopy, Words};
 use odd_forms::{Element, fault_where, lesser, own_fault, sorted, words_of};
@@ -57,11 +57,7 @@ pub fn read_odd(alloc: Global, tree: &Tree, file: u32, _aside: bool) -> Result<O
     ensures offence { (offence : AnOffence) (first end : ℕ) → IsFormed first end tree.now → result ≡ Err (OddRefusal.Offence offence) → IsRefusal tree.now file offence }
     ensures not_yet { result ≡ Err OddRefusal.NotYet → IsPending tree.now }
 {
-    let outermost = Around {
-        content: false,
-        datatype: false,
-    };
-    if is_pending(tree, outermost) {
+    if is_pending(tree, false) {
         return Err(OddRefusal::NotYet);
     }
     let mut schemas = Vec::new(alloc);

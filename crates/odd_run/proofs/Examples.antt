@@ -1,14 +1,15 @@
 -- Small checks of what the definitions of this crate say: where they hold, and where they do not.
-use Rattle.std.proofs.Common.{◌≡◌, ◌≤◌, ◌+◌, ℕ, Bool, true, false, cond, List, [], ◌∷◌, length, Some, None, inl, inr, refl, sym, ap, ◌∙◌, arith, rules, slice_get}
+use Rattle.std.proofs.Common.{◌≡◌, ◌≤◌, ◌+◌, ℕ, Bool, true, false, cond, List, [], ◌∷◌, length, Some, None, inl, inr, refl, sym, ap, ◌∙◌, arith, rules, suc}
 use Rattle.std.specs.Fmt.{digits}
-use Rattle.std.specs.Prelude.{◌≢◌, codes, map as map_items}
+use Rattle.std.specs.Prelude.{◌≢◌, All, codes, map as map_items}
 use Rattle.std.specs.FinMap as map
 use Rattle.std.proofs.lemmas.Cmp.{nat_list_cmp_total}
+use Rattle.std.proofs.lemmas.List.Elements.{All-cons, All-head, All-nil, All-same}
 use Rattle.std.proofs.lemmas.Option.{same_Some}
 use Rattle.std.specs.Ordering.{eq_by_cmp}
 use Rattle.odd_base.specs.Text.{text_cmp}
 use Rattle.odd_base.specs.Key.{key_cmp}
-use Rattle.odd_base.specs.Shelf.{FileMap, Held}
+use Rattle.odd_base.specs.Shelf.{FileMap, Held, NotHeld}
 use Rattle.odd_base.specs.declared.key.Key.{Key}
 use Rattle.odd_base.specs.declared.key.Kind.TheVariants as kind
 use Rattle.odd_base.specs.declared.offence.Offence.{Offence}
@@ -29,6 +30,7 @@ use Rattle.odd_decls.specs.Offences as form
 use Rattle.odd_decls.specs.Library.{component_of}
 use Rattle.odd_modes.specs.After.{IsLibraryAfter, held_after, held_by, last_of}
 use Rattle.odd_modes.specs.Offences.{ItemFault, SpecFault}
+use Rattle.odd_chain.specs.Files.{Gives}
 use Rattle.odd_decls.specs.Pending.{IsPending, outermost}
 use Rattle.odd_decls.specs.Pending as pending
 use Rattle.odd_decls.specs.Search.{Finds}
@@ -56,14 +58,19 @@ use Rattle.compile_core.specs.Compiled.{IsGrammarOf, element_define}
 use Rattle.compile_core.specs.Conditions.{IsConditionOf, condition_cmp, conditions_in, content_of}
 use Rattle.compile_core.specs.Schema.{IsLeastMissing, IsSchema}
 use Rattle.odd_run.specs.Note.{code_of, note_text}
-use Rattle.odd_run.specs.Words.{Compiles, WordsMean, compile}
+use Rattle.odd_run.specs.Outcome.{answers, gives}
+use Rattle.odd_run.specs.Words.{Compiles, IsFileWord, WordsMean, compile}
 use Rattle.odd_run.specs.declared.status.Status.{Status}
-use Rattle.odd_run.specs.Reply.{OffendsAlone, Reply, Reads, Gives, of_form, not_xml, not_yet, offends, start_missing, no_job, no_file, too_long, refused, done}
+use Rattle.odd_run.specs.Reply.{FileGives, FileStops, IsReached, IsRead, NamesFiles, ReadsForms, Reply, TreesComeTo, all_read, all_spelled, answered, done, merged, more, no_job, none, not_held, not_xml, not_yet, refused, start_missing, stops, too_long, too_many}
+use Rattle.odd_run.specs.Reply as reply
 use Rattle.odd_run.specs.declared.words.Command.TheVariants as command
 use Rattle.odd_run.specs.declared.words.Job.{Job}
 use Rattle.odd_run.specs.declared.status.LimitKind.TheVariants as limit
 use Rattle.odd_run.specs.declared.status.Status.TheVariants as status
+use Rattle.odd_run.proofs.ChainOfOne.{OffendsAlone, all_read_alone, gives_alone, only_item, pending_alone, refused_alone}
+use Rattle.odd_run.proofs.OneReply.{one_chain}
 use Rattle.odd_run.proofs.Replies.{one_status}
+use Rattle.odd_run.proofs.Statuses.{of_file, of_trees, of_words, usage_of_words}
 
 -- Words
 
@@ -73,36 +80,55 @@ compile_f = codes "compile" ∷ codes "f" ∷ []
 abbrev compile_job : Job
 compile_job = record { command = command.Compile; aside = false; files = 1; number = 0 }
 
-f_compiles : Compiles compile_f (codes "f")
-f_compiles = (refl, λ e. cc)
+f_compiles : Compiles compile_f (codes "f" ∷ [])
+f_compiles = record { words_are = refl; some = λ e. cc; file_words = All-cons IsFileWord (codes "f") [] (λ e. cc) (All-nil IsFileWord) }
 
 -- `compile f` asks for the schema of one file
 f_has_a_job : WordsMean compile_f compile_job
-f_has_a_job = compile (codes "f") f_compiles refl
+f_has_a_job = compile (codes "f" ∷ []) f_compiles refl
 
 -- the empty word is a file word
 empty_word_has_a_job : WordsMean (codes "compile" ∷ [] ∷ []) compile_job
-empty_word_has_a_job = compile [] (refl, λ e. cc) refl
+empty_word_has_a_job = compile ([] ∷ []) (record { words_are = refl; some = λ e. cc; file_words = All-cons IsFileWord [] [] (λ e. cc) (All-nil IsFileWord) }) refl
+
+abbrev compile_f_g : List (List ℕ)
+compile_f_g = codes "compile" ∷ codes "f" ∷ codes "g" ∷ []
+
+f_g_compiles : Compiles compile_f_g (codes "f" ∷ codes "g" ∷ [])
+f_g_compiles = record {
+  words_are = refl;
+  some = λ e. cc;
+  file_words = All-cons IsFileWord (codes "f") (codes "g" ∷ []) (λ e. cc) (All-cons IsFileWord (codes "g") [] (λ e. cc) (All-nil IsFileWord));
+}
+
+-- `compile f g` asks for that of a chain of two
+two_files_have_a_job : WordsMean compile_f_g (record { command = command.Compile; aside = false; files = 2; number = 0 })
+two_files_have_a_job = compile (codes "f" ∷ codes "g" ∷ []) f_g_compiles refl
 
 -- words have at most one job
 one_job : (words : List (List ℕ)) (a b : Job) → WordsMean words a → WordsMean words b → a ≡ b
-one_job words a b (compile f c e) (compile g d i) = e ∙ sym i
+one_job words a b (compile f c e) (compile g d i) = e ∙ ap (λ chain. record { command = command.Compile; aside = false; files = length chain; number = 0 }) (one_chain words f g c d) ∙ sym i
 
 no_words : (job : Job) → WordsMean [] job → ⊥
-no_words job (compile file c e) = let same = c.0 in cc
+no_words job (compile chain c e) = cc
 
 command_alone : (job : Job) → WordsMean (codes "compile" ∷ []) job → ⊥
-command_alone job (compile file c e) = let same = c.0 in cc
-
-two_files : (job : Job) → WordsMean (codes "compile" ∷ codes "f" ∷ codes "g" ∷ []) job → ⊥
-two_files job (compile file c e) = let same = c.0 in cc
+command_alone job (compile chain c e) = c.some cc
 
 another_command : (job : Job) → WordsMean (codes "merge" ∷ codes "f" ∷ []) job → ⊥
-another_command job (compile file c e) = let same = c.0 in cc
+another_command job (compile chain c e) = cc
 
--- `--` is no file
+-- `--` is no file, and has none after it
+dashes_compile_none : (rest chain : List (List ℕ)) → Compiles (codes "compile" ∷ codes "--" ∷ rest) chain → ⊥
+dashes_compile_none rest chain c =
+    let same : codes "compile" ∷ codes "--" ∷ rest ≡ codes "compile" ∷ chain = c.words_are in
+    All-head IsFileWord (codes "--") rest (All-same IsFileWord (codes "--" ∷ rest) chain (cc) c.file_words) refl
+
 dashes : (job : Job) → WordsMean (codes "compile" ∷ codes "--" ∷ []) job → ⊥
-dashes job (compile file c e) = c.1 (sym (same_Some (codes "--") file (ap (λ ws. slice_get ws 1) c.0)))
+dashes job (compile chain c e) = dashes_compile_none [] chain c
+
+dashes_and_a_file : (job : Job) → WordsMean (codes "compile" ∷ codes "--" ∷ codes "f" ∷ []) job → ⊥
+dashes_and_a_file job (compile chain c e) = dashes_compile_none (codes "f" ∷ []) chain c
 
 -- Lines and codes
 
@@ -118,6 +144,9 @@ line_of_usage = refl
 line_of_limit : note_text (status.Limit (limit.Bytes 12)) ≡ codes "odd: limit bytes file 12\n"
 unfolding digits
 line_of_limit = refl
+
+line_of_files : note_text (status.Limit limit.Files) ≡ codes "odd: limit files\n"
+line_of_files = refl
 
 line_of_nodes : note_text (status.Limit limit.Nodes) ≡ codes "odd: limit nodes\n"
 line_of_nodes = refl
@@ -176,51 +205,97 @@ holding bytes = map.from_entries ((codes "f", bytes) ∷ [])
 f_held : (bytes : List ℕ) → Held (holding bytes) (codes "f") bytes
 f_held bytes = map.get-from_entries nat_list_cmp_total ((codes "f", bytes) ∷ []) (codes "f")
 
-f_reads : (bytes : List ℕ) → length bytes ≤ 16777216 → Reads compile_f (holding bytes) bytes
-f_reads bytes short = record { file = codes "f"; compiles = f_compiles; held = f_held bytes; within = short }
+f_named : NamesFiles compile_f (gives (codes "f" ∷ []))
+f_named = reply.named f_compiles (omega arith)
+
+f_read : (bytes : List ℕ) → length bytes ≤ 16777216 → IsRead (holding bytes) (codes "f") bytes
+f_read bytes short = record { held = f_held bytes; within = short }
+
+-- where `f` gives no tree, the reply is why
+f_reached : (files : FileMap) → IsReached files (codes "f" ∷ []) 1 (codes "f")
+f_reached files = record { earlier = []; later = []; parts = refl; numbered = refl; trees = []; given = none }
+
+f_stops : (files : FileMap) (s : Status) → FileStops files (codes "f") 1 s → Reply compile_f files [] s
+f_stops files s stop = answered (inr (codes "f" ∷ [], f_named, inl (stops 1 (codes "f") (f_reached files) stop)))
+
+-- and no other file is reached
+f_alone : (files : FileMap) (chain : List (List ℕ)) (number : ℕ) (name : List ℕ) → Compiles compile_f chain → IsReached files chain number name → (number ≡ 1) × (name ≡ codes "f")
+f_alone files chain number name c r =
+    let only = only_item (codes "f") name r.earlier r.later (one_chain compile_f (codes "f" ∷ []) chain f_compiles c ∙ r.parts) in
+    (r.numbered ∙ ap (λ names. suc (length names)) only.0, only.1)
+
+-- where it gives one, the reply is what this comes to
+f_gives : (bytes : List ℕ) (t : Tree) → length bytes ≤ 16777216 → GivesTree bytes t → FileGives (holding bytes) (codes "f") t
+f_gives bytes t short given = record { bytes = bytes; is_read = f_read bytes short; given = given }
+
+f_answers : (bytes : List ℕ) (t : Tree) (s : Status) → length bytes ≤ 16777216 → GivesTree bytes t → TreesComeTo (t ∷ []) (answers s) → Reply compile_f (holding bytes) [] s
+f_answers bytes t s short given comes = answered (inr (codes "f" ∷ [], f_named, inr (t ∷ [], all_spelled (more (f_gives bytes t short given) none), comes)))
+
+f_done : (bytes text : List ℕ) (t : Tree) → length bytes ≤ 16777216 → GivesTree bytes t → TreesComeTo (t ∷ []) (gives text) → Reply compile_f (holding bytes) text status.Done
+f_done bytes text t short given comes = done (codes "f" ∷ [], f_named, (t ∷ [], all_spelled (more (f_gives bytes t short given) none), comes))
 
 -- no words are a usage over any shelf, and nothing is written
 usage_reply : (files : FileMap) → Reply [] files [] status.Usage
-usage_reply files = no_job no_words
+usage_reply files = answered (inl (no_job no_words))
 
 usage_writes_nothing : (files : FileMap) → Reply [] files (codes "x") status.Usage → ⊥
 usage_writes_nothing files h = elim h [ ]
 
 -- `compile f` is no usage
 job_is_no_usage : (files : FileMap) → Reply compile_f files [] status.Usage → ⊥
-job_is_no_usage files (no_job none) = none compile_job f_has_a_job
-job_is_no_usage files (refused bytes p f) = elim f [ ]
+job_is_no_usage files (answered w) = usage_of_words compile_f files w compile_job f_has_a_job
 
 -- a shelf without `f`
 not_held_reply : Reply compile_f map.empty [] (status.ReadFault 1)
-not_held_reply = no_file (codes "f") f_compiles (map.get-empty text_cmp (codes "f"))
+not_held_reply = f_stops map.empty (status.ReadFault 1) (not_held (map.get-empty text_cmp (codes "f")))
 
 -- another number is no reply
-not_held_is_file_one : (words : List (List ℕ)) (files : FileMap) → Reply words files [] (status.ReadFault 2) → ⊥
-not_held_is_file_one words files (refused bytes p f) = elim f [ ]
+not_held_is_file_one : (files : FileMap) → Reply compile_f files [] (status.ReadFault 2) → ⊥
+not_held_is_file_one files (answered (inl n)) = elim n [ ]
+not_held_is_file_one files (answered (inr (chain, reply.named c l, inr (ts, r, t)))) = of_trees ts (status.ReadFault 2) t
+not_held_is_file_one files (answered (inr (chain, reply.named c l, inl (stops number name r h)))) =
+    let of_two : 2 ≡ number = of_file files name number (status.ReadFault 2) h in
+    omega (arith, of_two, (f_alone files chain number name c r).0)
 
 -- the outside's other failures are no reply
 no_memory_is_no_reply : (words : List (List ℕ)) (files : FileMap) (text : List ℕ) → Reply words files text status.NoMemory → ⊥
-no_memory_is_no_reply words files text (refused bytes p f) = elim f [ ]
+no_memory_is_no_reply words files text (answered (inl n)) = elim n [ ]
+no_memory_is_no_reply words files text (answered (inr (chain, n, inl (stops number name r h)))) = elim h [ ]
+no_memory_is_no_reply words files text (answered (inr (chain, n, inr (ts, r, inl f)))) = elim f [ ]
+no_memory_is_no_reply words files text (answered (inr (chain, n, inr (ts, r, inr (us, f, inl m))))) = elim m [ ]
+no_memory_is_no_reply words files text (answered (inr (chain, n, inr (ts, r, inr (us, f, inr (library, m, h)))))) = elim h [ ]
 
 write_fault_is_no_reply : (words : List (List ℕ)) (files : FileMap) (text : List ℕ) → Reply words files text status.WriteFault → ⊥
-write_fault_is_no_reply words files text (refused bytes p f) = elim f [ ]
+write_fault_is_no_reply words files text (answered w) = elim (of_words words files status.WriteFault (λ number is. is) (λ is. is) w) [ ]
+
+-- 17 files are too many, and 16 are not
+too_many_reply : (chain : List (List ℕ)) (files : FileMap) → All IsFileWord chain → length chain ≡ 17 → Reply (codes "compile" ∷ chain) files [] (status.Limit limit.Files)
+too_many_reply chain files all e =
+    answered (inl (too_many chain (record { words_are = refl; some = λ empty. omega (arith, e, ap length empty); file_words = all }) (omega (arith, e))))
+
+most_files_are_read : (chain : List (List ℕ)) (files : FileMap) → length chain ≡ 16 → Reply (codes "compile" ∷ chain) files [] (status.Limit limit.Files) → ⊥
+most_files_are_read chain files e (answered w) = elim (of_words (codes "compile" ∷ chain) files (status.Limit limit.Files) (λ number is. is) (λ is. is) w) [
+  | too_many other c long ↦
+      let same : codes "compile" ∷ chain ≡ codes "compile" ∷ other = c.words_are in
+      let chains : chain ≡ other = cc in
+      omega (arith, long, e, ap length chains)
+]
 
 -- a file of 16,777,217 bytes is too long, and one of 16,777,216 is not
 too_long_reply : (bytes : List ℕ) → length bytes ≡ 16777217 → Reply compile_f (holding bytes) [] (status.Limit (limit.Bytes 1))
-too_long_reply bytes e = too_long (codes "f") bytes f_compiles (f_held bytes) (omega (arith, e))
+too_long_reply bytes e = f_stops (holding bytes) (status.Limit (limit.Bytes 1)) (too_long (bytes, f_held bytes, omega (arith, e)))
 
 longest_is_read : (bytes : List ℕ) → length bytes ≡ 16777216 → Reply compile_f (holding bytes) [] (status.Limit (limit.Bytes 1)) → ⊥
-longest_is_read bytes e (too_long file other c h long) =
-    let f_is : codes "f" ≡ file = same_Some (codes "f") file (ap (λ ws. slice_get ws 1) c.0) in
-    let same : bytes ≡ other = same_Some bytes other (sym (f_held bytes) ∙ ap (map.get (holding bytes)) f_is ∙ h) in
-    let short : length other ≡ 16777216 = sym (ap length same) ∙ e in
-    omega (arith, short, long)
-longest_is_read bytes e (refused c p f) = elim f [ ]
+longest_is_read bytes e (answered (inl n)) = elim n [ ]
+longest_is_read bytes e (answered (inr (chain, n, inr (ts, r, t)))) = of_trees ts (status.Limit (limit.Bytes 1)) t
+longest_is_read bytes e (answered (inr (chain, reply.named c l, inl (stops number name r (too_long (other, h, long)))))) =
+    let is_f = (f_alone (holding bytes) chain number name c r).1 in
+    let same : bytes ≡ other = same_Some bytes other (sym (f_held bytes) ∙ ap (map.get (holding bytes)) (sym is_f) ∙ h) in
+    omega (arith, long, e, ap length same)
 
 -- an empty file is not XML from its end on
 empty_reply : Reply compile_f (holding []) [] (status.NotXml 1 0)
-empty_reply = refused [] (f_reads [] (omega arith)) (not_xml 0 empty_not_xml)
+empty_reply = f_stops (holding []) (status.NotXml 1 0) (not_xml [] (f_read [] (omega arith)) empty_not_xml)
 
 -- The smallest file that declares an element, and the schema that is its reply.
 
@@ -283,15 +358,15 @@ element_read = IsEntryOf.spec (record {
 one_element_declares : Declares root_tree one_doc
 one_element_declares =
     declares (codes "s") (codes "a") root_tree (element_tree ∷ []) _ (root_named (element_tree ∷ [])) refl (elements_are (element_tree ∷ []))
-    (found_first _ element_tree [] (found_through _ element_tree [] [] refl refl search.nothing)) refl
-    (none_held _ element_tree [] refl (plain _ _ refl (λ _. refl)) tt, tt) (bare_is_sound (codes "a") _ element_tree element_named refl, tt)
+    (found_first _ element_tree [] (found_through _ element_tree [] [] refl refl search.nothing))
+    (none_held _ element_tree [] refl (plain _ _ refl) tt, tt) (bare_is_sound (codes "a") _ element_tree element_named refl, tt)
     (λ one. few (IsSpecOf one) (element_tree ∷ []) (omega arith)) (entry_more _ element_tree [] _ [] element_read (no_entries _)) (few_rise _ (omega arith))
 
 -- over no library, what it adds is not chosen
 added_sound : (before : Library) (rule : ℕ) → IsLibraryAfter [] before → ItemFault before one_doc (entry.Spec 68 element_spec) rule → ⊥
 added_sound before rule is (ItemFault.reference f) = elim f [ ]
 added_sound before rule is (ItemFault.spec (SpecFault.chosen added chosen)) = let none : None ≡ Some chosen.part = sym (is.holds a_key) ∙ chosen.held in cc
-added_sound before rule is (ItemFault.spec (SpecFault.not_chosen other none)) = other refl
+added_sound before rule is (ItemFault.spec (SpecFault.not_chosen other nothing)) = other refl
 
 one_element_sound : (place rule : ℕ) → OffendsAlone one_doc place rule → ⊥
 one_element_sound place rule o =
@@ -305,15 +380,8 @@ one_element_held key = held (eq_by_cmp key_cmp key a_key)
     held true = refl
     held false = refl
 
-one_element_gives : Gives one_element one_library
-one_element_gives = record {
-  tree = root_tree;
-  given = one_element_read;
-  doc = one_doc;
-  declared = one_element_declares;
-  unoffended = one_element_sound;
-  is_library = record { ident = refl; start = refl; rising = refl; holds = one_element_held };
-}
+one_element_gives : Gives (root_tree ∷ []) one_library
+one_element_gives = gives_alone root_tree one_doc one_library one_element_declares one_element_sound (record { ident = refl; start = refl; rising = refl; holds = one_element_held })
 
 a_is_held : (word : List ℕ) → StandsIn (codes "a" ∷ []) word → map.find key_cmp (element_key word) one_library.parts ≡ None → ⊥
 a_is_held word s = each_such (λ w. map.find key_cmp (element_key w) one_library.parts ≡ None → ⊥) (codes "a" ∷ []) word ((λ missing. cc), tt) s
@@ -368,8 +436,13 @@ two_nodes =
 a_schema : IsSchema one_library (codes "a" ∷ []) a_grammar
 a_schema = record { holds_start = a_is_held; is_grammar = a_grammar_is; within = λ large. elim large [ inl h ↦ let no : ⊥ = omega (arith, h, six_elements) in no | inr h ↦ let no : ⊥ = omega (arith, h, two_nodes) in no ] }
 
+one_element_read_whole : ReadsForms (root_tree ∷ []) (gives (root_tree ∷ []))
+one_element_read_whole = all_read (all_read_alone root_tree one_element_declares.all_read)
+
 done_reply : Reply compile_f (holding one_element) schema status.Done
-done_reply = done one_element one_library a_grammar (f_reads one_element (omega arith)) one_element_gives a_schema (ap file_printed (sym markup_is))
+done_reply =
+    f_done one_element schema root_tree (omega arith) one_element_read
+    (root_tree ∷ [], one_element_read_whole, (one_library, merged one_element_gives a_is_held, reply.schema a_grammar a_schema (ap file_printed (sym markup_is))))
 
 -- the same file has no other status
 done_is_not_refused : (text : List ℕ) → Reply compile_f (holding one_element) text (status.NotYet 1) → ⊥
@@ -387,17 +460,13 @@ no_element_read = literal_gives no_element _ (root_of []) refl refl (refl, refl)
 abbrev empty_library : Library
 empty_library = record { ident = codes "s"; start = codes "a" ∷ []; parts = [] }
 
-no_element_gives : Gives no_element empty_library
-no_element_gives = record {
-  tree = root_of [];
-  given = no_element_read;
-  doc = record { ident = codes "s"; start = codes "a" ∷ []; entries = [] };
-  declared =
-      declares (codes "s") (codes "a") (root_of []) [] [] (root_named []) refl refl search.nothing refl tt tt (λ one. few (IsSpecOf one) [] (omega arith)) (no_entries _)
-      (few_rise [] (omega arith));
-  unoffended = λ place rule o. nothing_stands o.2.item o.2.stands;
-  is_library = record { ident = refl; start = refl; rising = refl; holds = λ key. refl };
-}
+no_element_declares : Declares (root_of []) (record { ident = codes "s"; start = codes "a" ∷ []; entries = [] })
+no_element_declares =
+    declares (codes "s") (codes "a") (root_of []) [] [] (root_named []) refl refl search.nothing tt tt (λ one. few (IsSpecOf one) [] (omega arith)) (no_entries _) (few_rise [] (omega arith))
+
+no_element_gives : Gives (root_of [] ∷ []) empty_library
+no_element_gives =
+    gives_alone (root_of []) _ empty_library no_element_declares (λ place rule o. nothing_stands o.2.item o.2.stands) (record { ident = refl; start = refl; rising = refl; holds = λ key. refl })
 
 a_is_least : IsLeastMissing empty_library empty_library.start (codes "a")
 a_is_least = record {
@@ -407,7 +476,9 @@ a_is_least = record {
 }
 
 refused_reply : Reply compile_f (holding no_element) [] (status.Refused (record { file = 1; who = who.Start (codes "a"); rule = 20 }))
-refused_reply = refused no_element (f_reads no_element (omega arith)) (start_missing (codes "a") empty_library no_element_gives a_is_least refl)
+refused_reply =
+    f_answers no_element (root_of []) _ (omega arith) no_element_read
+    (inr (root_of [] ∷ [], all_read (all_read_alone (root_of []) no_element_declares.all_read), inl (start_missing (codes "a") empty_library no_element_gives a_is_least)))
 
 -- With a `p` in place of its element it is refused at the place of the `p`.
 
@@ -430,8 +501,8 @@ offending_schema =
 
 one_p_held : HoldsNone outermost offending_tree
 one_p_held =
-    none_held _ offending_tree (p_tree ∷ []) (elements_are (p_tree ∷ [])) (plain _ _ refl (λ _. refl))
-    (none_held _ p_tree [] refl (plain _ _ refl (λ _. refl)) tt, tt)
+    none_held _ offending_tree (p_tree ∷ []) (elements_are (p_tree ∷ [])) (plain _ _ refl)
+    (none_held _ p_tree [] refl (plain _ _ refl) tt, tt)
 
 -- the `p` may not stand there
 p_offends : HasOffence offending_tree 68 3
@@ -460,7 +531,9 @@ p_refusal = record {
 }
 
 offending_reply : Reply compile_f (holding one_p) [] (status.Refused p_offence)
-offending_reply = refused one_p (f_reads one_p (omega arith)) (offends offending_tree one_p_read (of_form p_refusal))
+offending_reply =
+    f_answers one_p offending_tree _ (omega arith) one_p_read
+    (inr (offending_tree ∷ [], all_read (all_read_alone offending_tree p_refusal.is_one.all_read), inl (refused (refused_alone offending_tree p_offence p_refusal))))
 
 -- and it has no other status
 offending_has_one : (text : List ℕ) (s : Status) → Reply compile_f (holding one_p) text s → s ≡ status.Refused p_offence
@@ -494,4 +567,23 @@ reference_pending =
     (in_child _ _ _ (elements_are (reference_tree ∷ [])) (pending.here (pending.members refl refl)))))
 
 not_yet_reply : Reply compile_f (holding one_reference) [] (status.NotYet 1)
-not_yet_reply = refused one_reference (f_reads one_reference (omega arith)) (not_yet (root_of (holder_tree ∷ [])) one_reference_read reference_pending)
+not_yet_reply = f_answers one_reference (root_of (holder_tree ∷ [])) _ (omega arith) one_reference_read (inl (not_yet (pending_alone _ reference_pending)))
+
+-- A second file that is not held, after a first that is spelled.
+
+g_not_held : (bytes : List ℕ) → NotHeld (holding bytes) (codes "g")
+g_not_held bytes = map.get-from_entries nat_list_cmp_total ((codes "f", bytes) ∷ []) (codes "g")
+
+g_reached : IsReached (holding one_element) (codes "f" ∷ codes "g" ∷ []) 2 (codes "g")
+g_reached = record {
+  earlier = codes "f" ∷ [];
+  later = [];
+  parts = refl;
+  numbered = refl;
+  trees = root_tree ∷ [];
+  given = more (f_gives one_element root_tree (omega arith) one_element_read) none;
+}
+
+second_not_held : Reply compile_f_g (holding one_element) [] (status.ReadFault 2)
+second_not_held =
+    answered (inr (codes "f" ∷ codes "g" ∷ [], reply.named f_g_compiles (omega arith), inl (stops 2 (codes "g") g_reached (not_held (g_not_held one_element)))))

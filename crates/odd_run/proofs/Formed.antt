@@ -1,6 +1,7 @@
--- The library that a file gives is formed: its keys are those of elements, their idents are names, their texts are of XML's characters, and their bounds are in order.
-use Rattle.std.proofs.Common.{◌≡◌, ℕ, List, [], ◌∷◌, Option, Some, None, refl, sym, ap, subst, ◌∙◌}
-use Rattle.std.proofs.lemmas.List.Elements.{All-nil}
+-- The library that files give is formed: its keys are those of elements, their idents are names, their texts are of XML's characters, and their bounds are in order.
+use Rattle.std.proofs.Common.{◌≡◌, ℕ, List, [], ◌∷◌, Option, Some, None, refl, sym, subst}
+use Rattle.std.proofs.lemmas.List.Elements.{All-nil, All-cons}
+use Rattle.std.specs.Option.{IfSome}
 use Rattle.std.specs.Prelude.{All, codes, unwrap_or}
 use Rattle.odd_base.specs.declared.key.Key.{Key}
 use Rattle.odd_base.specs.declared.key.Kind.TheVariants as kind
@@ -8,90 +9,147 @@ use Rattle.odd_base.specs.declared.name.Bind.{Bind}
 use Rattle.odd_tokens.proofs.Legal.{ascii_legal}
 use Rattle.odd_tokens.specs.Characters.{IsLegal, IsNCName}
 use Rattle.odd_reader.specs.Elements.{StandsIn, given, children_of, within}
-use Rattle.odd_reader.specs.Formed.{IsFormed as IsFormedTree, IsFormedTag}
+use Rattle.odd_reader.specs.Formed.{IsFormedTag}
 use Rattle.odd_reader.specs.declared.tree.Tree.{Tree}
-use Rattle.odd_reader.proofs.InList.{stands_first}
+use Rattle.odd_reader.proofs.FormedBindings.{BindLegally}
+use Rattle.odd_reader.proofs.InList.{stands_first, stands_later}
 use Rattle.odd_forms.specs.Names.{tei_namespace}
 use Rattle.odd_content.specs.declared.content.Content.{Content}
 use Rattle.odd_content.specs.declared.content.Content.TheVariants as content
-use Rattle.odd_decls.specs.Declares.{Declares, GivesContent, mode_given, namespace_given, namespace_in}
-use Rattle.odd_modes.specs.After.{IsLibraryAfter}
-use Rattle.odd_decls.specs.Odd.{element_key}
+use Rattle.odd_decls.specs.Declares.{Declares, GivesContent, IsEntryOf, IsReadAs, mode_given, namespace_given, namespace_in}
+use Rattle.odd_decls.specs.Library.{component_of}
 use Rattle.odd_decls.specs.Offences.{IsSpecOf, ItemFault, ItemOffends, Offends}
 use Rattle.odd_decls.specs.declared.library.Component.{Component}
+use Rattle.odd_decls.specs.declared.library.Component.TheVariants as component
 use Rattle.odd_decls.specs.declared.library.Library.{Library}
+use Rattle.odd_decls.specs.declared.odd.Entry.TheVariants as entry
 use Rattle.odd_decls.specs.declared.odd.OddDoc.{OddDoc}
 use Rattle.odd_decls.specs.declared.spec.Mode.{Mode}
 use Rattle.odd_decls.specs.declared.spec.Mode.TheVariants as mode
+use Rattle.odd_decls.specs.declared.spec.Spec.{Spec}
 use Rattle.odd_decls.proofs.FoundFormed.{IsFormedSomewhere, found_formed}
+use Rattle.odd_modes.proofs.Held.{EachSpec, held_from}
+use Rattle.odd_modes.specs.After.{laid_over}
+use Rattle.odd_chain.specs.Files.{AreDeclared, Gives}
 use Rattle.compile_core.specs.Conditions.{conditions_in}
 use Rattle.compile_core.specs.OrderedBounds.{AreBoundsOrdered}
-use Rattle.compile_core.specs.Schema.{IsFormed, IsFormedCondition, IsFormedPart}
-use Rattle.odd_reader.proofs.FormedBindings.{BindLegally}
+use Rattle.compile_core.specs.Schema.{IsFormed, IsFormedCondition, IsFormedElement, IsFormedPart}
 use Rattle.odd_run.proofs.AroundLegal.{around_legal}
 use Rattle.odd_run.proofs.BoundsOrdered.{bounds_ordered}
 use Rattle.odd_run.proofs.ConditionsFormed.{conditions_formed}
-use Rattle.odd_run.proofs.GivenLegal.{child_formed, legal_given, legal_or, tag_formed, within_legal}
-use Rattle.odd_run.proofs.Held.{IsHeld, held_item}
+use Rattle.odd_run.proofs.GivenLegal.{child_formed, legal_given, tag_formed, within_legal}
 
 -- a content whose conditions are formed, and whose bounds are in order
 abbrev IsFormedContent : Content → Type 0
 IsFormedContent c = All IsFormedCondition (conditions_in c) × AreBoundsOrdered c
 
+-- a key of an element, whose ident is a name
+abbrev IsFormedKey : Key → Type 0
+IsFormedKey key = (key.kind ≡ kind.Element) × IsNCName key.ident
+
+-- what a spec gives is formed
+record IsFormedSpec (spec : Spec) : Type 0 where
+  key : IsFormedKey spec.key
+  ns : IfSome spec.ns IsLegal
+  content : IfSome spec.content IsFormedContent
+
+-- what is held at a key is formed
+abbrev IsFormedAt : Key → Component → Type 0
+IsFormedAt key part = (key.kind ≡ kind.Element) × IsNCName key.ident × IsFormedPart part
+
+-- what is given, or else a default
+given_or : {A : Type 0} (P : A → Type 0) (o : Option A) (default : A) → IfSome o P → P default → P (unwrap_or o default)
+given_or P None default given h = h
+given_or P (Some value) default given h = given
+
+-- a formed spec over a legal namespace and a formed content
+laid_formed : (spec : Spec) (m ns : List ℕ) (c : Content) → IsFormedSpec spec → IsLegal ns → IsFormedContent c
+    → IsFormedElement (record { «module» = m; ns = unwrap_or spec.ns ns; content = unwrap_or spec.content c })
+laid_formed spec m ns c f legal formed =
+    let both = given_or IsFormedContent spec.content c f.content formed in
+    record { legal = given_or IsLegal spec.ns ns f.ns legal; conditions = both.0; ordered = both.1 }
+
+-- as a component
+made_formed : (spec : Spec) → IsFormedSpec spec → IsFormedAt spec.key (component_of spec)
+made_formed spec f =
+    (f.key.0, f.key.1, laid_formed spec spec.«module» tei_namespace content.Empty f (ascii_legal tei_namespace refl) (All-nil IsFormedCondition, tt))
+
+-- laid over a component
+over_formed : (key : Key) (part : Component) (spec : Spec) → IsFormedSpec spec → IsFormedAt key part → IsFormedAt key (laid_over part spec)
+over_formed key (component.Element part) spec f h =
+    (h.0, h.1, laid_formed spec part.«module» part.ns part.content f h.2.legal (h.2.conditions, h.2.ordered))
+
+-- the namespace that an element gives
+ns_legal : (t : Tree) → IsFormedTag t → IfSome (given t (codes "ns")) IsLegal
+ns_legal t f = by (given t (codes "ns")) (λ v e. legal_given t (codes "ns") v f e)
+  where
+    by : (o : Option (List ℕ)) → ((value : List ℕ) → o ≡ Some value → IsLegal value) → IfSome o IsLegal
+    by None legal = tt
+    by (Some value) legal = legal value refl
+
 -- the namespace of an element in documents
 legal_namespace : (schema item : Tree) → IsFormedTag schema → IsFormedTag item → IsLegal (namespace_given schema item)
 legal_namespace schema item f g =
-    legal_or (given item (codes "ns")) _ (λ v e. legal_given item (codes "ns") v g e)
-    (legal_or (given schema (codes "ns")) tei_namespace (λ v e. legal_given schema (codes "ns") v f e) (ascii_legal tei_namespace refl))
+    given_or IsLegal (given item (codes "ns")) _ (ns_legal item g) (given_or IsLegal (given schema (codes "ns")) tei_namespace (ns_legal schema f) (ascii_legal tei_namespace refl))
 
--- the one that a declaration gives, or TEI's
-legal_in : (m : Mode) (schema item : Tree) → IsFormedTag schema → IsFormedTag item → IsLegal (unwrap_or (namespace_in m schema item) tei_namespace)
+-- the one that a declaration gives
+legal_in : (m : Mode) (schema item : Tree) → IsFormedTag schema → IsFormedTag item → IfSome (namespace_in m schema item) IsLegal
 legal_in mode.Add schema item f g = legal_namespace schema item f g
 legal_in mode.Replace schema item f g = legal_namespace schema item f g
-legal_in mode.Change schema item f g = legal_or (given item (codes "ns")) tei_namespace (λ v e. legal_given item (codes "ns") v g e) (ascii_legal tei_namespace refl)
-legal_in mode.Delete schema item f g = legal_or (given item (codes "ns")) tei_namespace (λ v e. legal_given item (codes "ns") v g e) (ascii_legal tei_namespace refl)
+legal_in mode.Change schema item f g = ns_legal item g
+legal_in mode.Delete schema item f g = ns_legal item g
 
 -- what an item of a file declares
-module _ (first end : ℕ) (t : Tree) (doc : OddDoc) (formed : IsFormedTree first end t) (d : Declares t doc) where
+module _ (t : Tree) (doc : OddDoc) (formed : IsFormedSomewhere t) (d : Declares t doc) where
   -- the `schemaSpec`
   schema_formed : IsFormedSomewhere d.first.schema
-  schema_formed = found_formed [] t (d.first ∷ []) first end formed d.found d.first (stands_first d.first [])
+  schema_formed = found_formed [] t (d.first ∷ []) formed.0 formed.1 formed.2 d.found d.first (stands_first d.first [])
 
   -- the declarations in force in it
   schema_legal : BindLegally (within d.first.around d.first.schema)
-  schema_legal = within_legal d.first.around
-      (around_legal d.found (All-nil (λ (b : Bind). IsLegal b.ns)) (first, end, formed) d.first (stands_first d.first [])) schema_formed.2
+  schema_legal = within_legal d.first.around (around_legal d.found (All-nil (λ (b : Bind). IsLegal b.ns)) formed d.first (stands_first d.first [])) schema_formed.2
 
   -- an item breaks nothing
-  item_unbroken : (item : Tree) (ident : List ℕ) → StandsIn (children_of d.first.schema) item → IsSpecOf ident item
-      → (rule : ℕ) → ItemFault (within d.first.around d.first.schema) item rule → ⊥
-  item_unbroken item ident s is rule f =
+  item_unbroken : (item : Tree) → StandsIn (children_of d.first.schema) item → (rule : ℕ) → ItemFault (within d.first.around d.first.schema) item rule → ⊥
+  item_unbroken item s rule f =
       d.unoffended _ rule (record { first = d.first; others = []; found = d.found; offends = Offends.items (ItemOffends.alone item s f refl) })
 
   -- the content that an item gives
   content_formed : (item : Tree) (ident : List ℕ) → StandsIn (children_of d.first.schema) item → IsSpecOf ident item → (o : Option Content)
-      → GivesContent (within d.first.around d.first.schema) item o → IsFormedContent (unwrap_or o content.Empty)
-  content_formed item ident s is None (GivesContent.none h) = (All-nil IsFormedCondition, tt)
+      → GivesContent (within d.first.around d.first.schema) item o → IfSome o IsFormedContent
+  content_formed item ident s is None (GivesContent.none h) = tt
   content_formed item ident s is (Some c) (GivesContent.some child among content of) =
       let around = within d.first.around d.first.schema in
       let item_formed = child_formed schema_formed.2 item s in
       let f = child_formed item_formed.2 child among in (
         conditions_formed (within around item) child f.0 f.1 c (within_legal around schema_legal item_formed.2) f.2 of,
-        bounds_ordered (within around item) child c of (λ rule k. item_unbroken item ident s is rule (ItemFault.content child is.0 among content k)),
+        bounds_ordered (within around item) child c of (λ rule k. item_unbroken item s rule (ItemFault.content child is.0 among content k)),
       )
 
-  -- what is held at a key is formed
-  held_formed : (key : Key) (part : Component) → IsHeld d.first key part → (key.kind ≡ kind.Element) × IsNCName key.ident × IsFormedPart part
-  held_formed key part h =
-      let key_made : element_key h.read.ident ≡ key = sym h.read.key ∙ h.key_is in
-      let legal = legal_in (mode_given h.item) d.first.schema h.item (tag_formed schema_formed.2)
-      (tag_formed (child_formed schema_formed.2 h.item h.stands).2) in
-      let c = content_formed h.item h.read.ident h.stands h.read.is_spec h.made.content h.read.content in (
-        sym (ap (λ (k : Key). k.kind) key_made),
-        subst (λ (k : Key). IsNCName k.ident) key_made h.read.is_spec.2,
-        subst IsFormedPart h.part_is (record { legal = subst (λ o. IsLegal (unwrap_or o tei_namespace)) (sym h.read.ns) legal; conditions = c.0; ordered = c.1 }),
-      )
+  -- an item that is read as a spec
+  read_formed : (item : Tree) (made : Spec) → StandsIn (children_of d.first.schema) item → IsReadAs d.first item made → IsFormedSpec made
+  read_formed item made s r = record {
+    key = subst IsFormedKey (sym r.key) (refl, r.is_spec.2);
+    ns = subst (λ o. IfSome o IsLegal) (sym r.ns)
+        (legal_in (mode_given item) d.first.schema item (tag_formed schema_formed.2) (tag_formed (child_formed schema_formed.2 item s).2));
+    content = content_formed item r.ident s r.is_spec made.content r.content;
+  }
 
-pub library_formed : (first end : ℕ) (t : Tree) (doc : OddDoc) (library : Library) → IsFormedTree first end t → Declares t doc → IsLibraryAfter (doc ∷ []) library → IsFormed library
-library_formed first end t doc library f d l =
-    record { rising = l.rising; formed = λ key part e. held_formed first end t doc f d key part (held_item t doc library d l key part e) }
+  -- each spec is read from an item
+  spec_formed : EachSpec IsFormedSpec doc
+  spec_formed at made s = let from = d.is_doc.entries.none_else (entry.Spec at made) s in read_formed from.0 made from.1 (read_as from.0 at made from.2)
+    where
+      read_as : (item : Tree) (at : ℕ) (made : Spec) → IsEntryOf d.first item (entry.Spec at made) → IsReadAs d.first item made
+      read_as item at made (IsEntryOf.spec r) = r
+
+-- what formed files declare
+each_formed : {trees : List Tree} {docs : List OddDoc} → AreDeclared trees docs → ((t : Tree) → StandsIn trees t → IsFormedSomewhere t) → All (EachSpec IsFormedSpec) docs
+each_formed AreDeclared.none formed = All-nil (EachSpec IsFormedSpec)
+each_formed (AreDeclared.more {t = t} {trees = trees} {doc = doc} {docs = docs} d later) formed =
+    All-cons (EachSpec IsFormedSpec) doc docs (spec_formed t doc (formed t (stands_first t trees)) d) (each_formed later (λ u s. formed u (stands_later t u trees s)))
+
+pub library_formed : (trees : List Tree) (library : Library) → ((t : Tree) → StandsIn trees t → IsFormedSomewhere t) → Gives trees library → IsFormed library
+library_formed trees library formed g = record {
+  rising = g.is_library.rising;
+  formed = held_from IsFormedSpec IsFormedAt made_formed over_formed g.docs library g.is_library (each_formed g.declared formed);
+}

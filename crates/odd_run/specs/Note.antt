@@ -30,6 +30,7 @@ who_text file (who.Asked ident) = codes "explain " ++ ident
 abbrev pub limit_text : LimitKind → List ℕ
 limit_text (limit.Bytes file) = codes "odd: limit bytes file " ++ decimal file ++ codes "\n"
 limit_text (limit.Depth file at) = codes "odd: limit depth file " ++ decimal file ++ codes " byte " ++ decimal at ++ codes "\n"
+limit_text limit.Files = codes "odd: limit files\n"
 limit_text limit.Nodes = codes "odd: limit nodes\n"
 
 -- Done has no line

@@ -1,5 +1,5 @@
 -- Which words have a job.
-use Rattle.std.specs.Prelude.{◌≡◌, ◌≢◌, ℕ, false, List, [], ◌∷◌, codes}
+use Rattle.std.specs.Prelude.{◌≡◌, ◌≢◌, ℕ, All, false, List, [], ◌∷◌, codes, length}
 use Rattle.odd_run.specs.declared.words.Command.TheVariants as command
 use Rattle.odd_run.specs.declared.words.Job.{Job}
 
@@ -7,11 +7,12 @@ use Rattle.odd_run.specs.declared.words.Job.{Job}
 abbrev pub IsFileWord : List ℕ → Type 0
 IsFileWord word = word ≢ codes "--"
 
--- the words ask for the schema of the file
-abbrev pub Compiles : List (List ℕ) → List ℕ → Type 0
-Compiles words file = (words ≡ codes "compile" ∷ file ∷ []) × IsFileWord file
+-- the words ask for the schema of a chain: `compile`, and one or more file words
+pub record Compiles (words chain : List (List ℕ)) : Type 0 where
+  pub words_are : words ≡ codes "compile" ∷ chain
+  pub some : chain ≢ []
+  pub file_words : All IsFileWord chain
 
--- `compile` and a file word
 pub data WordsMean : List (List ℕ) → Job → Type 0 where
-  compile : {words : List (List ℕ)} {job : Job} (file : List ℕ) → Compiles words file
-      → job ≡ record { command = command.Compile; aside = false; files = 1; number = 0 } → WordsMean words job
+  compile : {words : List (List ℕ)} {job : Job} (chain : List (List ℕ)) → Compiles words chain
+      → job ≡ record { command = command.Compile; aside = false; files = length chain; number = 0 } → WordsMean words job

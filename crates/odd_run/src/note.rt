@@ -33,6 +33,7 @@ fn write_limit<N: Sink>(note: &mut N, kind: &LimitKind) -> Result<(), SinkFault>
             say_number(note, *at)?;
             say(note, "\n")
         }
+        LimitKind::Files => say(note, "odd: limit files\n"),
         LimitKind::Nodes => say(note, "odd: limit nodes\n"),
     }
 }

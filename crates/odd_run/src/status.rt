@@ -7,6 +7,8 @@ use odd_base::Offence;
 pub enum LimitKind {
     /// A file has more than 16,777,216 bytes.
     Bytes { file: u32 },
+    /// The chain has more than 16 files.
+    Files,
     /// A file has over 200 levels of elements: the byte where the tag begins that opens the 201st.
     Depth { file: u32, at: u64 },
     /// The schema has more than 1,000,000 elements, or more than 4,000,000 nodes after linking.

@@ -1,5 +1,5 @@
-ghost use Rattle.std.specs.Prelude.{◌≡◌, ◌↔◌, IsTrue, IfSome, IfNone, IsNone};
-ghost use Rattle.odd_run.specs.Words.{WordsMean};
+ghost use Rattle.std.specs.Prelude.{◌≡◌, ◌↔◌, All, IsTrue, IfSome, IfNone, IsNone};
+ghost use Rattle.odd_run.specs.Words.{IsFileWord, WordsMean};
 
 use odd_base::{Text, Words};
 
@@ -26,18 +26,26 @@ fn is_word(word: &Text, text: &str) -> bool
     word.as_str() == text
 }
 
+// Whether all words are file words.
+fn are_files(words: &[Text]) -> bool
+    ensures { IsTrue result ↔ All IsFileWord words.now }
+{
+    words.iter().all(|word| !is_word(word, "--"))
+}
+
 /// The job of the words, where they have one.
 pub fn read_words(words: &Words) -> Option<Job>
     ensures job { IfSome result (WordsMean words.now) }
     ensures none { IsNone result → (job : Job) → WordsMean words.now job → ⊥ }
 {
-    match words.as_slice() {
-        [command, file] if is_word(command, "compile") && !is_word(file, "--") => Some(Job {
-            command: Command::Compile,
-            aside: false,
-            files: 1,
-            number: 0,
-        }),
-        _ => None,
+    let (command, chain) = words.as_slice().split_first()?;
+    if !is_word(command, "compile") || chain.is_empty() || !are_files(chain) {
+        return None;
     }
+    Some(Job {
+        command: Command::Compile,
+        aside: false,
+        files: chain.len(),
+        number: 0,
+    })
 }

@@ -1,39 +1,61 @@
-use Rattle.std.proofs.Common.{ap, Err}
-use Rattle.odd_run.specs.Reply.{no_job, too_long}
-use Rattle.odd_run.proofs.Replies.{schema_replies, refusal_replies, no_job_but, no_usage}
+use Rattle.std.proofs.Common.{◌≡◌, Err, ap, inl, subst}
+use Rattle.odd_run.specs.Reading.{IsOfFile}
+use Rattle.odd_run.specs.Reply.{answered}
+use Rattle.odd_run.specs.declared.status.Status.TheVariants as status
+use Rattle.odd_run.proofs.Answering.{begun_on_err, begun_stopped, fault_placed, few_read, named_compile, named_job, named_usage, on_any, status_comes, stop_comes, text_accepts, text_comes, trees_not, usage_named}
 use Rattle.odd_run.proofs.running.reply_text.Goals as goal
 
-pub returns-in_default-clause-err : goal.returns-in_default-clause-err
-returns-in_default-clause-err g c = λ files h replied. no_job c.in_default.ensures
+pub schema_of_chain-requires : goal.schema_of_chain-requires
+schema_of_chain-requires g c = few_read _ c.args.words.now c.in-Ok.names.now c.in-Ok-read_chain.chain c.in-Ok.ensures.ok c.in-Ok-read_chain.ensures.ok
 
-pub returns-in-Ok-clause-ok : goal.returns-in-Ok-clause-ok
-returns-in-Ok-clause-ok g c = λ files h.
-    schema_replies c.args.words.now files c.in-Ok.bytes
-    (record { file = c.in-Some.name.now; compiles = c.in-Some.ensures; held = c.in-Ok.ensures.ok files h; within = c.in-Ok.ensures.within })
-    c.schema_of_file.result c.schema_of_file.ensures.ok
+pub returns-in-Err-clause-err : goal.returns-in-Err-clause-err
+returns-in-Err-clause-err g c = λ files h replied. answered (inl c.in-Err.ensures.err)
 
-pub returns-in-Ok-clause-err : goal.returns-in-Ok-clause-err
-returns-in-Ok-clause-err g c = λ files h.
-    refusal_replies c.args.words.now files c.in-Ok.bytes
-    (record { file = c.in-Some.name.now; compiles = c.in-Some.ensures; held = c.in-Ok.ensures.ok files h; within = c.in-Ok.ensures.within })
-    c.schema_of_file.result c.schema_of_file.ensures.err
+pub returns-in-Err-clause-usage : goal.returns-in-Err-clause-usage
+returns-in-Err-clause-usage g c = (λ is. usage_named c.args.words.now c.in-Err.status c.in-Err.ensures.err (cc), λ none. ap Err (named_usage c.args.words.now c.in-Err.status c.in-Err.ensures.err none))
 
-pub returns-in-Err-TooLong-clause-err : goal.returns-in-Err-TooLong-clause-err
-returns-in-Err-TooLong-clause-err g c = λ files h replied.
-    let long = c.in-Err-TooLong.ensures.too_long files h (ap Err c.in-Err-TooLong.field-0-is) in
-    too_long c.in-Some.name.now long.0 c.in-Some.ensures long.1 long.2
+pub returns-in-Ok-read_chain-clause-ok : goal.returns-in-Ok-read_chain-clause-ok
+returns-in-Ok-read_chain-clause-ok g c = λ files h.
+    text_comes _ c.args.words.now c.in-Ok.names.now c.in-Ok-read_chain.chain c.in-Ok.ensures.ok c.in-Ok-read_chain.ensures.ok files h c.schema_of_chain.result c.schema_of_chain.ensures.ok
 
-pub returns-in-Ok-clause-usage : goal.returns-in-Ok-clause-usage
-returns-in-Ok-clause-usage g c = (
-  λ is. absurd (no_usage c.in-Ok.bytes c.schema_of_file.result c.schema_of_file.ensures.err is),
-  λ none. absurd (no_job_but c.args.words.now c.in-Some.name.now none c.in-Some.ensures),
+pub returns-in-Ok-read_chain-clause-accepts : goal.returns-in-Ok-read_chain-clause-accepts
+returns-in-Ok-read_chain-clause-accepts g c = λ files h.
+    text_accepts _ c.args.words.now c.in-Ok.names.now c.in-Ok-read_chain.chain c.in-Ok.ensures.ok c.in-Ok-read_chain.ensures.ok files h c.schema_of_chain.result c.schema_of_chain.ensures.accepts
+
+pub returns-in-Ok-read_chain-clause-err : goal.returns-in-Ok-read_chain-clause-err
+returns-in-Ok-read_chain-clause-err g c = λ files h.
+    status_comes _ c.args.words.now c.in-Ok.names.now c.in-Ok-read_chain.chain c.in-Ok.ensures.ok c.in-Ok-read_chain.ensures.ok files h c.schema_of_chain.result c.schema_of_chain.ensures.err
+
+pub returns-in-Ok-read_chain-clause-usage : goal.returns-in-Ok-read_chain-clause-usage
+returns-in-Ok-read_chain-clause-usage g c = (
+  λ is. absurd (trees_not c.schema_of_chain.result status.Usage (λ of. of) c.schema_of_chain.ensures.of_trees is),
+  λ none. absurd (named_job c.args.words.now c.in-Ok.names.now c.in-Ok.ensures.ok none),
 )
 
-pub returns-in-Err-ReadFault-clause-usage : goal.returns-in-Err-ReadFault-clause-usage
-returns-in-Err-ReadFault-clause-usage g c = (λ is. cc, λ none. absurd (no_job_but c.args.words.now c.in-Some.name.now none c.in-Some.ensures))
+pub returns-in-Ok-read_chain-clause-begins_err : goal.returns-in-Ok-read_chain-clause-begins_err
+returns-in-Ok-read_chain-clause-begins_err g c =
+    begun_on_err c.args.words.now c.in-Ok.names.now c.in-Ok.ensures.ok _ _ c.schema_of_chain.result c.in-Ok-read_chain.ensures.begins c.schema_of_chain.ensures.of_trees
 
-pub returns-in-Err-TooLong-clause-usage : goal.returns-in-Err-TooLong-clause-usage
-returns-in-Err-TooLong-clause-usage g c = (λ is. cc, λ none. absurd (no_job_but c.args.words.now c.in-Some.name.now none c.in-Some.ensures))
+pub returns-in-Err-read_chain-clause-err : goal.returns-in-Err-read_chain-clause-err
+returns-in-Err-read_chain-clause-err g c = λ files h.
+    stop_comes files c.args.words.now c.in-Ok.names.now c.in-Err-read_chain.status c.in-Ok.ensures.ok (c.in-Err-read_chain.ensures.err files h)
 
-pub returns-in-Err-NoMemory-clause-usage : goal.returns-in-Err-NoMemory-clause-usage
-returns-in-Err-NoMemory-clause-usage g c = (λ is. cc, λ none. absurd (no_job_but c.args.words.now c.in-Some.name.now none c.in-Some.ensures))
+pub returns-in-Err-read_chain-clause-begins_err : goal.returns-in-Err-read_chain-clause-begins_err
+returns-in-Err-read_chain-clause-begins_err g c = begun_stopped c.args.words.now c.in-Ok.names.now c.in-Ok.ensures.ok _ _ c.in-Err-read_chain.status c.in-Err-read_chain.ensures.begins_err
+
+pub returns-in-Err-read_chain-clause-read_place : goal.returns-in-Err-read_chain-clause-read_place
+returns-in-Err-read_chain-clause-read_place g c = λ files file h is.
+    let faulted : c.in-Err-read_chain.status ≡ status.ReadFault file = cc in
+    fault_placed c.args.words.now c.in-Ok.names.now files file _ _ c.in-Ok.ensures.ok (c.in-Err-read_chain.ensures.read_place files file h (ap Err faulted))
+
+pub returns-in-Ok-read_chain-clause-to_the_end : goal.returns-in-Ok-read_chain-clause-to_the_end
+returns-in-Ok-read_chain-clause-to_the_end g c = λ files h.
+    on_any c.schema_of_chain.result _ (c.in-Ok-read_chain.ensures.to_the_end files h (named_compile c.args.words.now c.in-Ok.names.now c.in-Ok.ensures.ok).some)
+
+pub returns-in-Err-read_chain-clause-usage : goal.returns-in-Err-read_chain-clause-usage
+returns-in-Err-read_chain-clause-usage g c = (
+  λ is. let stops = c.in-Err-read_chain.ensures.begins_err in
+      let usage : c.in-Err-read_chain.status ≡ status.Usage = cc in
+      absurd (subst (IsOfFile stops.0) usage stops.2),
+  λ none. absurd (named_job c.args.words.now c.in-Ok.names.now c.in-Ok.ensures.ok none),
+)

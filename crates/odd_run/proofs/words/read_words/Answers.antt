@@ -1,11 +1,37 @@
-use Rattle.std.proofs.Common.{◌≡◌, ◌∷◌, [], refl, sym, ap, ◌∙◌, false, true}
-use Rattle.odd_run.specs.Words.{compile}
-use Rattle.odd_run.proofs.Lists.{two_items}
+use Rattle.std.proofs.Common.{◌≡◌, ◌≢◌, ℕ, true, false, All, List, [], ◌∷◌, codes, length, nat_eq, refl, sym, ap, subst, ◌∙◌}
+use Rattle.std.proofs.lemmas.Bool.{eqb-true}
+use Rattle.std.proofs.lemmas.List.{nil_from_length}
+use Rattle.odd_run.specs.Words.{IsFileWord, WordsMean, compile}
+use Rattle.odd_run.specs.declared.words.Command.TheVariants as command
+use Rattle.odd_run.specs.declared.words.Job.{Job}
 use Rattle.odd_run.proofs.words.read_words.Goals as goal
+use Rattle.odd_run.proofs.words.read_words.Goals.{then-not-is_word-via-then-not-is_word, then-not-is_word-via-else-not-is_word+then-is_empty, then-not-is_word-via-else-not-is_word+else-is_empty+then-not-are_files}
 
-pub returns-in-len2-clause-job : goal.returns-in-len2-clause-job
-returns-in-len2-clause-job c =
-    let two = two_items c.as_slice.result.now c.command-item.result c.file-item.result c.in-len2.len_at_least c.in-len2.len_below c.command-item.is c.file-item.is in
-    compile c.file-item.result
-    (sym c.as_slice.ensures ∙ two ∙ ap (λ x. x ∷ c.file-item.result ∷ []) (c.if-is_word.ensures.0 refl), λ is. let wrong : false ≡ true = c.if-not-is_word.ensures.1 is in cc)
-    refl
+not_empty : {A : Type 0} (xs : List A) → nat_eq (length xs) 0 ≡ false → xs ≢ []
+not_empty xs is e = let no : true ≡ false = sym (ap (λ ys. nat_eq (length ys) 0) e) ∙ is in cc
+
+module _ (words chain : List (List ℕ)) (first : List ℕ) (are : words ≡ first ∷ chain) where
+  -- words that name files have a job
+  has_job : first ≡ codes "compile" → chain ≢ [] → All IsFileWord chain → WordsMean words (record { command = command.Compile; aside = false; files = length chain; number = 0 })
+  has_job is some all = compile chain (record { words_are = are ∙ ap (λ w. w ∷ chain) is; some = some; file_words = all }) refl
+
+  -- and any others have none
+  no_job : (first ≡ codes "compile" → chain ≢ [] → All IsFileWord chain → ⊥) → (job : Job) → WordsMean words job → ⊥
+  no_job none job (compile other c e) =
+      let same : first ∷ chain ≡ codes "compile" ∷ other = sym are ∙ c.words_are in
+      let chains : other ≡ chain = cc in
+      none (cc) (λ e. c.some (chains ∙ e)) (subst (All IsFileWord) chains c.file_words)
+
+pub returns-then-not-is_word-clause-none : goal.returns-then-not-is_word-clause-none
+returns-then-not-is_word-clause-none c _ =
+    let are = sym c.as_slice.ensures ∙ c.in_ok-command.ensures.cases.0 in
+    no_job c.args.words.now c.in_ok-command.chain.now c.in_ok-command.command.now are (λ first some all. elim c.then-not-is_word.branch [
+      | then-not-is_word-via-then-not-is_word w ↦ let no : false ≡ true = sym w.if-not-is_word.true ∙ c.is_word.ensures.1 first in cc
+      | then-not-is_word-via-else-not-is_word+then-is_empty w ↦ some (nil_from_length c.in_ok-command.chain.now (eqb-true _ 0 (sym w.is_empty.ensures ∙ w.if-is_empty.true)))
+      | then-not-is_word-via-else-not-is_word+else-is_empty+then-not-are_files w ↦ let no : false ≡ true = sym w.if-not-are_files.true ∙ w.are_files.ensures.1 all in cc
+    ])
+
+pub returns-clause-job : goal.returns-clause-job
+returns-clause-job c =
+    has_job c.args.words.now c.in_ok-command.chain.now c.in_ok-command.command.now (sym c.as_slice.ensures ∙ c.in_ok-command.ensures.cases.0) (c.is_word.ensures.0 c.if-not-is_word.false)
+    (not_empty c.in_ok-command.chain.now (sym c.is_empty.ensures ∙ c.if-is_empty.false)) (c.are_files.ensures.0 c.if-not-are_files.false)

@@ -1,0 +1,96 @@
+/// What of a file is shown.
+#[derive(Clone, Copy)]
+pub enum Shown {
+    /// Its tree.
+    Tree,
+    /// What the first child of its root says as a `content`.
+    Content,
+}
+
+impl Shown {
+    /// Its name.
+    pub fn name(self) -> &'static str {
+        match self {
+            Shown::Tree => "tree",
+            Shown::Content => "content",
+        }
+    }
+}
+
+/// What patterns are over.
+#[derive(Clone, Copy)]
+pub enum Over {
+    Letters,
+    Children,
+}
+
+/// What can fault in a run.
+#[derive(Clone, Copy)]
+pub enum Device {
+    Shelf,
+    Out,
+    Note,
+}
+
+/// What a part of a case says.
+#[derive(Clone, Copy)]
+pub enum Head<'a> {
+    Words,
+    File(&'a str),
+    Code(u8),
+    Note,
+    Out,
+    OutHas,
+    Fails(Device, u64),
+    Shown(Shown),
+    Asked,
+    AllWords(u32, &'a str),
+    Patterns(Over),
+    Docs,
+    Library,
+    Chosen,
+}
+
+/// The head of a code.
+pub fn read_code<'a>(code: &str) -> Option<Head<'a>> {
+    Some(Head::Code(code.parse::<u8>().ok()?))
+}
+
+/// The head of a device and the call of it that faults.
+pub fn read_failing<'a>(text: &str) -> Option<Head<'a>> {
+    let (device, call) = text.split_once(' ')?;
+    let device = match device {
+        "shelf" => Device::Shelf,
+        "out" => Device::Out,
+        "note" => Device::Note,
+        _ => return None,
+    };
+    Some(Head::Fails(device, call.parse::<u64>().ok()?))
+}
+
+/// The head of all words of up to a length, over symbols.
+pub fn read_all_words(text: &str) -> Option<Head<'_>> {
+    let (length, symbols) = text.split_once(' ')?;
+    Some(Head::AllWords(length.parse::<u32>().ok()?, symbols))
+}
+
+/// A head below which a text stands.
+pub fn read_text_head(head: &str) -> Option<Head<'_>> {
+    match head {
+        "note" => Some(Head::Note),
+        "out" => Some(Head::Out),
+        "out has" => Some(Head::OutHas),
+        "tree" => Some(Head::Shown(Shown::Tree)),
+        "content" => Some(Head::Shown(Shown::Content)),
+        "asked" => Some(Head::Asked),
+        "patterns" => Some(Head::Patterns(Over::Letters)),
+        "patterns of children" => Some(Head::Patterns(Over::Children)),
+        "docs" => Some(Head::Docs),
+        "library" => Some(Head::Library),
+        "chosen" => Some(Head::Chosen),
+        _ => match head.strip_prefix("file ") {
+            Some(name) if !name.contains(' ') => Some(Head::File(name)),
+            _ => None,
+        },
+    }
+}

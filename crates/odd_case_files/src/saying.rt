@@ -1,0 +1,29 @@
+use crate::fault::CaseFault;
+use odd_base::{Bytes, NoMemory, Text, Words};
+use std::alloc::Global;
+
+/// The words that a part's text says, apart at blanks and line breaks.
+pub fn said_words(alloc: Global, text: &[u8]) -> Result<Words, CaseFault> {
+    let Ok(text) = str::from_utf8(text) else {
+        return Err(CaseFault::NotText);
+    };
+    let mut words = Words::new(alloc);
+    for word in text.split_ascii_whitespace() {
+        words.push(Text::from_str(alloc, word)?)?;
+    }
+    Ok(words)
+}
+
+/// The answer that a part's text says, to which its last line break does not belong.
+pub fn said_answer(alloc: Global, text: &[u8]) -> Result<Bytes, NoMemory> {
+    Bytes::from_slice(alloc, text.strip_suffix(b"\n").unwrap_or(text))
+}
+
+/// Sets what a case may say once.
+pub fn set_once<T: Drop>(place: &mut Option<T>, value: T) -> Result<(), CaseFault> {
+    if place.is_some() {
+        return Err(CaseFault::Twice);
+    }
+    *place = Some(value);
+    Ok(())
+}

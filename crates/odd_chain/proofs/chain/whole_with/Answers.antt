@@ -1,0 +1,18 @@
+use Rattle.std.proofs.Common.{[], ◌∷◌, ◌++◌, Err, ap, sym, subst}
+use Rattle.odd_chain.specs.Files.{AreDeclared}
+use Rattle.odd_chain.proofs.Declared.{declared_read, one_declared_more}
+use Rattle.odd_chain.proofs.OneMore.{broken_last, pending_last}
+use Rattle.odd_chain.proofs.chain.whole_with.Goals as goal
+
+pub returns-in_ok-push-in-Ok : goal.returns-in_ok-push-in-Ok
+returns-in_ok-push-in-Ok c = λ trees first end formed are number.
+    subst (AreDeclared (trees ++ c.args.tree.now ∷ [])) (sym c.in_ok-push-in-Ok.ensures.ok)
+    (one_declared_more trees c.args.tree.now c.args.docs c.in-Ok.doc are (c.in-Ok.ensures.ok first end formed))
+
+pub returns-in-Err-Offence : goal.returns-in-Err-Offence
+returns-in-Err-Offence c = λ trees first end formed are number.
+    broken_last trees c.args.tree.now c.args.docs c.args.file c.in-Err-Offence.offence are number (c.in-Err-Offence.ensures.offence c.in-Err-Offence.offence first end formed (ap Err c.in-Err-Offence.field-0-is))
+
+pub returns-in-Err-NotYet : goal.returns-in-Err-NotYet
+returns-in-Err-NotYet c = λ trees first end formed are number.
+    pending_last trees c.args.tree.now c.args.file (declared_read trees c.args.docs are) number (c.in-Err-NotYet.ensures.not_yet (ap Err c.in-Err-NotYet.field-0-is))

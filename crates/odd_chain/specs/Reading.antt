@@ -1,0 +1,30 @@
+-- What is kept of the files of a chain that are read so far.
+use Rattle.std.specs.Prelude.{◌≡◌, ◌<◌, ◌^◌, suc, List, ◌∷◌, ◌++◌, length}
+use Rattle.odd_base.specs.declared.offence.Offence.{Offence}
+use Rattle.odd_reader.specs.declared.tree.Tree.{Tree}
+use Rattle.odd_decls.specs.Offences.{IsRefusal}
+use Rattle.odd_decls.specs.declared.odd.OddDoc.{OddDoc}
+use Rattle.odd_chain.specs.Files.{AreAllRead, AreDeclared, IsFirstPending}
+use Rattle.odd_chain.specs.declared.chain.Chain.{Chain}
+use Rattle.odd_chain.specs.declared.chain.Chain.TheVariants as chain
+
+-- the files before the first with an offence of form declare the docs, and this is its first
+pub record IsBrokenAfter (trees : List Tree) (docs : List OddDoc) (offence : Offence) : Type 0 where
+  pub earlier : List Tree
+  pub tree : Tree
+  pub later : List Tree
+  pub parts : trees ≡ earlier ++ tree ∷ later
+  pub declared : AreDeclared earlier docs
+  pub refused : IsRefusal tree (suc (length earlier)) offence
+  pub all_read : AreAllRead trees
+
+abbrev pub IsChainOf : Chain → List Tree → Type 0
+IsChainOf (chain.Whole docs) trees = AreDeclared trees docs
+IsChainOf (chain.Broken docs offence) trees = IsBrokenAfter trees docs offence
+IsChainOf (chain.Pending file) trees = IsFirstPending trees file
+
+-- the docs of a chain, fewer than a file's number can tell
+abbrev pub HasFewDocs : Chain → Type 0
+HasFewDocs (chain.Whole docs) = length docs < 2 ^ 32
+HasFewDocs (chain.Broken docs offence) = length docs < 2 ^ 32
+HasFewDocs (chain.Pending file) = Unit {0}

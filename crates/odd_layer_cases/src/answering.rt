@@ -1,0 +1,72 @@
+use crate::chains::{told_chosen, told_library};
+use crate::draft::read_question;
+use crate::letters::Letters;
+use crate::patterns::told_lines;
+use crate::question::{Chain, Question};
+use odd_base::{Bytes, Words};
+use odd_case_files::{Asking, CaseFault, Over, Part, text_difference};
+use odd_patterns::Children;
+use std::alloc::Global;
+
+/// The questions that single layers answer.
+pub struct Layers;
+
+impl Asking for Layers {
+    fn difference(&self, alloc: Global, parts: Vec<Part<'_>>) -> Result<Option<String>, CaseFault> {
+        match read_question(alloc, parts)? {
+            Question::Patterns {
+                over,
+                asked,
+                wanted,
+            } => patterns_difference(alloc, over, &asked, &wanted),
+            Question::Chains(chains) => chains_difference(alloc, chains.as_slice()),
+        }
+    }
+}
+
+// What is told of the patterns of lines otherwise than the lines say.
+fn patterns_difference(
+    alloc: Global,
+    over: Over,
+    asked: &Words,
+    wanted: &Bytes,
+) -> Result<Option<String>, CaseFault> {
+    let Ok(lines) = str::from_utf8(wanted.as_slice()) else {
+        return Err(CaseFault::NotText);
+    };
+    let text = match over {
+        Over::Letters => told_lines(alloc, &Letters, asked, lines)?,
+        Over::Children => told_lines(alloc, &Children, asked, lines)?,
+    };
+    text_difference(alloc, "patterns", wanted, &text)
+}
+
+// What is answered otherwise than wanted of the first chain where something is.
+fn chains_difference(alloc: Global, chains: &[Chain]) -> Result<Option<String>, CaseFault> {
+    for (before, chain) in chains.iter().enumerate() {
+        if let Some(told) = chain_difference(alloc, chain)? {
+            let number = before.saturating_add(1);
+            return Ok(Some(format!(in alloc; " chain {number}{told}")?));
+        }
+    }
+    Ok(None)
+}
+
+// What is answered of a chain otherwise than wanted.
+fn chain_difference(alloc: Global, chain: &Chain) -> Result<Option<String>, CaseFault> {
+    let docs = chain.docs.as_slice();
+    if let Some(wanted) = &chain.library {
+        let text = told_library(alloc, docs)?;
+        let difference = text_difference(alloc, "library", wanted, &text)?;
+        if difference.is_some() {
+            return Ok(difference);
+        }
+    }
+    match &chain.chosen {
+        Some(wanted) => {
+            let text = told_chosen(alloc, docs)?;
+            text_difference(alloc, "chosen", wanted, &text)
+        }
+        None => Ok(None),
+    }
+}

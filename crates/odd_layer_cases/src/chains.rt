@@ -1,0 +1,129 @@
+use odd_base::{Key, Keys, Kind, NoMemory, Offence, Text, Who, Words};
+use odd_case_files::add_content;
+use odd_content::Content;
+use odd_decls::{Component, ElementPart, Library, OddDoc, OddRefusal};
+use odd_forms::TEI;
+use odd_modes::{select, step};
+use std::alloc::Global;
+
+/// The library after the docs of a chain, or their first offence.
+pub fn told_library(alloc: Global, docs: &[OddDoc]) -> Result<Text, NoMemory> {
+    let mut out = Text::new(alloc);
+    match library_after(alloc, docs) {
+        Ok(library) => add_library(alloc, &mut out, &library)?,
+        Err(refusal) => add_refusal(alloc, &mut out, &refusal)?,
+    }
+    Ok(out)
+}
+
+/// What the last doc of a chain chooses, or the first offence of those before it and of its references.
+pub fn told_chosen(alloc: Global, docs: &[OddDoc]) -> Result<Text, NoMemory> {
+    let mut out = Text::new(alloc);
+    match chosen_by_last(alloc, docs) {
+        Ok(keys) => add_keys(&mut out, &keys)?,
+        Err(refusal) => add_refusal(alloc, &mut out, &refusal)?,
+    }
+    Ok(out)
+}
+
+fn library_after(alloc: Global, docs: &[OddDoc]) -> Result<Library, OddRefusal> {
+    let mut library = Library::empty(alloc)?;
+    let mut file = 0u32;
+    for doc in docs {
+        file = file.saturating_add(1);
+        library = step(alloc, &library, doc, file)?;
+    }
+    Ok(library)
+}
+
+// Where there is no doc nothing is chosen.
+fn chosen_by_last(alloc: Global, docs: &[OddDoc]) -> Result<Keys, OddRefusal> {
+    let Some((last, before)) = docs.split_last() else {
+        return Ok(Keys::new(alloc));
+    };
+    let library = library_after(alloc, before)?;
+    let file = u32::try_from(docs.len()).unwrap_or(u32::MAX);
+    select(alloc, &library, last, file)
+}
+
+// Puts the ident and the start words, and a line for each component.
+fn add_library(alloc: Global, out: &mut Text, library: &Library) -> Result<(), NoMemory> {
+    out.push_str(library.ident.as_str())?;
+    add_words(out, &library.start)?;
+    for (key, part) in library.parts.entries() {
+        out.push('\n')?;
+        add_key(out, key)?;
+        add_part(alloc, out, part)?;
+    }
+    Ok(())
+}
+
+// Puts words, with a blank before each.
+fn add_words(out: &mut Text, words: &Words) -> Result<(), NoMemory> {
+    for word in words.as_slice() {
+        out.push(' ')?;
+        out.push_str(word.as_str())?;
+    }
+    Ok(())
+}
+
+// Puts the fields of a component but those that an `add` without them has.
+fn add_part(alloc: Global, out: &mut Text, part: &Component) -> Result<(), NoMemory> {
+    let Component::Element(part) = part;
+    let ElementPart {
+        module,
+        ns,
+        content,
+    } = part;
+    if !module.as_str().is_empty() {
+        out.push_str(" module=")?;
+        out.push_str(module.as_str())?;
+    }
+    if ns.as_str() != TEI {
+        out.push_str(" ns=")?;
+        out.push_str(ns.as_str())?;
+    }
+    if matches!(content, Content::Empty) {
+        return Ok(());
+    }
+    out.push_str(" content=")?;
+    add_content(alloc, out, content)
+}
+
+fn add_keys(out: &mut Text, keys: &Keys) -> Result<(), NoMemory> {
+    let mut is_first = true;
+    for key in keys.as_slice() {
+        if !is_first {
+            out.push('\n')?;
+        }
+        is_first = false;
+        add_key(out, key)?;
+    }
+    Ok(())
+}
+
+fn add_key(out: &mut Text, key: &Key) -> Result<(), NoMemory> {
+    let kind = match key.kind {
+        Kind::Element => "element ",
+        Kind::Class => "class ",
+        Kind::Macro => "macro ",
+        Kind::Datatype => "datatype ",
+    };
+    out.push_str(kind)?;
+    out.push_str(key.ident.as_str())
+}
+
+// Puts an offence: its file, its place and its rule.
+fn add_refusal(alloc: Global, out: &mut Text, refusal: &OddRefusal) -> Result<(), NoMemory> {
+    match refusal {
+        OddRefusal::Offence(Offence { file, who, rule }) => {
+            out.push_str(format!(in alloc; "file {file}")?.as_str())?;
+            if let Who::At(place) = who {
+                out.push_str(format!(in alloc; " at {place}")?.as_str())?;
+            }
+            out.push_str(format!(in alloc; " rule {rule}")?.as_str())
+        }
+        OddRefusal::NotYet => out.push_str("not yet"),
+        OddRefusal::NoMemory => Err(NoMemory),
+    }
+}

@@ -1,0 +1,156 @@
+use odd_base::{Key, Kind, NoMemory, Text, Words};
+use odd_case_files::CaseFault;
+use odd_content::{Content, Pick};
+use odd_decls::{Entries, Entry, Mode, OddDoc, Spec};
+use odd_forms::TEI;
+use rng_values::Bounds;
+use std::alloc::Global;
+
+/// The docs of a text. Each begins with a line of its ident and start words, and each line below it is an item, whose
+/// place is the number of the line, counted from 1.
+pub fn read_docs(alloc: Global, text: &[u8]) -> Result<Vec<OddDoc>, CaseFault> {
+    let Ok(text) = str::from_utf8(text) else {
+        return Err(CaseFault::NoItem);
+    };
+    let mut docs = Vec::new(alloc);
+    for line in text.lines() {
+        let words: Vec<&str> = line.split_ascii_whitespace().collect(alloc)?;
+        add_line(alloc, &mut docs, words.as_slice())?;
+    }
+    Ok(docs)
+}
+
+// Begins a doc, or adds an item to the last one.
+fn add_line(alloc: Global, docs: &mut Vec<OddDoc>, words: &[&str]) -> Result<(), CaseFault> {
+    if let ["doc", ident, start @ ..] = words {
+        docs.push(OddDoc {
+            ident: Text::from_str(alloc, ident)?,
+            start: texts_of(alloc, start)?,
+            entries: Entries::new(alloc),
+        })?;
+        return Ok(());
+    }
+    let Some(doc) = docs.last_mut() else {
+        return Err(CaseFault::NoItem);
+    };
+    let at = (doc.entries.len() as u64).saturating_add(1);
+    doc.entries.push(read_item(alloc, at, words)?)?;
+    Ok(())
+}
+
+fn texts_of(alloc: Global, words: &[&str]) -> Result<Words, NoMemory> {
+    let mut texts = Words::new(alloc);
+    for word in words {
+        texts.push(Text::from_str(alloc, word)?)?;
+    }
+    Ok(texts)
+}
+
+fn read_item(alloc: Global, at: u64, words: &[&str]) -> Result<Entry, CaseFault> {
+    match words {
+        ["module", key, pick @ ..] => Ok(Entry::Module {
+            at,
+            key: Text::from_str(alloc, key)?,
+            pick: read_pick(alloc, pick)?,
+        }),
+        ["take", kind, ident] => Ok(Entry::Take {
+            at,
+            key: read_key(alloc, kind, ident)?,
+        }),
+        [mode, kind, ident, fields @ ..] => {
+            let key = read_key(alloc, kind, ident)?;
+            let spec = read_spec(alloc, mode, key, fields)?;
+            Ok(Entry::Spec { at, spec })
+        }
+        _ => Err(CaseFault::NoItem),
+    }
+}
+
+fn read_pick(alloc: Global, words: &[&str]) -> Result<Pick, CaseFault> {
+    match words {
+        [] => Ok(Pick::All),
+        ["include", idents @ ..] if !idents.is_empty() => {
+            Ok(Pick::Include(texts_of(alloc, idents)?))
+        }
+        ["except", idents @ ..] if !idents.is_empty() => {
+            Ok(Pick::Except(texts_of(alloc, idents)?))
+        }
+        _ => Err(CaseFault::NoItem),
+    }
+}
+
+fn read_key(alloc: Global, kind: &str, ident: &str) -> Result<Key, CaseFault> {
+    let kind = match kind {
+        "element" => Kind::Element,
+        "class" => Kind::Class,
+        "macro" => Kind::Macro,
+        "datatype" => Kind::Datatype,
+        _ => return Err(CaseFault::NoItem),
+    };
+    let ident = Text::from_str(alloc, ident)?;
+    Ok(Key { kind, ident })
+}
+
+fn mode_of(word: &str) -> Option<Mode> {
+    match word {
+        "add" => Some(Mode::Add),
+        "delete" => Some(Mode::Delete),
+        "change" => Some(Mode::Change),
+        "replace" => Some(Mode::Replace),
+        _ => None,
+    }
+}
+
+// A declaration in a mode, with such fields as `module=m`.
+fn read_spec(alloc: Global, mode: &str, key: Key, fields: &[&str]) -> Result<Spec, CaseFault> {
+    let mode = mode_of(mode).ok_or(CaseFault::NoItem)?;
+    let mut spec = Spec {
+        key,
+        mode,
+        module: Text::new(alloc),
+        ns: namespace_without(alloc, mode)?,
+        content: None,
+    };
+    put_fields(alloc, &mut spec, fields)?;
+    Ok(spec)
+}
+
+fn put_fields(alloc: Global, spec: &mut Spec, fields: &[&str]) -> Result<(), CaseFault> {
+    for field in fields {
+        let (name, value) = field.split_once('=').ok_or(CaseFault::NoItem)?;
+        put_field(alloc, spec, name, value)?;
+    }
+    Ok(())
+}
+
+fn put_field(alloc: Global, spec: &mut Spec, name: &str, value: &str) -> Result<(), CaseFault> {
+    match name {
+        "module" => spec.module = Text::from_str(alloc, value)?,
+        "ns" => spec.ns = Some(Text::from_str(alloc, value)?),
+        "content" => spec.content = Some(read_content(alloc, value)?),
+        _ => return Err(CaseFault::NoItem),
+    }
+    Ok(())
+}
+
+// The namespace where none is given: what is added or replaced is in TEI's.
+fn namespace_without(alloc: Global, mode: Mode) -> Result<Option<Text>, NoMemory> {
+    match mode {
+        Mode::Add | Mode::Replace => Ok(Some(Text::from_str(alloc, TEI)?)),
+        Mode::Delete | Mode::Change => Ok(None),
+    }
+}
+
+fn read_content(alloc: Global, content: &str) -> Result<Content, NoMemory> {
+    match content {
+        "empty" => Ok(Content::Empty),
+        "text" => Ok(Content::Text),
+        ident => Ok(Content::Element {
+            key: Text::from_str(alloc, ident)?,
+            bounds: Bounds {
+                min: 1,
+                max: Some(1),
+            },
+        }),
+    }
+}

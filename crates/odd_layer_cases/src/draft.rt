@@ -1,0 +1,103 @@
+use crate::all_words::all_words;
+use crate::docs::read_docs;
+use crate::question::{Chain, Question};
+use odd_base::{Bytes, Words};
+use odd_case_files::{CaseFault, Head, Over, Part, said_answer, said_words, set_once};
+use std::alloc::Global;
+
+// What is read of a case so far.
+#[derive(Drop)]
+struct Draft {
+    asked: Option<Words>,
+    patterns: Option<(Over, Bytes)>,
+    chains: Vec<Chain>,
+    // whether something stands there that no layer is asked
+    has_others: bool,
+}
+
+/// The question of a case.
+pub fn read_question(alloc: Global, parts: Vec<Part<'_>>) -> Result<Question, CaseFault> {
+    let mut draft = Draft {
+        asked: None,
+        patterns: None,
+        chains: Vec::new(alloc),
+        has_others: false,
+    };
+    for part in parts {
+        put_part(alloc, &mut draft, part)?;
+    }
+    finish(draft)
+}
+
+fn put_part(alloc: Global, draft: &mut Draft, part: Part<'_>) -> Result<(), CaseFault> {
+    let Part { head, text } = part;
+    let text = text.as_slice();
+    match head {
+        Head::Asked if text.is_empty() => Err(CaseFault::NoLines),
+        Head::Asked => set_once(&mut draft.asked, said_words(alloc, text)?),
+        Head::AllWords(length, symbols) => {
+            set_once(&mut draft.asked, all_words(alloc, length, symbols)?)
+        }
+        Head::Patterns(over) => set_once(&mut draft.patterns, (over, said_answer(alloc, text)?)),
+        Head::Docs => {
+            draft.chains.push(begun_chain(alloc, text)?)?;
+            Ok(())
+        }
+        Head::Library => {
+            let wanted = said_answer(alloc, text)?;
+            set_once(&mut last_chain(draft)?.library, wanted)
+        }
+        Head::Chosen => {
+            let wanted = said_answer(alloc, text)?;
+            set_once(&mut last_chain(draft)?.chosen, wanted)
+        }
+        _ => {
+            draft.has_others = true;
+            Ok(())
+        }
+    }
+}
+
+// A chain of which nothing is asked so far.
+fn begun_chain(alloc: Global, text: &[u8]) -> Result<Chain, CaseFault> {
+    Ok(Chain {
+        docs: read_docs(alloc, text)?,
+        library: None,
+        chosen: None,
+    })
+}
+
+fn last_chain(draft: &mut Draft) -> Result<&mut Chain, CaseFault> {
+    draft.chains.last_mut().ok_or(CaseFault::NoDocs)
+}
+
+// The question of a draft, where it asks one thing.
+fn finish(draft: Draft) -> Result<Question, CaseFault> {
+    let Draft {
+        asked,
+        patterns,
+        chains,
+        has_others,
+    } = draft;
+    match (asked, patterns) {
+        (None, None) if chains.is_empty() && !has_others => Err(CaseFault::NothingAsked),
+        (None, None) if !has_others => chains_question(chains),
+        _ if !chains.is_empty() => Err(CaseFault::DocsNotAlone),
+        (Some(asked), Some((over, wanted))) if !has_others => Ok(Question::Patterns {
+            over,
+            asked,
+            wanted,
+        }),
+        _ => Err(CaseFault::NotAlone),
+    }
+}
+
+// The question of chains, of each of which something is asked.
+fn chains_question(chains: Vec<Chain>) -> Result<Question, CaseFault> {
+    for chain in &chains {
+        if chain.library.is_none() && chain.chosen.is_none() {
+            return Err(CaseFault::NothingAsked);
+        }
+    }
+    Ok(Question::Chains(chains))
+}

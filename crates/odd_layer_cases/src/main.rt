@@ -1,0 +1,22 @@
+//! Runs the cases of data/ that ask a single layer, and tells each whose answer is not the wanted one.
+#![tactic(auto)]
+
+mod all_words;
+mod answering;
+mod chains;
+mod docs;
+mod draft;
+mod letters;
+mod patterns;
+mod postfix;
+mod question;
+mod spelled;
+
+use crate::answering::Layers;
+use anyhow::Result;
+use odd_case_files::tell_outcomes;
+
+fn main(rt: HostRuntime) -> Result<()> {
+    tell_outcomes(&rt, &Layers)?;
+    Ok(())
+}

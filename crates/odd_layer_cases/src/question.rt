@@ -1,0 +1,26 @@
+use odd_base::{Bytes, Words};
+use odd_case_files::Over;
+use odd_decls::OddDoc;
+
+/// Docs in their order, and what must be answered of them.
+#[derive(Drop)]
+pub struct Chain {
+    pub docs: Vec<OddDoc>,
+    /// The library after the last.
+    pub library: Option<Bytes>,
+    /// What the last chooses.
+    pub chosen: Option<Bytes>,
+}
+
+/// What is asked, and what must be answered.
+#[derive(Drop)]
+pub enum Question {
+    /// Which of the words the patterns match, with which the lines begin.
+    Patterns {
+        over: Over,
+        asked: Words,
+        wanted: Bytes,
+    },
+    /// The library after the docs of each chain, or what the last of them chooses.
+    Chains(Vec<Chain>),
+}

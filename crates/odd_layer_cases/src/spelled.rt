@@ -1,0 +1,62 @@
+use crate::letters::Letters;
+use odd_case_files::CaseFault;
+use odd_patterns::{Alphabet, ChildLeaf, ChildSymbol, Children, Marks};
+use std::alloc::Global;
+use std::char;
+
+/// An alphabet whose leaves and words are written in characters.
+pub trait Spelled: Alphabet<Symbol: Drop> {
+    /// The leaf that a character stands for.
+    fn leaf_of(&self, character: char) -> Option<Self::Leaf>;
+
+    /// The character that stands for a leaf.
+    fn character_of(&self, leaf: Self::Leaf) -> char;
+
+    /// The word of a text.
+    fn word_of(&self, alloc: Global, text: &str) -> Result<Vec<Self::Symbol>, CaseFault>;
+}
+
+impl Spelled for Letters {
+    fn leaf_of(&self, character: char) -> Option<char> {
+        Some(character)
+    }
+
+    fn character_of(&self, leaf: char) -> char {
+        leaf
+    }
+
+    fn word_of(&self, alloc: Global, text: &str) -> Result<Vec<char>, CaseFault> {
+        Ok(text.chars().collect(alloc)?)
+    }
+}
+
+/// A leaf is `t` for text, or the digit of a label. In a word `t` is a text and `e` an element, with its marks after it.
+impl Spelled for Children {
+    fn leaf_of(&self, character: char) -> Option<ChildLeaf> {
+        if character == 't' {
+            return Some(ChildLeaf::Text);
+        }
+        Some(ChildLeaf::Label(character.to_digit(10)?))
+    }
+
+    fn character_of(&self, leaf: ChildLeaf) -> char {
+        match leaf {
+            ChildLeaf::Text => 't',
+            ChildLeaf::Label(number) => char::from_digit(number, 10).unwrap_or('#'),
+        }
+    }
+
+    fn word_of(&self, alloc: Global, text: &str) -> Result<Vec<ChildSymbol>, CaseFault> {
+        let mut word = Vec::new(alloc);
+        for character in text.chars() {
+            match (character, word.last_mut()) {
+                ('t', _) => word.push(ChildSymbol::Text)?,
+                ('e', _) => word.push(ChildSymbol::Element(Marks::new(alloc)))?,
+                ('0', Some(ChildSymbol::Element(marks))) => marks.push(false)?,
+                ('1', Some(ChildSymbol::Element(marks))) => marks.push(true)?,
+                _ => return Err(CaseFault::NoWord),
+            }
+        }
+        Ok(word)
+    }
+}

@@ -1,0 +1,73 @@
+-- What the trees of a chain come to, from the library after them.
+use Rattle.std.proofs.Common.{◌≡◌, ℕ, List, length, Result, Ok, Err, inl, inr, sym, ap, subst, ◌∙◌}
+use Rattle.std.specs.Prelude.{IfErr, IfOk, OnOk}
+use Rattle.odd_base.specs.declared.offence.Offence.{Offence}
+use Rattle.odd_reader.specs.declared.tree.Tree.{Tree}
+use Rattle.odd_reader.proofs.Formed.{spelled_formed}
+use Rattle.odd_chain.specs.Files.{AreAllRead, Gives, IsChainRefusal, IsFirstPending}
+use Rattle.odd_chain.specs.Reading.{IsChainOf}
+use Rattle.odd_chain.specs.declared.chain.Chain.{Chain}
+use Rattle.odd_chain.proofs.OneChain.{gives_all_read}
+use Rattle.odd_decls.specs.declared.library.Library.{Library}
+use Rattle.compile_core.specs.Schema.{HoldsStart, IsFormed}
+use Rattle.odd_run.specs.Outcome.{answers, gives}
+use Rattle.odd_run.specs.Reading.{AreSpelled, IsStartError}
+use Rattle.odd_run.specs.Reply.{HasSchema, Merges, ReadsForms, TreesComeTo, start_offence}
+use Rattle.odd_run.specs.Running.{AcceptsAdmitted, AcceptsOfTrees, IsReplied}
+use Rattle.odd_run.specs.declared.status.LimitKind.TheVariants as limit
+use Rattle.odd_run.specs.declared.status.Status.{Status}
+use Rattle.odd_run.specs.declared.status.Status.TheVariants as status
+use Rattle.odd_run.proofs.Formed.{library_formed}
+
+-- a form that is not read yet
+pub pending_come : (trees : List Tree) (file : ℕ) → IsFirstPending trees file → TreesComeTo trees (answers (status.NotYet file))
+pending_come trees file p = inl (ReadsForms.not_yet p)
+
+-- an offence
+pub refused_come : (trees : List Tree) (offence : Offence) → AreAllRead trees → IsChainRefusal trees offence → TreesComeTo trees (answers (status.Refused offence))
+refused_come trees offence read r = inr (trees, ReadsForms.all_read read, inl (Merges.refused r))
+
+module _ (chain : Chain) (library : Library) (given : (trees : List Tree) → IsChainOf chain trees → Gives trees library) where
+  -- the schema of the library
+  pub schema_comes : (r : Result (List ℕ) Status) → OnOk r (HoldsStart library library.start) → IfOk r (λ text. HasSchema library (gives text))
+      → IfOk r (λ text. (trees : List Tree) → IsChainOf chain trees → TreesComeTo trees (gives text))
+  schema_comes (Ok text) holds schema = λ trees of.
+      let g = given trees of in (trees, ReadsForms.all_read (gives_all_read trees library g), (library, Merges.merged g holds, schema))
+  schema_comes (Err s) holds schema = tt
+
+  -- which accepts what the library admits
+  pub schema_accepts : (r : Result (List ℕ) Status) → IfOk r (λ text. IsFormed library → AcceptsAdmitted library text)
+      → IfOk r (λ text. (trees : List Tree) → IsChainOf chain trees → AreSpelled trees → AcceptsOfTrees trees text)
+  schema_accepts (Ok text) accepts = λ trees of spelled.
+      let g = given trees of in
+      record {
+        library = library;
+        gives = g;
+        right = accepts (library_formed trees library (λ t s. let k = spelled t s in (0, length k.0, spelled_formed k.0 t k.1.spelled)) g);
+      }
+  schema_accepts (Err s) accepts = tt
+
+  -- or why it has none
+  error_comes : (files : ℕ) (s : Status) → IsStartError library files s → (trees : List Tree) → IsChainOf chain trees → files ≡ length trees → IsReplied s → TreesComeTo trees (answers s)
+  error_comes files (status.Refused offence) e trees of many replied =
+      let g = given trees of in
+      let offences : start_offence (length trees) e.0 ≡ offence = ap (λ n. start_offence n e.0) (sym many) ∙ sym e.2 in
+      inr (trees, ReadsForms.all_read (gives_all_read trees library g), inl (subst (λ o. Merges trees (answers (status.Refused o))) offences (Merges.start_missing e.0 library g e.1)))
+  error_comes files (status.Limit limit.Nodes) e trees of many replied =
+      let g = given trees of in
+      inr (trees, ReadsForms.all_read (gives_all_read trees library g), inr (library, Merges.merged g e.holds_start, HasSchema.too_large e))
+  error_comes files status.NoMemory e trees of many replied = absurd replied
+  error_comes files status.Done e trees of many replied = absurd e
+  error_comes files (status.NotXml file at) e trees of many replied = absurd e
+  error_comes files status.Usage e trees of many replied = absurd e
+  error_comes files (status.Limit limit.Files) e trees of many replied = absurd e
+  error_comes files (status.Limit (limit.Bytes file)) e trees of many replied = absurd e
+  error_comes files (status.Limit (limit.Depth file at)) e trees of many replied = absurd e
+  error_comes files (status.ReadFault file) e trees of many replied = absurd e
+  error_comes files status.WriteFault e trees of many replied = absurd e
+  error_comes files (status.NotYet file) e trees of many replied = absurd e
+
+  pub errors_come : (files : ℕ) (r : Result (List ℕ) Status) → IfErr r (IsStartError library files)
+      → IfErr r (λ s. (trees : List Tree) → IsChainOf chain trees → files ≡ length trees → IsReplied s → TreesComeTo trees (answers s))
+  errors_come files (Ok text) e = tt
+  errors_come files (Err s) e = error_comes files s e
