@@ -20,12 +20,15 @@ TEI = "http://www.tei-c.org/ns/1.0"
 KINDS = ["element", "class", "macro", "datatype"]
 IDENTS, MODULES = "abcdef", "mno"
 NAMESPACES, CONTENTS = ["", "urn:x", "urn:y", TEI], ["empty", "text", "a", "b"]
+TYPES, CLASSES = ["model", "atts"], "uvwx"
+# The fields that a declaration of a kind may have.
+FIELDS = {"element": "module ns classes content", "class": "module type classes", "macro": "module content", "datatype": "module content"}
 MODES = ["add", "delete", "change", "replace"]
 
 # A key is a kind and an ident. A library is a dictionary from keys to components. An item is the list of its words.
-Component = collections.namedtuple("Component", "module ns content")
+Component = collections.namedtuple("Component", "module ns type classes content")
 Doc = collections.namedtuple("Doc", "ident start items")
-BY_ITSELF = Component("", TEI, "empty")
+BY_ITSELF = Component("", TEI, "model", "", "empty")
 
 
 class Offence(Exception):
@@ -90,12 +93,14 @@ def broken_by_reference(library, modules, item):
                 yield 8
 
 
-def broken_by_declaration(taken, item):
+def broken_by_declaration(library, taken, item):
     """The rules that an item breaks as a declaration."""
     if found := declaration(item):
-        mode, key, _ = found
+        mode, key, fields = found
         if (key in taken) == (mode == "add"):
             yield 5 if mode == "add" else 6
+        elif mode == "change" and key[0] == "class" and fields.get("type", library[key].type) != library[key].type:
+            yield 9
 
 
 def offences(library, doc, of_references_alone=False):
@@ -104,7 +109,26 @@ def offences(library, doc, of_references_alone=False):
     for place, item in enumerate(doc.items, 1):
         yield from ((place, rule) for rule in broken_by_reference(library, modules, item))
         if not of_references_alone:
-            yield from ((place, rule) for rule in broken_by_declaration(taken, item))
+            yield from ((place, rule) for rule in broken_by_declaration(library, taken, item))
+
+
+def memberships(before, fields):
+    """The classes, with commas between them, where a declaration with these fields is laid over them."""
+    if "classes" in fields:
+        return ",".join(sorted(set(split(fields["classes"]))))
+    marks = split(fields.get("change", ""))
+    taken, added = ({mark[1:] for mark in marks if mark[0] == sign} for sign in "-+")
+    return ",".join(sorted(set(split(before)) - taken | added))
+
+
+def split(words):
+    return words.split(",") if words else []
+
+
+def laid_over(part, fields):
+    """A component with these fields in place of its own."""
+    given = {name: value for name, value in fields.items() if name in Component._fields}
+    return part._replace(**{**given, "classes": memberships(part.classes, fields)})
 
 
 def held_after(library, doc):
@@ -114,9 +138,9 @@ def held_after(library, doc):
         if mode == "delete":
             del made[key]
         elif mode == "change":
-            made[key] = made[key]._replace(**{name: value for name, value in fields.items() if name != "module"})
+            made[key] = laid_over(made[key], {**fields, "module": made[key].module})
         else:
-            made[key] = BY_ITSELF._replace(**fields)
+            made[key] = laid_over(BY_ITSELF, fields)
     return made
 
 
@@ -179,10 +203,11 @@ def answer(told, docs):
 
 def random_pick(rng, library, module):
     """What of a module a reference names: mostly elements of the module."""
-    idents = sorted(ident for _, ident in by_module(library)[module])
+    idents = sorted(ident for kind, ident in by_module(library)[module] if kind == "element")
     word = rng.choice(["", "include", "except"])
-    wrong = rng.choices(IDENTS, k=1 if rng.random() < 0.04 or not idents else 0)
-    return [word, *rng.choices(idents, k=rng.randrange(1, 4) if idents else 0), *wrong] if word else []
+    wrong = rng.choices(IDENTS, k=1 if rng.random() < 0.04 else 0)
+    words = [*rng.choices(idents, k=rng.randrange(1, 4) if idents else 0), *wrong]
+    return [word, *words] if word and words else []
 
 
 def random_reference(rng, library):
@@ -198,14 +223,26 @@ def random_reference(rng, library):
     return ["take", *key]
 
 
-def random_declaration(rng, taken, ident):
-    """A declaration of an element, mostly in a mode that it may have."""
-    is_taken = ("element", ident) in taken
+def random_fields(rng, kind):
+    """Fields that a declaration of the kind may have."""
+    for name in FIELDS[kind].split():
+        if rng.random() > (0.8 if name == "module" else 0.4):
+            continue
+        if name == "classes" and rng.random() < 0.6:
+            marks = [rng.choice("+-") + name for name in sorted(rng.sample(CLASSES, rng.randrange(1, 4)))]
+            yield f"change={','.join(marks)}"
+        elif name == "classes":
+            yield f"classes={','.join(rng.sample(CLASSES, rng.randrange(4)))}"
+        else:
+            yield f"{name}={rng.choice({'module': MODULES, 'ns': NAMESPACES, 'type': TYPES, 'content': CONTENTS}[name])}"
+
+
+def random_declaration(rng, taken, key):
+    """A declaration at the key, mostly in a mode that it may have."""
+    is_taken = key in taken
     is_wrong = rng.random() < (0.1 if is_taken else 0.04 if taken else 0.005)
     mode = "add" if is_taken == is_wrong else rng.choice(["delete", "change", "change", "replace"])
-    fields = {"module": rng.choice(MODULES), "ns": rng.choice(NAMESPACES), "content": rng.choice(CONTENTS)}
-    given = [f"{name}={value}" for name, value in fields.items() if rng.random() < (0.8 if name == "module" else 0.4)]
-    return [mode, "element", ident, *given]
+    return [mode, *key, *random_fields(rng, key[0])]
 
 
 def random_doc(rng, library):
@@ -214,8 +251,9 @@ def random_doc(rng, library):
     count = rng.randrange(1, 4) if library else rng.random() < 0.05
     doc = Doc(ident, start, [random_reference(rng, library) for _ in range(count)])
     taken = chosen(library, doc)
-    declared = rng.sample(IDENTS, rng.randrange(4) if library else rng.randrange(3, 7))
-    doc.items.extend(random_declaration(rng, taken, ident) for ident in declared)
+    keys = [(kind, ident) for kind in KINDS for ident in IDENTS[: 6 if kind == "element" else 2]]
+    declared = rng.sample(keys, rng.randrange(5) if library else rng.randrange(5, 10))
+    doc.items.extend(random_declaration(rng, taken, key) for key in declared)
     rng.shuffle(doc.items)
     return doc
 

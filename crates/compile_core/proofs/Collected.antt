@@ -6,10 +6,11 @@ use Rattle.odd_reader.specs.Elements.{StandsIn}
 use Rattle.odd_reader.proofs.InList.{first_or_later, nothing_stands, stands_first, stands_later}
 use Rattle.odd_forms.specs.Sorted.{IsSet}
 use Rattle.odd_content.specs.declared.content.Condition.{Condition}
+use Rattle.odd_decls.specs.Library.{content_of}
 use Rattle.odd_decls.specs.declared.library.Component.{Component}
 use Rattle.odd_decls.specs.declared.library.Library.{Library}
 use Rattle.compile_core.proofs.Standing.{stands_either, stands_left, stands_right}
-use Rattle.compile_core.specs.Conditions.{IsConditionOf, condition_cmp, conditions_in, content_of}
+use Rattle.compile_core.specs.Conditions.{IsConditionOf, condition_cmp, conditions_of}
 
 module _ {X A : Type 0} (f : X → List A) (a : A) where
   stands_collected : (xs : List X) (x : X) → StandsIn xs x → StandsIn (f x) a → StandsIn (flat_map f xs) a
@@ -28,7 +29,7 @@ module _ {X A : Type 0} (f : X → List A) (a : A) where
 
 -- the conditions of an entry of a library
 abbrev pub conditions_at : Key × Component → List Condition
-conditions_at entry = conditions_in (content_of entry.1)
+conditions_at entry = conditions_of (content_of entry.1)
 
 -- the conditions of all entries, sorted, are those of the library
 pub conditions_set : (library : Library) (held sorted : List Condition) → held ≡ flat_map conditions_at library.parts → IsSet condition_cmp (StandsIn held) sorted

@@ -8,15 +8,18 @@ use Rattle.odd_base.specs.Text.{text_cmp}
 use Rattle.odd_tokens.specs.Same.{is_same}
 use Rattle.odd_reader.specs.Elements.{StandsIn}
 use Rattle.odd_content.specs.declared.content.Condition.{Condition}
+use Rattle.odd_base.specs.declared.key.Key.{Key}
+use Rattle.odd_decls.specs.declared.library.Component.{Component}
+use Rattle.odd_decls.specs.declared.library.Component.TheVariants as component
 use Rattle.odd_decls.specs.declared.library.Library.{Library}
 use Rattle.rng_patterns.specs.Denoting.{entry_of}
 use Rattle.rng_patterns.specs.Patterns.{IsDefined}
 use Rattle.rng_patterns.specs.declared.grammar.Body.{Body}
 use Rattle.rng_patterns.specs.declared.grammar.Define.{Define}
 use Rattle.rng_patterns.specs.declared.grammar.Grammar.{Grammar}
-use Rattle.compile_core.specs.Compiled.{IsGrammarOf, condition_body, condition_define, define_cmp, element_define}
+use Rattle.compile_core.specs.Compiled.{IsGrammarOf, condition_body, condition_define, define_cmp, component_define}
 use Rattle.compile_core.specs.Contents.{condition_name, define_name}
-use Rattle.compile_core.proofs.PlainOrder.{name_of, rising_sorted}
+use Rattle.compile_core.proofs.PlainOrder.{rising_sorted}
 use Rattle.compile_core.proofs.Standing.{found, map_stands, stands_either, stands_left, stands_map}
 use Rattle.odd_forms.specs.Sorted.{AreRising}
 
@@ -32,10 +35,17 @@ one_body ds d e r s t same =
 pub no_ident : (conditions : List Condition) (c : Condition) (ident : List ℕ) → condition_name conditions c ≡ define_name ident → ⊥
 no_ident conditions c ident e = false≢true (ap (λ name. is_same (take 1 name) (codes "e")) e)
 
+-- nor is it that of another component's
+no_component : (library : Library) (conditions : List Condition) (c : Condition) (entry : Key × Component) → condition_name conditions c ≡ (component_define library conditions entry).name → ⊥
+no_component library conditions c (key, component.Element part) e = no_ident conditions c key.ident e
+no_component library conditions c (key, component.Class part) e = false≢true (ap (λ name. is_same (take 1 name) (codes "c")) e)
+no_component library conditions c (key, component.Macro part) e = false≢true (ap (λ name. is_same (take 1 name) (codes "m")) e)
+no_component library conditions c (key, component.Datatype part) e = false≢true (ap (λ name. is_same (take 1 name) (codes "d")) e)
+
 module _ (library : Library) (start : List (List ℕ)) (g : Grammar) (is : IsGrammarOf library start g) where
   -- the defines of the held elements
   abbrev pub element_defines : List Define
-  element_defines = map (element_define library is.conditions) library.parts
+  element_defines = map (component_define library is.conditions) library.parts
 
   -- the name of a condition's define
   abbrev pub name_in : Condition → List ℕ
@@ -59,6 +69,6 @@ module _ (library : Library) (start : List (List ℕ)) (g : Grammar) (is : IsGra
       let define : Define = record { name = name_in c; body = b } in
       ⊎_elim (λ early. one_body is.before define (condition_define is.conditions c) is.are_before.rising early (own_define c s) refl)
       (λ late.
-      let h = stands_map (element_define library is.conditions) library.parts define late in
-      absurd (no_ident is.conditions c h.0.0.ident (ap (λ (x : Define). x.name) h.2 ∙ name_of library is.conditions h.0)))
+      let h = stands_map (component_define library is.conditions) library.parts define late in
+      absurd (no_component library is.conditions c h.0 (ap (λ (x : Define). x.name) h.2)))
       (stands_either is.before element_defines define (subst (λ ds. StandsIn ds define) defines_are d))

@@ -14,9 +14,9 @@ use Rattle.odd_reader.specs.Elements.{StandsIn}
 use Rattle.odd_reader.specs.Significant.{Marking}
 use Rattle.odd_reader.specs.declared.tree.Node.{Node}
 use Rattle.odd_content.specs.declared.content.Condition.{Condition}
-use Rattle.odd_content.specs.declared.content.Content.{Content, Empty, Text, Element, Any, Sequence', Alternate', Row_of-Content, end_of-Content, more_of-Content}
+use Rattle.odd_content.specs.declared.content.Content.{Content, Empty, Text, Element, Class, Macro, Any, Sequence', Alternate', Row_of-Content, end_of-Content, more_of-Content}
 use Rattle.odd_decls.specs.declared.library.Library.{Library}
-use Rattle.odd_meaning.specs.Contents.{Admits, ByOne, InOrder, IsOne}
+use Rattle.odd_meaning.specs.Contents.{Admits, ByOne, InOrder, IsOfNone, IsOne}
 use Rattle.odd_meaning.specs.Labels.{Label, element, condition}
 use Rattle.rng_patterns.proofs.Told.{text_shown, told}
 use Rattle.rng_patterns.specs.Patterns as patterns
@@ -58,6 +58,8 @@ module _ (library : Library) (numbered : List Condition) (g : Grammar) (counts :
       law Empty o a = group_law Q g marks []
       law Text o a = λ w q. (patterns.text, told g marks expr.Text shape.Text w text_shown)
       law (Element key b) o a = repeated_law Q g marks (IsOne counts (element key)) (element_pattern library key) b o (kept.elements key)
+      law (Class key p b) o a = repeated_law Q g marks IsOfNone (choice_pattern []) b o (choice_law Q g marks [])
+      law (Macro key b) o a = repeated_law Q g marks IsOfNone (choice_pattern []) b o (choice_law Q g marks [])
       law (Any c b) o a = repeated_law Q g marks (IsOne counts (condition c)) (condition_pattern numbered c) b o (kept.conditions c (a c (stands_first c [])))
       law (Sequence' shape parts b) o a =
           let ps = part_patterns library numbered parts in

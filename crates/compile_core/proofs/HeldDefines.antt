@@ -16,7 +16,7 @@ use Rattle.rng_patterns.specs.declared.grammar.Body.{Body}
 use Rattle.rng_patterns.specs.declared.grammar.Body.TheVariants as body
 use Rattle.rng_patterns.specs.declared.grammar.Define.{Define}
 use Rattle.rng_patterns.specs.declared.grammar.Grammar.{Grammar}
-use Rattle.compile_core.specs.Compiled.{IsGrammarOf, element_body, element_define}
+use Rattle.compile_core.specs.Compiled.{IsGrammarOf, element_body, component_define}
 use Rattle.compile_core.specs.Conditions.{conditions_in}
 use Rattle.compile_core.specs.Contents.{define_name}
 use Rattle.compile_core.specs.Schema.{IsFormed}
@@ -47,8 +47,8 @@ module _ (library : Library) (start : List (List ℕ)) (g : Grammar) (is : IsGra
   pub held_defined : (ident : List ℕ) (part : ElementPart) → IsHeld library ident part → IsDefined g (define_name ident) (element_body library is.conditions ident part)
   held_defined ident part held =
       let entry : Key × Component = (element_key ident, component.Element part) in
-      let d : Define = element_define library is.conditions entry in
-      let among : StandsIn (element_defines library start g is) d = map_stands (element_define library is.conditions) library.parts entry (held_entry library ident part held) in
+      let d : Define = component_define library is.conditions entry in
+      let among : StandsIn (element_defines library start g is) d = map_stands (component_define library is.conditions) library.parts entry (held_entry library ident part held) in
       subst (λ ds. StandsIn ds d) (sym (defines_are library start g is)) (stands_right is.before (element_defines library start g is) d among)
 
   -- and the conditions in its content are the grammar's
@@ -59,7 +59,13 @@ module _ (library : Library) (start : List (List ℕ)) (g : Grammar) (is : IsGra
   module _ (f : IsFormed library) where
     -- the define of an entry is that of the held element there
     entry_held : (ident : List ℕ) (b : Body) (entry : Key × Component) → StandsIn library.parts entry
-        → record { name = define_name ident; body = b } ≡ element_define library is.conditions entry → IsBodyOf library is.conditions ident b
+        → record { name = define_name ident; body = b } ≡ component_define library is.conditions entry → IsBodyOf library is.conditions ident b
+    entry_held ident b (key, component.Class part) s e =
+        absurd (f.formed key (component.Class part) (found key_cmp key_total key_exact key (component.Class part) library.parts f.rising s)).2
+    entry_held ident b (key, component.Macro part) s e =
+        absurd (f.formed key (component.Macro part) (found key_cmp key_total key_exact key (component.Macro part) library.parts f.rising s)).2
+    entry_held ident b (key, component.Datatype part) s e =
+        absurd (f.formed key (component.Datatype part) (found key_cmp key_total key_exact key (component.Datatype part) library.parts f.rising s)).2
     entry_held ident b (key, component.Element part) s e =
         let there : find key_cmp key library.parts ≡ Some (component.Element part) = found key_cmp key_total key_exact key (component.Element part) library.parts f.rising s in
         let idents : key.ident ≡ ident = one_name key.ident ident (sym (ap (λ (d : Define). d.name) e)) in
@@ -76,7 +82,7 @@ module _ (library : Library) (start : List (List ℕ)) (g : Grammar) (is : IsGra
         let d : Define = record { name = define_name ident; body = b } in
         ⊎_elim
         (λ early. let c = is.are_before.none_else d early in absurd (no_ident is.conditions c.0 ident (sym (ap (λ (x : Define). x.name) c.2))))
-        (λ late. let h = stands_map (element_define library is.conditions) library.parts d late in entry_held ident b h.0 h.1 h.2)
+        (λ late. let h = stands_map (component_define library is.conditions) library.parts d late in entry_held ident b h.0 h.1 h.2)
         (stands_either is.before (element_defines library start g is) d (subst (λ ds. StandsIn ds d) (defines_are library start g is) s))
 
     -- so it is an `element`

@@ -8,7 +8,7 @@ use Rattle.rng_patterns.specs.declared.grammar.Define.{Define}
 use Rattle.rng_patterns.specs.declared.grammar.Expr.{Expr}
 use Rattle.rng_patterns.specs.declared.grammar.Grammar.{Grammar}
 use Rattle.rng_emit.specs.Nodes.{text_nodes}
-use Rattle.compile_core.specs.Compiled.{IsConditionDefine, IsGrammarOf, define_cmp, element_define, start_pattern}
+use Rattle.compile_core.specs.Compiled.{IsConditionDefine, IsGrammarOf, define_cmp, component_define, start_pattern}
 use Rattle.compile_core.specs.Conditions.{IsConditionOf, condition_cmp}
 use Rattle.compile_core.specs.Counted.{counted}
 use Rattle.compile_core.specs.Schema.{HasLargeSchema, HoldsStart, IsTooLarge}
@@ -17,14 +17,14 @@ use Rattle.compile_core.proofs.Standing.{each_stands}
 
 -- the grammar of a library whose conditions these are
 abbrev pub grammar_with : Library → List (List ℕ) → List Condition → List Define → Grammar
-grammar_with library start conditions before = record { start = start_pattern start; defines = before ++ map (element_define library conditions) library.parts }
+grammar_with library start conditions before = record { start = start_pattern start; defines = before ++ map (component_define library conditions) library.parts }
 
 module _ (library : Library) (start : List (List ℕ)) (conditions : List Condition) (before : List Define)
     (are_conditions : IsSet condition_cmp (IsConditionOf library) conditions) (are_before : IsSet define_cmp (IsConditionDefine conditions) before) where
   abbrev whole : Grammar
   whole = grammar_with library start conditions before
 
-  pub made : (p : Expr) (defines : List Define) → p ≡ start_pattern start → defines ≡ before ++ map (element_define library conditions) library.parts
+  pub made : (p : Expr) (defines : List Define) → p ≡ start_pattern start → defines ≡ before ++ map (component_define library conditions) library.parts
       → IsGrammarOf library start (record { start = p; defines = defines })
   made p defines e f = record {
     conditions = conditions;

@@ -25,7 +25,7 @@ use Rattle.rng_patterns.specs.declared.grammar.Expr.TheVariants as expr
 use Rattle.rng_patterns.specs.declared.grammar.Grammar.{Grammar}
 use Rattle.rng_emit.specs.Grammar.{all_of, attribute_markup, attributes_markup, body_markup, class_markup, define_markup, pattern_markup, plain, rule_markup}
 use Rattle.rng_emit.specs.Nodes.{elements_among, elements_in, text_nodes}
-use Rattle.compile_core.specs.Compiled.{IsGrammarOf, condition_body, element_define}
+use Rattle.compile_core.specs.Compiled.{IsGrammarOf, condition_body, component_define}
 use Rattle.compile_core.specs.Contents.{condition_name}
 use Rattle.compile_core.proofs.DefineCounts.{text_elements}
 use Rattle.compile_core.proofs.NodesWithin.{nodes_within, not_allowed_nodes}
@@ -112,8 +112,11 @@ module _ (g : Grammar) (light : All (λ d. IsLight d.body) g.defines) where
 body_light : (name : List ℕ) (c : Condition) → IsLight (condition_body name c)
 body_light name c = search rules
 
-element_light : (library : Library) (conditions : List Condition) (entry : Key × Component) → IsLight (element_define library conditions entry).body
+element_light : (library : Library) (conditions : List Condition) (entry : Key × Component) → IsLight (component_define library conditions entry).body
 element_light library conditions (key, component.Element part) = tt
+element_light library conditions (key, component.Class part) = refl
+element_light library conditions (key, component.Macro part) = refl
+element_light library conditions (key, component.Datatype part) = refl
 
 -- the schema of a library has no more nodes after linking than its text has elements
 pub linked_within : (library : Library) (start : List (List ℕ)) (g : Grammar) → IsGrammarOf library start g → linked_nodes g ≤ text_nodes g
@@ -122,5 +125,5 @@ linked_within library start g h =
     let is = h.are_before.none_else d stands in
     subst (λ x. IsLight x.body) (sym is.2) (body_light (condition_name h.conditions is.0) is.0)) in
     let elements = each_stands _ library.parts (λ entry stands. element_light library h.conditions entry) in
-    let after = All-map (λ d. IsLight d.body) (element_define library h.conditions) library.parts elements in
+    let after = All-map (λ d. IsLight d.body) (component_define library h.conditions) library.parts elements in
     light_within g (subst (λ x. All (λ d. IsLight d.body) x.defines) (sym h.grammar_is) (All-append (λ d. IsLight d.body) h.before _ before after))

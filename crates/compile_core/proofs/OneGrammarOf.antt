@@ -8,7 +8,7 @@ use Rattle.odd_content.specs.declared.content.Condition.{Condition}
 use Rattle.odd_decls.specs.declared.library.Library.{Library}
 use Rattle.rng_patterns.specs.declared.grammar.Define.{Define}
 use Rattle.rng_patterns.specs.declared.grammar.Grammar.{Grammar}
-use Rattle.compile_core.specs.Compiled.{IsConditionDefine, IsGrammarOf, define_cmp, element_define, start_pattern}
+use Rattle.compile_core.specs.Compiled.{IsConditionDefine, IsGrammarOf, define_cmp, component_define, start_pattern}
 use Rattle.compile_core.specs.ConditionOrder.{condition_total}
 use Rattle.compile_core.specs.Conditions.{IsConditionOf, condition_cmp}
 
@@ -18,7 +18,7 @@ define_total = on_total (λ (d : Define). d.name) nat_list_cmp_total
 
 -- the grammar of some conditions and their defines
 abbrev grammar_with : Library → List (List ℕ) → List Condition → List Define → Grammar
-grammar_with library start conditions before = record { start = start_pattern start; defines = before ++ map (element_define library conditions) library.parts }
+grammar_with library start conditions before = record { start = start_pattern start; defines = before ++ map (component_define library conditions) library.parts }
 
 -- the conditions are one list, and so are their defines
 pub one_grammar_of : (library : Library) (start : List (List ℕ)) (g h : Grammar) → IsGrammarOf library start g → IsGrammarOf library start h → g ≡ h

@@ -9,7 +9,7 @@ use Rattle.rng_patterns.specs.Linked.{Reaches, RefersTo, at_once, through, names
 use Rattle.rng_patterns.specs.declared.grammar.Define.{Define}
 use Rattle.rng_patterns.specs.declared.grammar.Grammar.{Grammar}
 use Rattle.rng_emit.specs.Plain.{IsPlain, IsPlainDefine}
-use Rattle.compile_core.specs.Compiled.{IsGrammarOf, element_define, start_pattern}
+use Rattle.compile_core.specs.Compiled.{IsGrammarOf, component_define, start_pattern}
 use Rattle.compile_core.specs.Schema.{HoldsStart, IsFormed}
 use Rattle.compile_core.proofs.PlainDefines.{IsDefineAmong}
 use Rattle.compile_core.proofs.PlainLinked.{defines_known, start_known}
@@ -31,7 +31,7 @@ pub plain : (library : Library) (start : List (List ℕ)) (g : Grammar) → IsFo
 plain library start g f h is = subst IsPlain (sym is.grammar_is) made_plain
   where
     made : Grammar
-    made = record { start = start_pattern start; defines = is.before ++ map (element_define library is.conditions) library.parts }
+    made = record { start = start_pattern start; defines = is.before ++ map (component_define library is.conditions) library.parts }
 
     all : All (IsDefineAmong (names_of made.defines)) made.defines
     all = defines_known library is.conditions is.before f is.are_conditions is.are_before

@@ -9,7 +9,7 @@ use Rattle.odd_tokens.specs.Characters.{IsNCName}
 use Rattle.odd_reader.specs.Elements.{StandsIn}
 use Rattle.odd_reader.proofs.InList.{contained, stands_first}
 use Rattle.odd_content.specs.declared.content.Condition.{Condition}
-use Rattle.odd_content.specs.declared.content.Content.{Content, Empty, Text, Element, Any, Sequence', Alternate', Row_of-Content, end_of-Content, more_of-Content}
+use Rattle.odd_content.specs.declared.content.Content.{Content, Empty, Text, Element, Class, Macro, Any, Sequence', Alternate', Row_of-Content, end_of-Content, more_of-Content}
 use Rattle.odd_decls.specs.Odd.{element_key}
 use Rattle.odd_decls.specs.declared.library.Component.{Component}
 use Rattle.odd_decls.specs.declared.library.Library.{Library}
@@ -54,6 +54,8 @@ module _ (library : Library) (conditions : List Condition) (names : List (List â
     content_known Empty h = empty_known names
     content_known Text h = text_known names
     content_known (Element key b) h = repeated_known names (element_pattern library key) b (element_known key (find key_cmp (element_key key) library.parts) refl)
+    content_known (Class key p b) h = repeated_known names expr.NotAllowed b (not_allowed_known names)
+    content_known (Macro key b) h = repeated_known names expr.NotAllowed b (not_allowed_known names)
     content_known (Any c b) h = repeated_known names (condition_pattern conditions c) b (condition_known c (h c (contained (c âˆ· []) c (stands_first c []))))
     content_known (Sequence' shape parts b) h =
         let ps = part_patterns library conditions parts in repeated_known names (group_pattern ps) b (group_known names ps (parts_known parts h))

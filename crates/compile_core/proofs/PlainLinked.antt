@@ -12,6 +12,7 @@ use Rattle.odd_reader.specs.Elements.{StandsIn}
 use Rattle.odd_reader.proofs.InList.{contained, standing}
 use Rattle.odd_forms.specs.Sorted.{IsSet}
 use Rattle.odd_content.specs.declared.content.Condition.{Condition}
+use Rattle.odd_decls.specs.Library.{content_of}
 use Rattle.odd_decls.specs.Odd.{element_key}
 use Rattle.odd_decls.specs.declared.library.Component.{Component}
 use Rattle.odd_decls.specs.declared.library.Component.TheVariants as component
@@ -21,8 +22,8 @@ use Rattle.rng_patterns.specs.declared.grammar.AttrPart.TheVariants as attribute
 use Rattle.rng_patterns.specs.declared.grammar.Define.{Define}
 use Rattle.rng_patterns.specs.declared.grammar.NameClass.TheVariants as class
 use Rattle.rng_emit.specs.Plain.{IsPlainName}
-use Rattle.compile_core.specs.Compiled.{IsConditionDefine, condition_define, define_cmp, element_define, reference, start_pattern}
-use Rattle.compile_core.specs.Conditions.{IsConditionOf, condition_cmp, conditions_in, content_of}
+use Rattle.compile_core.specs.Compiled.{IsConditionDefine, condition_define, define_cmp, component_define, reference, start_pattern}
+use Rattle.compile_core.specs.Conditions.{IsConditionOf, condition_cmp, conditions_in, conditions_of}
 use Rattle.compile_core.specs.Contents.{condition_name, content_pattern}
 use Rattle.compile_core.specs.Schema.{HoldsStart, IsFormed, IsFormedCondition, IsFormedPart}
 use Rattle.compile_core.proofs.PlainContents.{IsHeldAmong, content_known, held_known}
@@ -33,14 +34,17 @@ use Rattle.compile_core.proofs.PlainPatterns.{IsAmong, choice_known}
 use Rattle.compile_core.proofs.Standing.{each_stands, held_stands, map_stands}
 
 -- a condition in a formed component is formed
-condition_formed : (part : Component) (c : Condition) → IsFormedPart part → StandsIn (conditions_in (content_of part)) c → IsFormedCondition c
+condition_formed : (part : Component) (c : Condition) → IsFormedPart part → StandsIn (conditions_of (content_of part)) c → IsFormedCondition c
+condition_formed (component.Class part) c f s = absurd f
+condition_formed (component.Macro part) c f s = absurd f
+condition_formed (component.Datatype part) c f s = absurd f
 condition_formed (component.Element part) c f s = All-contains IsFormedCondition (conditions_in part.content) c f.conditions (contained (conditions_in part.content) c s)
 
 module _ (library : Library) (conditions : List Condition) (before : List Define) (f : IsFormed library) where
   -- the defines of the elements, and the names of all defines
 
   abbrev elements : List Define
-  elements = map (element_define library conditions) library.parts
+  elements = map (component_define library conditions) library.parts
 
   abbrev defined : List (List ℕ)
   defined = names_of (before ++ elements)
@@ -53,10 +57,12 @@ module _ (library : Library) (conditions : List Condition) (before : List Define
   held : (ident : List ℕ) (part : Component) → find key_cmp (element_key ident) library.parts ≡ Some part → IsHeldAmong defined ident
   held ident part e =
       let entry : Key × Component = (element_key ident, part) in
-      let stands = map_stands (element_define library conditions) library.parts entry (held_stands key_cmp key_total key_exact (element_key ident) part library.parts e) in
-      let d = element_define library conditions entry in
+      let stands = map_stands (component_define library conditions) library.parts entry (held_stands key_cmp key_total key_exact (element_key ident) part library.parts e) in
+      let d = component_define library conditions entry in
       let there = name_stands d (Contains-append_right before elements d (contained elements d stands)) in
-      record { named = (f.formed (element_key ident) part e).1; known = subst (StandsIn defined) (name_of library conditions entry) there }
+      let at = f.formed (element_key ident) part e in
+      let is : IsElementEntry entry = record { kind = at.0; ident = at.1; part = at.2 } in
+      record { named = at.1; known = subst (StandsIn defined) (name_of library conditions entry is) there }
 
   -- so each start word refers to one
   word_known : (start : List (List ℕ)) → HoldsStart library start → (word : List ℕ) → StandsIn start word → IsAmong defined (reference word)
@@ -67,7 +73,7 @@ module _ (library : Library) (conditions : List Condition) (before : List Define
       by (Some part) e = held_known defined word (held word part e)
 
   -- and the start refers to these alone
-  pub start_known : (start : List (List ℕ)) → HoldsStart library start → IsAmong (names_of (before ++ map (element_define library conditions) library.parts)) (start_pattern start)
+  pub start_known : (start : List (List ℕ)) → HoldsStart library start → IsAmong (names_of (before ++ map (component_define library conditions) library.parts)) (start_pattern start)
   start_known start h =
       choice_known defined (map reference start) (All-map (IsAmong defined) reference start (each_stands (λ word. IsAmong defined (reference word)) start (word_known start h)))
 
@@ -86,7 +92,10 @@ module _ (library : Library) (conditions : List Condition) (before : List Define
         subst (IsDefineAmong defined) (sym h.2) (condition_define_known defined conditions h.0 formed (condition_named h.0 h.1))
 
     -- the define of an element
-    element_known : (e : Key × Component) → StandsIn library.parts e → IsElementEntry e → IsDefineAmong defined (element_define library conditions e)
+    element_known : (e : Key × Component) → StandsIn library.parts e → IsElementEntry e → IsDefineAmong defined (component_define library conditions e)
+    element_known (key, component.Class part) s h = absurd h.part
+    element_known (key, component.Macro part) s h = absurd h.part
+    element_known (key, component.Datatype part) s h = absurd h.part
     element_known (key, component.Element part) s h =
         let entry : Key × Component = (key, component.Element part) in
         let inside : (c : Condition) → Contains (conditions_in part.content) c → StandsIn defined (condition_name conditions c) =
@@ -101,9 +110,9 @@ module _ (library : Library) (conditions : List Condition) (before : List Define
 
     -- all defines
     pub defines_known :
-        All (IsDefineAmong (names_of (before ++ map (element_define library conditions) library.parts))) (before ++ map (element_define library conditions) library.parts)
+        All (IsDefineAmong (names_of (before ++ map (component_define library conditions) library.parts))) (before ++ map (component_define library conditions) library.parts)
     defines_known =
         All-append (IsDefineAmong defined) before elements
         (each_stands (IsDefineAmong defined) before (λ d s. condition_known d (are_before.none_else d s)))
-        (All-map (IsDefineAmong defined) (element_define library conditions) library.parts
-        (each_stands (λ e. IsDefineAmong defined (element_define library conditions e)) library.parts (λ e s. element_known e s (entry_formed library f e s))))
+        (All-map (IsDefineAmong defined) (component_define library conditions) library.parts
+        (each_stands (λ e. IsDefineAmong defined (component_define library conditions e)) library.parts (λ e s. element_known e s (entry_formed library f e s))))

@@ -23,7 +23,7 @@ use Rattle.odd_decls.specs.declared.library.Component.TheVariants as component
 use Rattle.odd_decls.specs.declared.library.Library.{Library}
 use Rattle.rng_patterns.specs.Denoting.{entry_of}
 use Rattle.rng_patterns.specs.declared.grammar.Define.{Define}
-use Rattle.compile_core.specs.Compiled.{IsConditionDefine, define_cmp, element_define}
+use Rattle.compile_core.specs.Compiled.{IsConditionDefine, define_cmp, component_define}
 use Rattle.compile_core.specs.Contents.{condition_name, define_name}
 use Rattle.compile_core.specs.Schema.{IsFormed, IsFormedPart}
 use Rattle.compile_core.proofs.Standing.{each_stands, found}
@@ -47,38 +47,44 @@ Rises ds = IsTrue (is_sorted text_cmp (map entry_of ds))
 
 module _ (library : Library) (conditions : List Condition) where
   -- the name of an entry's define
-  pub name_of : (e : Key × Component) → (element_define library conditions e).name ≡ define_name e.0.ident
-  name_of (key, component.Element part) = refl
+  pub name_of : (e : Key × Component) → IsElementEntry e → (component_define library conditions e).name ≡ define_name e.0.ident
+  name_of (key, component.Element part) is = refl
+  name_of (key, component.Class part) is = absurd is.part
+  name_of (key, component.Macro part) is = absurd is.part
+  name_of (key, component.Datatype part) is = absurd is.part
 
   -- an entry of a library, and its define, have one order
   same_order : (d e : Key × Component) → IsElementEntry d → IsElementEntry e
-      → key_cmp d.0 e.0 ≡ text_cmp (element_define library conditions d).name (element_define library conditions e).name
+      → key_cmp d.0 e.0 ≡ text_cmp (component_define library conditions d).name (component_define library conditions e).name
   same_order d e a b =
-      (λ n. key_cmp (record { kind = a.kind n; ident = d.0.ident }) (record { kind = b.kind n; ident = e.0.ident })) ∙ (λ n. text_cmp (sym (name_of d) n) (sym (name_of e) n))
+      (λ n. key_cmp (record { kind = a.kind n; ident = d.0.ident }) (record { kind = b.kind n; ident = e.0.ident })) ∙ (λ n. text_cmp (sym (name_of d a) n) (sym (name_of e b) n))
 
   -- so an entry is below others where its define is below theirs
   below_same : (d : Key × Component) (es : List (Key × Component)) → IsElementEntry d → All IsElementEntry es
-      → below_all key_cmp d.0 es ≡ below_all text_cmp (element_define library conditions d).name (map entry_of (map (element_define library conditions) es))
+      → below_all key_cmp d.0 es ≡ below_all text_cmp (component_define library conditions d).name (map entry_of (map (component_define library conditions) es))
   below_same d [] a b = refl
   below_same d (e ∷ es) a b = λ n. is_lt (same_order d e a (All-head IsElementEntry e es b) n) && below_same d es a (All-tail IsElementEntry e es b) n
 
   -- and entries rise where their defines do
-  sorted_same : (es : List (Key × Component)) → All IsElementEntry es → is_sorted key_cmp es ≡ is_sorted text_cmp (map entry_of (map (element_define library conditions) es))
+  sorted_same : (es : List (Key × Component)) → All IsElementEntry es → is_sorted key_cmp es ≡ is_sorted text_cmp (map entry_of (map (component_define library conditions) es))
   sorted_same [] a = refl
   sorted_same (e ∷ es) a = λ n. below_same e es (All-head IsElementEntry e es a) (All-tail IsElementEntry e es a) n && sorted_same es (All-tail IsElementEntry e es a) n
 
   -- so the defines of elements rise
-  elements_rise : IsFormed library → Rises (map (element_define library conditions) library.parts)
+  elements_rise : IsFormed library → Rises (map (component_define library conditions) library.parts)
   elements_rise f = sym (sorted_same library.parts (each_stands IsElementEntry library.parts (entry_formed library f))) ∙ f.rising
 
   -- and the name of a condition is below theirs
-  condition_below : (c : Condition) (es : List (Key × Component)) → IsBelow (condition_name conditions c) (map (element_define library conditions) es)
+  condition_below : (c : Condition) (es : List (Key × Component)) → IsBelow (condition_name conditions c) (map (component_define library conditions) es)
   condition_below c [] = refl
   condition_below c ((key, component.Element part) ∷ es) = condition_below c es
+  condition_below c ((key, component.Class part) ∷ es) = condition_below c es
+  condition_below c ((key, component.Macro part) ∷ es) = condition_below c es
+  condition_below c ((key, component.Datatype part) ∷ es) = condition_below c es
 
   -- so is that of its define
-  below_elements : (d : Define) → IsConditionDefine conditions d → IsBelow d.name (map (element_define library conditions) library.parts)
-  below_elements d h = ap (λ (x : Define). below_all text_cmp x.name (map entry_of (map (element_define library conditions) library.parts))) h.2 ∙ condition_below h.0 library.parts
+  below_elements : (d : Define) → IsConditionDefine conditions d → IsBelow d.name (map (component_define library conditions) library.parts)
+  below_elements d h = ap (λ (x : Define). below_all text_cmp x.name (map entry_of (map (component_define library conditions) library.parts))) h.2 ∙ condition_below h.0 library.parts
 
 -- a name that is below those of two lists of defines
 below_both : (name : List ℕ) (ds es : List Define) → IsBelow name ds → IsBelow name es → IsBelow name (ds ++ es)
@@ -109,7 +115,7 @@ rising_sorted (d ∷ e ∷ ds) r = and_from _ _ (below_later d.name e ds (r [] d
 
 -- all defines of a library's grammar rise
 pub defines_rise : (library : Library) (conditions : List Condition) (before : List Define) → IsFormed library → IsSet define_cmp (IsConditionDefine conditions) before
-    → Rises (before ++ map (element_define library conditions) library.parts)
+    → Rises (before ++ map (component_define library conditions) library.parts)
 defines_rise library conditions before f set =
-    both_rise before (map (element_define library conditions) library.parts) (rising_sorted before set.rising) (elements_rise library conditions f)
+    both_rise before (map (component_define library conditions) library.parts) (rising_sorted before set.rising) (elements_rise library conditions f)
     (λ d s. below_elements library conditions d (set.none_else d s))

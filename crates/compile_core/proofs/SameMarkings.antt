@@ -7,7 +7,7 @@ use Rattle.odd_reader.specs.Elements.{StandsIn}
 use Rattle.odd_reader.specs.Significant.{Marking}
 use Rattle.odd_reader.specs.declared.tree.Node.{Node, Element as AnElement}
 use Rattle.odd_reader.specs.declared.tree.Tree.{Tree}
-use Rattle.odd_content.specs.declared.content.Content.{Content, Empty, Text, Element, Any, Sequence', Alternate', Row_of-Content, end_of-Content, more_of-Content}
+use Rattle.odd_content.specs.declared.content.Content.{Content, Empty, Text, Element, Class, Macro, Any, Sequence', Alternate', Row_of-Content, end_of-Content, more_of-Content}
 use Rattle.odd_meaning.specs.Contents.{Admits, ByOne, InOrder, IsOne}
 use Rattle.odd_meaning.specs.Labels.{Label, element, condition}
 use Rattle.rng_patterns.specs.Patterns as patterns
@@ -35,6 +35,8 @@ module _ (Q : Node → Type 0) (a b : Marking Label) (agree : (t : Tree) (l : La
     content_same Empty = same Q _
     content_same Text = same Q _
     content_same (Element key bounds) = counted_same Q (one_same (element key))
+    content_same (Class key p bounds) = same Q _
+    content_same (Macro key bounds) = same Q _
     content_same (Any c bounds) = counted_same Q (one_same (condition c))
     content_same (Sequence' shape parts bounds) = counted_same Q (in_order_same parts)
     content_same (Alternate' shape parts bounds) = counted_same Q (by_one_same parts)

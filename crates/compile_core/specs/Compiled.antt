@@ -1,5 +1,5 @@
 -- The grammar of a library and a list of start words: its defines are those of the conditions, in order of name, and then those of the elements.
-use Rattle.std.specs.Prelude.{◌≡◌, ◌++◌, ℕ, not, List, [], ◌∷◌, map, filter}
+use Rattle.std.specs.Prelude.{◌≡◌, ◌++◌, ℕ, not, List, [], ◌∷◌, map, filter, codes}
 use Rattle.std.specs.List.{list_any}
 use Rattle.odd_base.specs.Text.{text_cmp}
 use Rattle.odd_base.specs.declared.key.Key.{Key}
@@ -37,8 +37,15 @@ abbrev pub element_body : Library → List Condition → List ℕ → ElementPar
 element_body library conditions ident part =
     body.Element (class.One (record { ns = part.ns; local = ident })) (attributes.Listed []) (content_pattern library conditions part.content)
 
-abbrev pub element_define : Library → List Condition → Key × Component → Define
-element_define library conditions (key, component.Element part) = record { name = define_name key.ident; body = element_body library conditions key.ident part }
+-- one that nothing matches, of a component that no library holds so far
+abbrev pub none_define : List ℕ → List ℕ → Define
+none_define prefix ident = record { name = prefix ++ ident; body = body.Part expr.NotAllowed }
+
+abbrev pub component_define : Library → List Condition → Key × Component → Define
+component_define library conditions (key, component.Element part) = record { name = define_name key.ident; body = element_body library conditions key.ident part }
+component_define library conditions (key, component.Class part) = none_define (codes "c.") key.ident
+component_define library conditions (key, component.Macro part) = none_define (codes "m.") key.ident
+component_define library conditions (key, component.Datatype part) = none_define (codes "d.") key.ident
 
 -- any number of texts, and of elements that the define itself takes
 abbrev pub content_throughout : List ℕ → Expr
@@ -79,4 +86,4 @@ pub record IsGrammarOf (library : Library) (start : List (List ℕ)) (g : Gramma
   pub are_conditions : IsSet condition_cmp (IsConditionOf library) conditions
   pub before : List Define
   pub are_before : IsSet define_cmp (IsConditionDefine conditions) before
-  pub grammar_is : g ≡ record { start = start_pattern start; defines = before ++ map (element_define library conditions) library.parts }
+  pub grammar_is : g ≡ record { start = start_pattern start; defines = before ++ map (component_define library conditions) library.parts }

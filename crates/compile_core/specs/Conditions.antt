@@ -1,5 +1,5 @@
 -- The conditions of `anyElement` in the contents of a library's elements.
-use Rattle.std.specs.Prelude.{List, [], ◌∷◌, ◌++◌}
+use Rattle.std.specs.Prelude.{List, [], ◌∷◌, ◌++◌, Option, Some, None}
 use Rattle.std.specs.Cmp.Lexicographic.{slice_cmp}
 use Rattle.std.specs.Ordering.{ordering_then}
 use Rattle.std.specs.declared.cmp.Ordering.{Ordering}
@@ -8,9 +8,9 @@ use Rattle.odd_base.specs.Text.{text_cmp}
 use Rattle.odd_base.specs.declared.key.Key.{Key}
 use Rattle.odd_reader.specs.Elements.{StandsIn}
 use Rattle.odd_content.specs.declared.content.Condition.{Condition}
-use Rattle.odd_content.specs.declared.content.Content.{Content, Empty, Text, Element, Any, Sequence', Alternate', Row_of-Content, end_of-Content, more_of-Content}
+use Rattle.odd_content.specs.declared.content.Content.{Content, Empty, Text, Element, Class, Macro, Any, Sequence', Alternate', Row_of-Content, end_of-Content, more_of-Content}
+use Rattle.odd_decls.specs.Library.{content_of}
 use Rattle.odd_decls.specs.declared.library.Component.{Component}
-use Rattle.odd_decls.specs.declared.library.Component.TheVariants as component
 use Rattle.odd_decls.specs.declared.library.Library.{Library}
 
 -- by the namespaces that are required, then by those that are excepted, and then by the names that are, item by item
@@ -23,6 +23,8 @@ abbrev mutual
   conditions_in Empty = []
   conditions_in Text = []
   conditions_in (Element key b) = []
+  conditions_in (Class key p b) = []
+  conditions_in (Macro key b) = []
   conditions_in (Any c b) = c ∷ []
   conditions_in (Sequence' shape parts b) = conditions_in_parts parts
   conditions_in (Alternate' shape parts b) = conditions_in_parts parts
@@ -31,11 +33,13 @@ abbrev mutual
   conditions_in_parts end_of-Content = []
   conditions_in_parts (more_of-Content part parts) = conditions_in part ++ conditions_in_parts parts
 
-abbrev pub content_of : Component → Content
-content_of (component.Element part) = part.content
+-- those in the content of a component, where it has one
+abbrev pub conditions_of : Option Content → List Condition
+conditions_of None = []
+conditions_of (Some content) = conditions_in content
 
--- the condition stands in the content of a held element
+-- the condition stands in the content of a held component
 pub record IsConditionOf (library : Library) (c : Condition) : Type 0 where
   pub entry : Key × Component
   pub among : StandsIn library.parts entry
-  pub holds : StandsIn (conditions_in (content_of entry.1)) c
+  pub holds : StandsIn (conditions_of (content_of entry.1)) c

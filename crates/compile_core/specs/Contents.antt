@@ -4,7 +4,7 @@ use Rattle.std.specs.FinMap.{find}
 use Rattle.std.specs.Ordering.{is_lt}
 use Rattle.odd_base.specs.Key.{key_cmp}
 use Rattle.odd_content.specs.declared.content.Condition.{Condition}
-use Rattle.odd_content.specs.declared.content.Content.{Content, Empty, Text, Element, Any, Sequence', Alternate', Row_of-Content, end_of-Content, more_of-Content}
+use Rattle.odd_content.specs.declared.content.Content.{Content, Empty, Text, Element, Class, Macro, Any, Sequence', Alternate', Row_of-Content, end_of-Content, more_of-Content}
 use Rattle.odd_decls.specs.Odd.{element_key}
 use Rattle.odd_decls.specs.declared.library.Component.{Component}
 use Rattle.odd_decls.specs.declared.library.Library.{Library}
@@ -42,6 +42,8 @@ abbrev mutual
   content_pattern library conditions Empty = expr.Empty
   content_pattern library conditions Text = expr.Text
   content_pattern library conditions (Element key b) = repeated (element_pattern library key) b
+  content_pattern library conditions (Class key p b) = repeated expr.NotAllowed b
+  content_pattern library conditions (Macro key b) = repeated expr.NotAllowed b
   content_pattern library conditions (Any c b) = repeated (condition_pattern conditions c) b
   content_pattern library conditions (Sequence' shape parts b) = repeated (group_pattern (part_patterns library conditions parts)) b
   content_pattern library conditions (Alternate' shape parts b) = repeated (choice_pattern (part_patterns library conditions parts)) b

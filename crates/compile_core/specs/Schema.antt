@@ -71,6 +71,7 @@ pub record IsFormedElement (part : ElementPart) : Type 0 where
 
 abbrev pub IsFormedPart : Component → Type 0
 IsFormedPart (component.Element part) = IsFormedElement part
+IsFormedPart part = ⊥
 
 -- A library as files give it: a finite map from keys to components, which are elements so far, and whose idents are names.
 pub record IsFormed (library : Library) : Type 0 where

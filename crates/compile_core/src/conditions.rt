@@ -111,8 +111,9 @@ pub fn conditions_of(alloc: Global, library: &Library) -> Result<Conditions, NoM
 {
     let mut held = Seq::new(alloc);
     for entry in library.parts.entries() {
-        let Component::Element(part) = &entry.1;
-        add_conditions(alloc, &mut held, &part.content)?;
+        if let Some(content) = entry.1.content() {
+            add_conditions(alloc, &mut held, content)?;
+        }
     }
     let ordered = sorted(alloc, held)?;
     unordered(alloc, &ordered)
@@ -145,7 +146,7 @@ fn add_conditions(alloc: Global, held: &mut Seq<Ordered>, content: &Content) -> 
         Content::Alternate { parts, bounds: _ } => add_conditions_in(alloc, held, parts),
         Content::Empty => Ok(()),
         Content::Text => Ok(()),
-        Content::Element { key: _, bounds: _ } => Ok(()),
+        Content::Element { .. } | Content::Class { .. } | Content::Macro { .. } => Ok(()),
     }
 }
 

@@ -33,6 +33,10 @@ pub fn content_pattern(
         Content::Element { key, bounds } => {
             repeated(alloc, element_pattern(alloc, library, key)?, *bounds)
         }
+        // no class and no macro is held so far
+        Content::Class { bounds, .. } | Content::Macro { bounds, .. } => {
+            repeated(alloc, Expr::NotAllowed, *bounds)
+        }
         Content::Any { condition, bounds } => {
             let element = condition_pattern(alloc, conditions, condition)?;
             repeated(alloc, element, *bounds)

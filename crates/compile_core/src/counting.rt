@@ -4,7 +4,7 @@ ghost use Rattle.odd_content.specs.declared.content.Condition.{Condition as ACon
 ghost use Rattle.odd_decls.specs.declared.library.Library.{Library as ALibrary};
 ghost use Rattle.rng_emit.specs.Grammar.{class_markup, define_markup, part_markup, pattern_markup};
 ghost use Rattle.rng_emit.specs.Nodes.{elements_in, text_nodes as the_text_nodes};
-ghost use Rattle.compile_core.specs.Compiled.{IsConditionDefine, element_define, start_pattern};
+ghost use Rattle.compile_core.specs.Compiled.{IsConditionDefine, component_define, start_pattern};
 ghost use Rattle.compile_core.specs.Contents.{content_pattern};
 ghost use Rattle.compile_core.specs.Counted.{counted, excepting_nodes as the_excepting_nodes, grouped_nodes as the_grouped_nodes};
 ghost use Rattle.compile_core.specs.Repeating.{choice_pattern, group_pattern, repeated};
@@ -19,7 +19,7 @@ use rng_values::Bounds;
 /// How many elements the schema of a library has, whose start words and whose conditions' defines these are. It is
 /// 2^64 - 1 where there are more.
 pub fn text_nodes(library: &Library, start: &Words, before: &Defines) -> u64
-    ensures { (conditions : List ACondition) → All (IsConditionDefine conditions) before.now → result ≡ counted (the_text_nodes (record { start = start_pattern start.now; defines = before.now ++ map (element_define library.now conditions) library.now.parts })) }
+    ensures { (conditions : List ACondition) → All (IsConditionDefine conditions) before.now → result ≡ counted (the_text_nodes (record { start = start_pattern start.now; defines = before.now ++ map (component_define library.now conditions) library.now.parts })) }
 {
     let words = start.len() as u64;
     let start = grouped_nodes(words, words);
@@ -87,7 +87,7 @@ fn excepting_nodes(exceptions: u64) -> u64
 
 // The elements of the components' defines.
 fn elements_nodes(library: &Library) -> u64
-    ensures { (conditions : List ACondition) → result ≡ counted (sum_by (λ entry. elements_in (define_markup (element_define library.now conditions entry))) library.now.parts) }
+    ensures { (conditions : List ACondition) → result ≡ counted (sum_by (λ entry. elements_in (define_markup (component_define library.now conditions entry))) library.now.parts) }
 {
     let mut count = 0_u64;
     for entry in library.parts.entries() {
@@ -96,12 +96,15 @@ fn elements_nodes(library: &Library) -> u64
     count
 }
 
-// A `define` with an `element` and its content, whatever library and conditions it is made for.
+// A `define`, for an element with an `element` and its content, whatever library and conditions it is made for.
 fn component_nodes(component: &Component) -> u64
-    ensures { (library : ALibrary) (conditions : List ACondition) (key : AKey) → result ≡ counted (elements_in (define_markup (element_define library conditions (key, component.now)))) }
+    ensures { (library : ALibrary) (conditions : List ACondition) (key : AKey) → result ≡ counted (elements_in (define_markup (component_define library conditions (key, component.now)))) }
 {
     match component {
         Component::Element(part) => content_nodes(&part.content).saturating_add(2),
+        Component::Class(_) => 2,
+        Component::Macro(_) => 2,
+        Component::Datatype(_) => 2,
     }
 }
 
@@ -113,7 +116,9 @@ fn content_nodes(content: &Content) -> u64
     match content {
         Content::Empty => 1,
         Content::Text => 1,
-        Content::Element { key: _, bounds } => repeated_nodes(1, *bounds),
+        Content::Element { bounds, .. } => repeated_nodes(1, *bounds),
+        Content::Class { bounds, .. } => repeated_nodes(1, *bounds),
+        Content::Macro { bounds, .. } => repeated_nodes(1, *bounds),
         Content::Any {
             condition: _,
             bounds,

@@ -4,7 +4,7 @@ ghost use Rattle.std.specs.List.Sorted.{IsPermutation, IsSorted, IsSortedByKey};
 ghost use Rattle.odd_base.specs.Text.{text_cmp};
 ghost use Rattle.odd_forms.specs.Sorted.{AreRising, IsSet};
 ghost use Rattle.odd_tokens.specs.Same.{is_same};
-ghost use Rattle.compile_core.specs.Compiled.{IsConditionDefine, condition_body as the_condition_body, condition_define as the_condition_define, content_throughout as the_content_throughout, define_cmp, element_body as the_element_body, element_define as the_element_define, space_part as the_space_part, spaces_left as the_spaces_left};
+ghost use Rattle.compile_core.specs.Compiled.{IsConditionDefine, condition_body as the_condition_body, condition_define as the_condition_define, content_throughout as the_content_throughout, define_cmp, element_body as the_element_body, component_define as the_component_define, none_define as the_none_define, space_part as the_space_part, spaces_left as the_spaces_left};
 ghost use Rattle.compile_core.specs.Conditions.{condition_cmp};
 ghost use Rattle.compile_core.specs.Contents.{define_name as the_define_name};
 ghost use Rattle.rng_patterns.specs.declared.grammar.AttrPart.TheVariants as attributes;
@@ -12,7 +12,7 @@ ghost use Rattle.rng_patterns.specs.declared.grammar.Body.TheVariants as body;
 
 use crate::conditions::Conditions;
 use crate::contents::{condition_name, content_pattern, define_name};
-use odd_base::{Name, Names, NoMemory, Text, TryCopy, Words};
+use odd_base::{Key, Name, Names, NoMemory, Text, TryCopy, Words};
 use odd_content::Condition;
 use odd_decls::{Component, ElementPart, Library};
 use rng_patterns::{
@@ -177,14 +177,44 @@ pub fn add_elements(
     conditions: &Conditions,
 ) -> Result<Defines, NoMemory>
     requires { AreRising condition_cmp conditions.now }
-    ensures { IfOk result (λ defines. defines ≡ before ++ map (the_element_define library.now conditions.now) library.now.parts) }
+    ensures { IfOk result (λ defines. defines ≡ before ++ map (the_component_define library.now conditions.now) library.now.parts) }
 {
     let mut defines = before;
     for entry in library.parts.entries() {
-        let Component::Element(part) = &entry.1;
-        defines.push(element_define(alloc, library, conditions, &entry.0.ident, part)?)?;
+        defines.push(component_define(alloc, library, conditions, entry)?)?;
     }
     Ok(defines)
+}
+
+// The define of a component.
+fn component_define(
+    alloc: Global,
+    library: &Library,
+    conditions: &Conditions,
+    entry: &(Key, Component),
+) -> Result<Define, NoMemory>
+    requires { AreRising condition_cmp conditions.now }
+    ensures { IfOk result (λ define. define ≡ the_component_define library.now conditions.now entry.now) }
+{
+    let ident = &entry.0.ident;
+    match &entry.1 {
+        Component::Element(part) => element_define(alloc, library, conditions, ident, part),
+        Component::Class(_) => none_define(alloc, "c.", ident),
+        Component::Macro(_) => none_define(alloc, "m.", ident),
+        Component::Datatype(_) => none_define(alloc, "d.", ident),
+    }
+}
+
+// A define that nothing matches, of a component that no library holds so far.
+fn none_define(alloc: Global, prefix: &str, ident: &Text) -> Result<Define, NoMemory>
+    ensures { IfOk result (λ define. define ≡ the_none_define prefix.now ident.now) }
+{
+    let mut name = Text::from_str(alloc, prefix)?;
+    name.push_str(ident.as_str())?;
+    Ok(Define {
+        name,
+        body: Body::Part(Expr::NotAllowed),
+    })
 }
 
 // The define of an element.

@@ -1,5 +1,5 @@
 use odd_base::{Name, Names, NoMemory, Text, Words};
-use odd_content::{Condition, Content, Contents};
+use odd_content::{Condition, Content, Contents, Pick};
 use rng_values::Bounds;
 use std::alloc::Global;
 
@@ -10,6 +10,17 @@ pub fn add_content(alloc: Global, out: &mut Text, content: &Content) -> Result<(
         Content::Empty => out.push_str("empty"),
         Content::Text => out.push_str("text"),
         Content::Element { key, bounds } => {
+            out.push_str(key.as_str())?;
+            add_bounds(alloc, out, *bounds)
+        }
+        Content::Class { key, pick, bounds } => {
+            out.push_str("class ")?;
+            out.push_str(key.as_str())?;
+            add_pick(out, pick)?;
+            add_bounds(alloc, out, *bounds)
+        }
+        Content::Macro { key, bounds } => {
+            out.push_str("macro ")?;
             out.push_str(key.as_str())?;
             add_bounds(alloc, out, *bounds)
         }
@@ -50,6 +61,21 @@ fn add_bounds(alloc: Global, out: &mut Text, bounds: Bounds) -> Result<(), NoMem
     match bounds.max {
         Some(max) => out.push_str(format!(in alloc; " {min}..{max}")?.as_str()),
         None => out.push_str(format!(in alloc; " {min}..*")?.as_str()),
+    }
+}
+
+// Puts which elements of a class are named.
+fn add_pick(out: &mut Text, pick: &Pick) -> Result<(), NoMemory> {
+    match pick {
+        Pick::All => Ok(()),
+        Pick::Include(words) => {
+            out.push_str(" include")?;
+            add_words(out, words)
+        }
+        Pick::Except(words) => {
+            out.push_str(" except")?;
+            add_words(out, words)
+        }
     }
 }
 

@@ -41,7 +41,7 @@ pub enum CaseFault {
     NoDocs,
     #[error("docs and their answers stand beside something else")]
     DocsNotAlone,
-    #[error("a tree or a content is asked of one file, patterns of words, and each beside nothing else")]
+    #[error("a tree, a content or classes are asked of one file, patterns of words, and each beside nothing else")]
     NotAlone,
 }
 

@@ -5,6 +5,8 @@ pub enum Shown {
     Tree,
     /// What the first child of its root says as a `content`.
     Content,
+    /// The memberships that its root gives as a declaration.
+    Classes,
 }
 
 impl Shown {
@@ -13,6 +15,7 @@ impl Shown {
         match self {
             Shown::Tree => "tree",
             Shown::Content => "content",
+            Shown::Classes => "classes",
         }
     }
 }
@@ -82,6 +85,7 @@ pub fn read_text_head(head: &str) -> Option<Head<'_>> {
         "out has" => Some(Head::OutHas),
         "tree" => Some(Head::Shown(Shown::Tree)),
         "content" => Some(Head::Shown(Shown::Content)),
+        "classes" => Some(Head::Shown(Shown::Classes)),
         "asked" => Some(Head::Asked),
         "patterns" => Some(Head::Patterns(Over::Letters)),
         "patterns of children" => Some(Head::Patterns(Over::Children)),

@@ -1,6 +1,8 @@
 use odd_base::{NoMemory, Text};
 use odd_case_files::{Shown, add_content, add_name};
 use odd_content::{ContentRefusal, read_content};
+use odd_forms::Element;
+use odd_members::{Membership, read_classes};
 use odd_reader::{Node, Tree, elements, read_tree};
 use std::alloc::Global;
 
@@ -18,6 +20,7 @@ fn add_shown(alloc: Global, out: &mut Text, shown: Shown, tree: &Tree) -> Result
     match shown {
         Shown::Tree => add_tree(alloc, out, tree),
         Shown::Content => add_content_of(alloc, out, tree),
+        Shown::Classes => add_classes_of(alloc, out, tree),
     }
 }
 
@@ -33,6 +36,41 @@ fn add_content_of(alloc: Global, out: &mut Text, root: &Tree) -> Result<(), NoMe
         }
         Err(ContentRefusal::NoMemory) => Err(NoMemory),
     }
+}
+
+// Puts the memberships that a root gives, as the declaration of a class or else of an element.
+fn add_classes_of(alloc: Global, out: &mut Text, root: &Tree) -> Result<(), NoMemory> {
+    let form = match root.name.local.as_str() {
+        "classSpec" => Element::ClassSpec,
+        _ => Element::ElementSpec,
+    };
+    let read = read_classes(alloc, form, root)?;
+    match (read.fault, &read.classes) {
+        (Some(rule), _) => out.push_str(format!(in alloc; "rule {rule}")?.as_str()),
+        (None, Some(membership)) => add_membership(out, membership),
+        (None, None) => out.push_str("none"),
+    }
+}
+
+// Puts the classes in the place of those before them, or each with whether it is added or taken away.
+fn add_membership(out: &mut Text, membership: &Membership) -> Result<(), NoMemory> {
+    match membership {
+        Membership::Replace(words) => {
+            out.push_str("replace")?;
+            for word in words.as_slice() {
+                out.push(' ')?;
+                out.push_str(word.as_str())?;
+            }
+        }
+        Membership::Change(marks) => {
+            out.push_str("change")?;
+            for (word, is_added) in marks.entries() {
+                out.push_str(if *is_added { " +" } else { " -" })?;
+                out.push_str(word.as_str())?;
+            }
+        }
+    }
+    Ok(())
 }
 
 // Puts a tree: the tag of its root, and its children in parentheses, a text in apostrophes.

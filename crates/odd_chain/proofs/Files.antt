@@ -8,7 +8,7 @@ use Rattle.odd_decls.specs.Offences.{HasOffence}
 use Rattle.odd_decls.specs.declared.library.Library.{Library}
 use Rattle.odd_decls.specs.declared.odd.OddDoc.{OddDoc}
 use Rattle.odd_modes.specs.After.{IsLibraryAfter}
-use Rattle.odd_chain.specs.Files.{AreDeclared, ChainOffends, Gives, IsChainRefusal, IsNotAfter, of_form, of_items}
+use Rattle.odd_chain.specs.Files.{AreDeclared, ChainOffends, Gives, IsChainRefusal, ComesNotAfter, of_form, of_items}
 use Rattle.odd_chain.specs.Offences.{IsRefusal, OffendsIn}
 use Rattle.odd_chain.specs.Reading.{IsBrokenAfter}
 use Rattle.odd_chain.proofs.Declared.{DeclareFirst, as_many, first_declared, no_more_declared, stands_after}
@@ -60,7 +60,7 @@ module _ (trees : List Tree) (docs : List OddDoc) (are : DeclareFirst trees docs
   pub items_refused : (o : Offence) → IsRefusal docs o → IsChainRefusal trees o
   items_refused o r = record { stage = 1; place = r.place; placed = r.placed; is_one = of_chain o.file r.place o.rule r.is_one; first = first }
     where
-      first : (other others_stage place rule : ℕ) → ChainOffends trees other others_stage place rule → IsNotAfter o.file 1 r.place o.rule other others_stage place rule
+      first : (other others_stage place rule : ℕ) → ChainOffends trees other others_stage place rule → ComesNotAfter o.file 1 r.place o.rule other others_stage place rule
       first other others_stage place rule (of_form before t later e h) =
           let made = after_declared before later t place rule e h in
           inl (omega (arith, within_files o.file r.place o.rule r.is_one, ap length made.1, length-append {A = Tree}))
@@ -108,7 +108,7 @@ form_refused trees docs o b sound = record {
   where
     -- another offence of form is of the same file, or of a later one
     own_or_later : (before between later : List Tree) (t : Tree) (place rule : ℕ) → before ≡ b.earlier ++ between → b.tree ∷ b.later ≡ between ++ t ∷ later
-        → HasOffence t place rule → IsNotAfter o.file 0 b.refused.is_one.place o.rule (suc (length before)) 0 place rule
+        → HasOffence t place rule → ComesNotAfter o.file 0 b.refused.is_one.place o.rule (suc (length before)) 0 place rule
     own_or_later before [] later t place rule e is h =
         let file : o.file ≡ suc (length before) = omega (arith, ap length e, length-append {A = Tree}) in
         let same : t ≡ b.tree = cc in
@@ -116,7 +116,7 @@ form_refused trees docs o b sound = record {
     own_or_later before (u ∷ between) later t place rule e is h = inl (omega (arith, ap length e, length-append {A = Tree}))
 
     first : (other others_stage place rule : ℕ) → ChainOffends trees other others_stage place rule
-        → IsNotAfter o.file 0 b.refused.is_one.place o.rule other others_stage place rule
+        → ComesNotAfter o.file 0 b.refused.is_one.place o.rule other others_stage place rule
     first other others_stage place rule (of_form before t later e h) =
         let made = after_declared trees docs (broken trees docs o b) before later t place rule e h in
         own_or_later before made.0 later t place rule made.1 made.2 h

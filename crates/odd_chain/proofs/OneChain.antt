@@ -5,7 +5,7 @@ use Rattle.odd_base.specs.declared.offence.Who.TheVariants as who
 use Rattle.odd_reader.specs.declared.tree.Tree.{Tree}
 use Rattle.odd_reader.proofs.InList.{Stands, stands_around}
 use Rattle.odd_decls.specs.declared.library.Library.{Library}
-use Rattle.odd_decls.proofs.OneOffence.{neither_after}
+use Rattle.odd_decls.proofs.OffenceOrder.{neither_after}
 use Rattle.odd_modes.specs.After.{IsLibraryAfter}
 use Rattle.odd_modes.proofs.OneLibrary.{one_library}
 use Rattle.odd_chain.specs.Files.{AreAllRead, Gives, IsChainRefusal, IsFirstPending}

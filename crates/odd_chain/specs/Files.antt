@@ -5,7 +5,7 @@ use Rattle.odd_base.specs.declared.offence.Who.TheVariants as who
 use Rattle.odd_reader.specs.Elements.{StandsIn}
 use Rattle.odd_reader.specs.declared.tree.Tree.{Tree}
 use Rattle.odd_decls.specs.Declares.{Declares}
-use Rattle.odd_decls.specs.Offences.{HasOffence, IsNotBefore}
+use Rattle.odd_decls.specs.Offences.{HasOffence, IsNotAfter}
 use Rattle.odd_decls.specs.Pending.{IsPending}
 use Rattle.odd_decls.specs.declared.library.Library.{Library}
 use Rattle.odd_decls.specs.declared.odd.OddDoc.{OddDoc}
@@ -40,9 +40,9 @@ pub data ChainOffends (trees : List Tree) : ℕ → ℕ → ℕ → ℕ → Type
       → ChainOffends trees (length upto) 1 place rule
 
 -- by file, then by stage, then by place, and then by rule
-abbrev pub IsNotAfter : ℕ → ℕ → ℕ → ℕ → ℕ → ℕ → ℕ → ℕ → Type 0
-IsNotAfter file stage place rule other others_stage others_place others_rule =
-    (file < other) ⊎ ((file ≡ other) × ((stage < others_stage) ⊎ ((stage ≡ others_stage) × IsNotBefore place rule others_place others_rule)))
+abbrev pub ComesNotAfter : ℕ → ℕ → ℕ → ℕ → ℕ → ℕ → ℕ → ℕ → Type 0
+ComesNotAfter file stage place rule other others_stage others_place others_rule =
+    (file < other) ⊎ ((file ≡ other) × ((stage < others_stage) ⊎ ((stage ≡ others_stage) × IsNotAfter place rule others_place others_rule)))
 
 -- of all offences of the chain the first
 pub record IsChainRefusal (trees : List Tree) (offence : Offence) : Type 0 where
@@ -51,7 +51,7 @@ pub record IsChainRefusal (trees : List Tree) (offence : Offence) : Type 0 where
   pub placed : offence.who ≡ who.At place
   pub is_one : ChainOffends trees offence.file stage place offence.rule
   pub first : (other others_stage others_place others_rule : ℕ) → ChainOffends trees other others_stage others_place others_rule
-      → IsNotAfter offence.file stage place offence.rule other others_stage others_place others_rule
+      → ComesNotAfter offence.file stage place offence.rule other others_stage others_place others_rule
 
 -- the files declare docs, none of them has an offence, and the library is the one after them
 pub record Gives (trees : List Tree) (library : Library) : Type 0 where

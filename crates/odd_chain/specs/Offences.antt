@@ -2,7 +2,7 @@
 use Rattle.std.specs.Prelude.{◌≡◌, ◌⊎◌, ◌<◌, ℕ, suc, List, ◌∷◌, ◌++◌, length}
 use Rattle.odd_base.specs.declared.offence.Offence.{Offence}
 use Rattle.odd_base.specs.declared.offence.Who.TheVariants as who
-use Rattle.odd_decls.specs.Offences.{IsNotBefore}
+use Rattle.odd_decls.specs.Offences.{IsNotAfter}
 use Rattle.odd_decls.specs.declared.library.Library.{Library}
 use Rattle.odd_decls.specs.declared.odd.OddDoc.{OddDoc}
 use Rattle.odd_modes.specs.After.{IsLibraryAfter}
@@ -24,4 +24,4 @@ pub record IsRefusal (docs : List OddDoc) (offence : Offence) : Type 0 where
   pub place : ℕ
   pub placed : offence.who ≡ who.At place
   pub is_one : OffendsIn docs offence.file place offence.rule
-  pub first : (file other rule : ℕ) → OffendsIn docs file other rule → (offence.file < file) ⊎ ((offence.file ≡ file) × IsNotBefore place offence.rule other rule)
+  pub first : (file other rule : ℕ) → OffendsIn docs file other rule → (offence.file < file) ⊎ ((offence.file ≡ file) × IsNotAfter place offence.rule other rule)

@@ -14,7 +14,7 @@ use Rattle.odd_forms.specs.declared.element.Element.{Element}
 use Rattle.odd_forms.specs.declared.element.Element.TheVariants as kind
 use Rattle.odd_forms.proofs.OneSet.{one_set}
 use Rattle.odd_content.specs.Excepting.{IsConditionOf}
-use Rattle.odd_content.specs.Giving.{AreParts, IsContentOf, IsPart, bounds_given, joined_parts, key_given, part_of, parts_of}
+use Rattle.odd_content.specs.Giving.{AreParts, IsContentOf, IsPart, bounds_given, joined_parts, key_given, part_of, parts_of, pick_given}
 use Rattle.odd_content.specs.declared.content.Condition.{Condition}
 use Rattle.odd_content.specs.declared.content.Content.{Content}
 use Rattle.odd_content.specs.declared.content.Content.TheVariants as content
@@ -40,6 +40,8 @@ abbrev Gives : Element → List Bind → Tree → Content → Type 0
 Gives kind.Empty around t c = c ≡ content.Empty
 Gives kind.TextNode around t c = c ≡ content.Text
 Gives kind.ElementRef around t c = c ≡ content.Element (key_given t) (bounds_given t)
+Gives kind.ClassRef around t c = c ≡ content.Class (key_given t) (pick_given t) (bounds_given t)
+Gives kind.MacroRef around t c = c ≡ content.Macro (key_given t) (bounds_given t)
 Gives kind.AnyElement around t c = (condition : Condition) × IsConditionOf (within around t) t condition × (c ≡ content.Any condition (bounds_given t))
 Gives kind.Sequence around t c = (parts : List Content) × AreParts (within around t) (parts_of t) parts × (c ≡ content.Sequence parts (bounds_given t))
 Gives kind.Alternate around t c = (parts : List Content) × AreParts (within around t) (parts_of t) parts × (c ≡ content.Alternate parts (bounds_given t))
@@ -50,6 +52,8 @@ by_kind : (e : Element) (around : List Bind) (t : Tree) (c : Content) → part_o
 by_kind e around t c is (IsPart.empty h) = subst (λ k. Gives k around t c) (same_Some _ _ (sym h ∙ is)) refl
 by_kind e around t c is (IsPart.text h) = subst (λ k. Gives k around t c) (same_Some _ _ (sym h ∙ is)) refl
 by_kind e around t c is (IsPart.element h) = subst (λ k. Gives k around t c) (same_Some _ _ (sym h ∙ is)) refl
+by_kind e around t c is (IsPart.«class» h) = subst (λ k. Gives k around t c) (same_Some _ _ (sym h ∙ is)) refl
+by_kind e around t c is (IsPart.«macro» h) = subst (λ k. Gives k around t c) (same_Some _ _ (sym h ∙ is)) refl
 by_kind e around t c is (IsPart.any {condition = condition} h g) = subst (λ k. Gives k around t c) (same_Some _ _ (sym h ∙ is)) (condition, g, refl)
 by_kind e around t c is (IsPart.sequence {parts = parts} h g) = subst (λ k. Gives k around t c) (same_Some _ _ (sym h ∙ is)) (parts, g, refl)
 by_kind e around t c is (IsPart.alternate {parts = parts} h g) = subst (λ k. Gives k around t c) (same_Some _ _ (sym h ∙ is)) (parts, g, refl)
@@ -60,6 +64,8 @@ mutual
   one_part around t c d (IsPart.empty h) q = sym (by_kind kind.Empty around t d h q)
   one_part around t c d (IsPart.text h) q = sym (by_kind kind.TextNode around t d h q)
   one_part around t c d (IsPart.element h) q = sym (by_kind kind.ElementRef around t d h q)
+  one_part around t c d (IsPart.«class» h) q = sym (by_kind kind.ClassRef around t d h q)
+  one_part around t c d (IsPart.«macro» h) q = sym (by_kind kind.MacroRef around t d h q)
   one_part around t c d (IsPart.any {condition = condition} h g) q =
       let o = by_kind kind.AnyElement around t d h q in
       ap (λ x. content.Any x (bounds_given t)) (one_condition (within around t) t condition o.0 g o.1) ∙ sym o.2

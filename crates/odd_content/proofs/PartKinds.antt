@@ -23,6 +23,8 @@ abbrev is_kind : Element → Bool
 is_kind kind.Sequence = true
 is_kind kind.Alternate = true
 is_kind kind.ElementRef = true
+is_kind kind.ClassRef = true
+is_kind kind.MacroRef = true
 is_kind kind.AnyElement = true
 is_kind kind.TextNode = true
 is_kind kind.Empty = true
@@ -31,18 +33,21 @@ is_kind _ = false
 part_kind : (t : Tree) (e : Element) → part_of t ≡ Some e → is_kind e ≡ true
 part_kind t e is = found_passes (λ k. is_one_of ((form_at k).name ∷ []) t) is_kind (parts ++ []) e refl is
 
-last_kind : (e : Element) → is_kind e ≡ true → (IsLevel e → ⊥) → e ≢ kind.AnyElement → e ≢ kind.ElementRef → e ≢ kind.TextNode → e ≡ kind.Empty
-last_kind kind.Sequence h flat any ref text = absurd (flat (inl refl))
-last_kind kind.Alternate h flat any ref text = absurd (flat (inr refl))
-last_kind kind.ElementRef h flat any ref text = absurd (ref refl)
-last_kind kind.AnyElement h flat any ref text = absurd (any refl)
-last_kind kind.TextNode h flat any ref text = absurd (text refl)
-last_kind kind.Empty h flat any ref text = refl
-last_kind _ h flat any ref text = cc
+last_kind : (e : Element) → is_kind e ≡ true → (IsLevel e → ⊥) → e ≢ kind.AnyElement → e ≢ kind.ElementRef → e ≢ kind.ClassRef → e ≢ kind.MacroRef → e ≢ kind.TextNode → e ≡ kind.Empty
+last_kind kind.Sequence h flat any ref class_ref macro_ref text = absurd (flat (inl refl))
+last_kind kind.Alternate h flat any ref class_ref macro_ref text = absurd (flat (inr refl))
+last_kind kind.ElementRef h flat any ref class_ref macro_ref text = absurd (ref refl)
+last_kind kind.ClassRef h flat any ref class_ref macro_ref text = absurd (class_ref refl)
+last_kind kind.MacroRef h flat any ref class_ref macro_ref text = absurd (macro_ref refl)
+last_kind kind.AnyElement h flat any ref class_ref macro_ref text = absurd (any refl)
+last_kind kind.TextNode h flat any ref class_ref macro_ref text = absurd (text refl)
+last_kind kind.Empty h flat any ref class_ref macro_ref text = refl
+last_kind _ h flat any ref class_ref macro_ref text = cc
 
 -- a part that is no other is `empty`
-pub empty_part : (t : Tree) (e : Element) → part_of t ≡ Some e → (IsLevel e → ⊥) → e ≢ kind.AnyElement → e ≢ kind.ElementRef → e ≢ kind.TextNode → part_of t ≡ Some kind.Empty
-empty_part t e is flat any ref text = is ∙ ap Some (last_kind e (part_kind t e is) flat any ref text)
+pub empty_part : (t : Tree) (e : Element) → part_of t ≡ Some e → (IsLevel e → ⊥) → e ≢ kind.AnyElement → e ≢ kind.ElementRef → e ≢ kind.ClassRef → e ≢ kind.MacroRef → e ≢ kind.TextNode
+    → part_of t ≡ Some kind.Empty
+empty_part t e is flat any ref class_ref macro_ref text = is ∙ ap Some (last_kind e (part_kind t e is) flat any ref class_ref macro_ref text)
 
 -- a level that is no sequence is an alternate
 pub other_level : (e : Element) → IsLevel e → e ≢ kind.Sequence → e ≡ kind.Alternate

@@ -8,12 +8,15 @@ use Rattle.rng_values.specs.declared.bounds.Bounds.{Bounds}
 use Rattle.odd_forms.specs.Faults.{child_in}
 use Rattle.odd_forms.specs.Form.{number_told}
 use Rattle.odd_forms.specs.Table.{form_at}
+use Rattle.odd_forms.specs.Words.{words_given}
 use Rattle.odd_forms.specs.declared.element.Element.{Element}
 use Rattle.odd_forms.specs.declared.element.Element.TheVariants as kind
 use Rattle.odd_content.specs.Excepting.{IsConditionOf}
 use Rattle.odd_content.specs.declared.content.Content.{Content}
 use Rattle.odd_content.specs.declared.content.Content.TheVariants as content
 use Rattle.odd_content.specs.declared.content.Condition.{Condition}
+use Rattle.odd_content.specs.declared.content.Pick.{Pick}
+use Rattle.odd_content.specs.declared.content.Pick.TheVariants as pick
 
 -- which part of a content a child is, if it is one
 abbrev pub part_of : Tree → Option Element
@@ -36,12 +39,23 @@ maximum_told (Some value) = if is_same value (codes "unbounded") then None else 
 abbrev pub bounds_given : Tree → Bounds
 bounds_given t = record { min = unwrap_or (number_told (given t (codes "minOccurs"))) 1; max = maximum_told (given t (codes "maxOccurs")) }
 
+-- Which elements a reference names, by the words of `include` and those of `except`: one without a word is as if it were absent.
+abbrev pub pick_of : List (List ℕ) → List (List ℕ) → Pick
+pick_of [] [] = pick.All
+pick_of [] (word ∷ words) = pick.Except (word ∷ words)
+pick_of (word ∷ words) excepted = pick.Include (word ∷ words)
+
+abbrev pub pick_given : Tree → Pick
+pick_given t = pick_of (words_given t (codes "include")) (words_given t (codes "except"))
+
 mutual
   -- the content that a part gives, under the declarations around it
   pub data IsPart : List Bind → Tree → Content → Type 0 where
     empty : {around : List Bind} {t : Tree} → part_of t ≡ Some kind.Empty → IsPart around t content.Empty
     text : {around : List Bind} {t : Tree} → part_of t ≡ Some kind.TextNode → IsPart around t content.Text
     element : {around : List Bind} {t : Tree} → part_of t ≡ Some kind.ElementRef → IsPart around t (content.Element (key_given t) (bounds_given t))
+    «class» : {around : List Bind} {t : Tree} → part_of t ≡ Some kind.ClassRef → IsPart around t (content.Class (key_given t) (pick_given t) (bounds_given t))
+    «macro» : {around : List Bind} {t : Tree} → part_of t ≡ Some kind.MacroRef → IsPart around t (content.Macro (key_given t) (bounds_given t))
     any : {around : List Bind} {t : Tree} {condition : Condition} → part_of t ≡ Some kind.AnyElement → IsConditionOf (within around t) t condition
         → IsPart around t (content.Any condition (bounds_given t))
     sequence : {around : List Bind} {t : Tree} {parts : List Content} → part_of t ≡ Some kind.Sequence → AreParts (within around t) (parts_of t) parts

@@ -21,6 +21,16 @@ pub enum Pick {
     Except(Words),
 }
 
+impl TryCopy for Pick {
+    fn copy(&self, alloc: Global) -> Result<Pick, NoMemory> {
+        match self {
+            Pick::All => Ok(Pick::All),
+            Pick::Include(words) => Ok(Pick::Include(words.copy(alloc)?)),
+            Pick::Except(words) => Ok(Pick::Except(words.copy(alloc)?)),
+        }
+    }
+}
+
 /// A content model of the TEI Guidelines (the chapter Documentation Elements).
 #[derive(Drop)]
 pub enum Content {
@@ -30,6 +40,17 @@ pub enum Content {
     Text,
     /// Elements of the ident.
     Element {
+        key: Text,
+        bounds: Bounds,
+    },
+    /// Elements that are members of the class of the ident, and that are picked.
+    Class {
+        key: Text,
+        pick: Pick,
+        bounds: Bounds,
+    },
+    /// What the macro of the ident says.
+    Macro {
         key: Text,
         bounds: Bounds,
     },
@@ -80,6 +101,15 @@ fn copied(content: &Content, alloc: Global) -> Result<Content, NoMemory>
         Content::Empty => Ok(Content::Empty),
         Content::Text => Ok(Content::Text),
         Content::Element { key, bounds } => Ok(Content::Element {
+            key: key.copy(alloc)?,
+            bounds: *bounds,
+        }),
+        Content::Class { key, pick, bounds } => Ok(Content::Class {
+            key: key.copy(alloc)?,
+            pick: pick.copy(alloc)?,
+            bounds: *bounds,
+        }),
+        Content::Macro { key, bounds } => Ok(Content::Macro {
             key: key.copy(alloc)?,
             bounds: *bounds,
         }),

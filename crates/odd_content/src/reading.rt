@@ -9,6 +9,7 @@ ghost use Rattle.odd_reader.specs.declared.tree.Tree.{out-Tree};
 
 use crate::condition::read_condition;
 use crate::content::{Content, Contents};
+use crate::picking::read_pick;
 use odd_base::{NoMemory, Scope, Text, TryCopy};
 use odd_forms::{Element, LEFT_OUT, MALFORMED, child_of, fault_where, form_fault, lesser, number};
 use odd_reader::{Bindings, Node, Tree, attribute, elements, entered};
@@ -213,6 +214,15 @@ fn plain_content(alloc: Global, part: Element, tree: &Tree) -> Result<Content, N
 {
     match part {
         Element::ElementRef => Ok(Content::Element {
+            key: key_given(alloc, tree)?,
+            bounds: bounds_given(tree),
+        }),
+        Element::ClassRef => Ok(Content::Class {
+            key: key_given(alloc, tree)?,
+            pick: read_pick(alloc, tree)?,
+            bounds: bounds_given(tree),
+        }),
+        Element::MacroRef => Ok(Content::Macro {
             key: key_given(alloc, tree)?,
             bounds: bounds_given(tree),
         }),

@@ -14,6 +14,7 @@ use Rattle.odd_reader.specs.declared.tree.Attr.{Attr}
 use Rattle.odd_reader.specs.declared.tree.Node.{Node, Element, Text}
 use Rattle.odd_reader.specs.declared.tree.Tree.{Tree, out-Tree, roll-Tree}
 use Rattle.odd_reader.proofs.InList.{first_or_later, nothing_stands, stands_first, stands_later}
+use Rattle.odd_forms.specs.Children.{GivesOne, IsChild}
 use Rattle.odd_forms.specs.Faults.{AttributeFault, ChildFault, DemandFault, FormFault, OwnFault, ValueFault, child_in}
 use Rattle.odd_forms.specs.Form.{AreNames, AttributeForm}
 use Rattle.odd_forms.specs.Form as form
@@ -31,10 +32,12 @@ use Rattle.odd_content.specs.Giving.{AreParts, IsPart, part_of, parts_of}
 use Rattle.odd_content.specs.declared.content.Content.{Content}
 use Rattle.odd_content.specs.declared.content.Content.TheVariants as content
 use Rattle.odd_content.specs.declared.content.Pick.TheVariants as pick
-use Rattle.odd_decls.specs.Declares.{Declares, GivesContent, IsEntryOf, PlacesRise, mode_given, namespace_given, namespace_in, pick_given}
+use Rattle.odd_content.specs.Giving.{pick_given}
+use Rattle.odd_members.specs.Members.{IsMembershipOf}
+use Rattle.odd_decls.specs.Declares.{ChildrenGive, Declares, IsEntryOf, PlacesRise, mode_given, namespace_given, namespace_in}
 use Rattle.odd_decls.specs.Library.{component_of}
 use Rattle.odd_decls.specs.Odd.{element_key}
-use Rattle.odd_decls.specs.Offences.{HasOffence, IsContentChild, IsFirstOf, IsItem, IsNotBefore, IsSpecOf, ItemFault, ItemOffends, Offends}
+use Rattle.odd_decls.specs.Offences.{HasOffence, IsFirstOf, IsItem, IsNotAfter, IsSpecOf, ItemFault, ItemOffends, Offends}
 use Rattle.odd_decls.specs.Pending.{IsForm, IsPending, outermost}
 use Rattle.odd_decls.specs.Pending as pending
 use Rattle.odd_decls.specs.Search.{Finds, Found, foreign, own, through}
@@ -48,7 +51,7 @@ use Rattle.odd_decls.specs.declared.spec.Spec.{Spec}
 use Rattle.odd_decls.proofs.ItemFaults.{other_by_standing}
 use Rattle.odd_decls.proofs.OneDoc.{one_doc}
 use Rattle.odd_decls.proofs.Searched.{one_search}
-use Rattle.odd_decls.proofs.SmallFiles.{Each, HoldsNone, IsFine, IsNamedSchema, IsNamedSpec, IsSound, MayStand, a_alone, alone, among, attribute, bare_is_sound, by_children, declares, each_such, element, element_first, element_in, elements_are, entry_less, entry_more, few, few_rise, found_first, found_through, in_child, may_stand, no_entries, no_name, no_own_fault, nodes, none_held, not_pending, only_child, plain, spec_by_children, spec_is_sound, stands, text_first, text_sound, twice_later}
+use Rattle.odd_decls.proofs.SmallFiles.{AreOnce, Each, HoldsNone, IsFine, IsNamedSchema, IsNamedSpec, IsSound, MayStand, a_alone, alone, among, attribute, bare_is_sound, by_children, declares, each_such, element, element_first, element_in, elements_are, entry_less, entry_more, few, few_rise, found_first, found_through, in_child, may_stand, no_entries, no_name, no_own_fault, nodes, none_held, only_child, plain, spec_by_children, spec_is_sound, stands, text_first, text_sound, twice_later}
 
 -- Words
 
@@ -215,6 +218,10 @@ spec_with at children = element at (codes "elementSpec") (attribute (codes "iden
 spec_named : (at : ℕ) (children : List Tree) → IsNamedSpec (codes "a") (spec_with at children)
 spec_named at children = record { is_spec = refl; ident = refl; name = is_name (codes "a") refl; no_module = refl; no_mode = refl; no_prefix = refl; no_source = refl }
 
+-- it declares the element of its ident
+spec_key : (at : ℕ) (children : List Tree) → IsSpecOf (element_key (codes "a")) (spec_with at children)
+spec_key at children = record { element = elements.ElementSpec; is_item = refl; of_kind = refl; ident = refl; named = is_name (codes "a") refl }
+
 -- the rule of an attribute that it may have
 attribute_breaks : (a : AttributeForm) (item : Tree) (rule : ℕ) → StandsIn (form_at elements.ElementSpec).attributes a → IsItem elements.ElementSpec item → AttributeFault a item rule → ItemFault [] item rule
 attribute_breaks a item rule s is fault = ItemFault.form elements.ElementSpec is (FormFault.own (OwnFault.attribute a s fault))
@@ -249,7 +256,7 @@ constraint_item = ItemFault.misplaced (ChildFault.left_out refl)
 
 -- what stands in its only `content` breaks the rule of the `elementSpec`
 in_its_content : (children : List Tree) (rule : ℕ) → ContentFault [] (content_with children) rule → ItemFault [] (spec_with 7 (content_with children ∷ [])) rule
-in_its_content children rule fault = ItemFault.content (content_with children) refl (only_child (content_with children)) refl fault
+in_its_content children rule fault = ItemFault.content elements.ElementSpec refl (content_with children, only_child (content_with children), (refl, fault))
 
 -- an element of RELAX NG in a `content` is left out, and breaks rule 2 alone
 abbrev of_relax_ng : Tree
@@ -295,13 +302,13 @@ desc_in_empty = may_stand _ _ refl refl (λ none passed counts. cc)
 -- two `content` are one too many
 two_contents : ItemFault [] (spec_with 7 (content_with [] ∷ content_with [] ∷ [])) 4
 two_contents =
-    ItemFault.form elements.ElementSpec refl (FormFault.twice elements.Content (stands_first _ []) (subst (λ ts. 2 ≤ count_by (is_one_of (codes "content" ∷ [])) ts) (sym (elements_are (content_with [] ∷ content_with [] ∷ []))) (omega arith)))
+    ItemFault.form elements.ElementSpec refl (FormFault.twice elements.Content (stands_later _ _ _ (stands_first _ [])) (subst (λ ts. 2 ≤ count_by (is_one_of (codes "content" ∷ [])) ts) (sym (elements_are (content_with [] ∷ content_with [] ∷ []))) (omega arith)))
 
 -- of two rules the least is broken first, in either order of the children
 abbrev unknown_child : Tree
 unknown_child = element 15 (codes "p") [] []
 
-two_is_least : (ts : List Tree) → count_by (is_one_of (codes "content" ∷ [])) ts ≤ 1 → Each (IsFine []) ts → StandsIn ts constraint_spec → IsLeast (ItemFault [] (spec_with 7 ts)) (Some 2)
+two_is_least : (ts : List Tree) → AreOnce ts → Each (IsFine []) ts → StandsIn ts constraint_spec → IsLeast (ItemFault [] (spec_with 7 ts)) (Some 2)
 two_is_least ts once fine s = (
   ItemFault.form elements.ElementSpec refl (FormFault.child constraint_spec (stands ts constraint_spec s) (ChildFault.left_out refl)),
   λ rule fault.
@@ -314,21 +321,22 @@ two_is_least ts once fine s = (
     at_least_two (ChildFault.unknown counts n p none passed) = omega arith
 
 no_content : (around : List Bind) (child : Tree) → child_in (form_at elements.ElementSpec) child ≡ None → IsFine around child
-no_content around child not is = let no : Some elements.Content ≡ None = sym is ∙ not in cc
+no_content around child not =
+    ((λ is. let no : Some elements.Classes ≡ None = sym is ∙ not in cc), λ is. (let no : Some elements.Content ≡ None = sym is ∙ not in cc))
 
 least_at_first : IsLeast (ItemFault [] (spec_with 7 (constraint_spec ∷ unknown_child ∷ []))) (Some 2)
-least_at_first = two_is_least (constraint_spec ∷ unknown_child ∷ []) (omega arith) (no_content _ _ refl, (no_content _ _ refl, tt)) (stands_first _ _)
+least_at_first = two_is_least (constraint_spec ∷ unknown_child ∷ []) (omega arith, omega arith) (no_content _ _ refl, (no_content _ _ refl, tt)) (stands_first _ _)
 
 least_at_last : IsLeast (ItemFault [] (spec_with 7 (unknown_child ∷ constraint_spec ∷ []))) (Some 2)
-least_at_last = two_is_least (unknown_child ∷ constraint_spec ∷ []) (omega arith) (no_content _ _ refl, (no_content _ _ refl, tt)) (stands_later _ _ _ (stands_first _ []))
+least_at_last = two_is_least (unknown_child ∷ constraint_spec ∷ []) (omega arith, omega arith) (no_content _ _ refl, (no_content _ _ refl, tt)) (stands_later _ _ _ (stands_first _ []))
 
 -- What items and a `schemaSpec` break
 
 -- two specs of one ident offend at the later one, whatever stands between them
 two_of_one_ident : ItemOffends [] (spec_with 10 [] ∷ constraint_spec ∷ spec_with 40 [] ∷ []) 40 4
 two_of_one_ident =
-    let is : (at : ℕ) → IsSpecOf (codes "a") (spec_with at []) = λ at. (refl, refl, is_name (codes "a") refl) in
-    ItemOffends.twice (codes "a")
+    let is : (at : ℕ) → IsSpecOf (element_key (codes "a")) (spec_with at []) = λ at. spec_key at [] in
+    ItemOffends.twice (element_key (codes "a"))
     (record { before = []; first = spec_with 10 []; between = constraint_spec ∷ []; later = spec_with 40 []; after = []; parts = refl; first_is = is 10; later_is = is 40 }) refl
 
 -- a `schemaSpec` in a `schemaSpec` offends twice at its place: it may not stand there, and it is a second one
@@ -379,7 +387,7 @@ data ThreeOffences (place rule : ℕ) : Type 0 where
 first_of_three : IsFirstOf ThreeOffences 5 3
 first_of_three = record { is_one = child refl refl; first = first }
   where
-    first : (other others_rule : ℕ) → ThreeOffences other others_rule → IsNotBefore 5 3 other others_rule
+    first : (other others_rule : ℕ) → ThreeOffences other others_rule → IsNotAfter 5 3 other others_rule
     first other others_rule (late at by) = inl (omega (arith, at))
     first other others_rule (twice at by) = inr (sym at, omega (arith, by))
     first other others_rule (child at by) = inr (sym at, omega (arith, by))
@@ -388,7 +396,7 @@ first_of_three = record { is_one = child refl refl; first = first }
 first_alone : (place rule : ℕ) → IsFirstOf ThreeOffences place rule → (place ≡ 5) × (rule ≡ 3)
 first_alone place rule h = both (h.first 5 3 (child refl refl)) (first_of_three.first place rule h.is_one)
   where
-    both : IsNotBefore place rule 5 3 → IsNotBefore 5 3 place rule → (place ≡ 5) × (rule ≡ 3)
+    both : IsNotAfter place rule 5 3 → IsNotAfter 5 3 place rule → (place ≡ 5) × (rule ≡ 3)
     both (inl less) (inl more) = omega (arith, less, more)
     both (inl less) (inr same) = let at = same.0 in absurd (omega (arith, less, at))
     both (inr same) (inl more) = let at = same.0 in absurd (omega (arith, more, at))
@@ -405,32 +413,52 @@ only_part : (t : Tree) → is_some (part_of t) ≡ true → parts_of (content_wi
 only_part t is = ap (filter (λ p. is_some (part_of p))) (elements_are (t ∷ [])) ∙ ap (λ b. if b then t ∷ [] else []) is
 
 -- the content that an `elementSpec` gives with a `content` of this part
-gives_part : (t : Tree) (c : Content) → is_some (part_of t) ≡ true → IsPart [] t c → GivesContent [] (spec_with 7 (content_with (t ∷ []) ∷ [])) (Some c)
-gives_part t c is read = GivesContent.some (content_with (t ∷ [])) (only_child _) refl (record {
-  parts = c ∷ [];
-  given = subst (λ ts. AreParts [] ts (c ∷ [])) (sym (only_part t is)) (AreParts.more read AreParts.nothing);
-  joined = refl;
-})
+abbrev Gives : List Tree → Option Content → Type 0
+Gives children c = ChildrenGive [] elements.ElementSpec (spec_with 7 children) c None
 
-gives_empty : GivesContent [] (spec_with 7 (content_with (part (codes "empty") ∷ []) ∷ [])) (Some content.Empty)
+-- a child is no `classes`
+abbrev IsNoClasses : Tree → Type 0
+IsNoClasses t = IsChild elements.ElementSpec elements.Classes t → ⊥
+
+no_classes : (children : List Tree) → Each IsNoClasses children → GivesOne elements.ElementSpec elements.Classes IsMembershipOf (children_of (spec_with 7 children)) None
+no_classes children none = GivesOne.none (λ t s is. each_such IsNoClasses children t none (among (elements_are children) s) is)
+
+gives_part : (t : Tree) (c : Content) → is_some (part_of t) ≡ true → IsPart [] t c → Gives (content_with (t ∷ []) ∷ []) (Some c)
+gives_part t c is read = record {
+  content = GivesOne.some (content_with (t ∷ [])) (only_child _) refl (record {
+    parts = c ∷ [];
+    given = subst (λ ts. AreParts [] ts (c ∷ [])) (sym (only_part t is)) (AreParts.more read AreParts.nothing);
+    joined = refl;
+  });
+  classes = no_classes (content_with (t ∷ []) ∷ []) ((λ h. let other : Some elements.Content ≡ Some elements.Classes = h in cc), tt);
+}
+
+gives_empty : Gives (content_with (part (codes "empty") ∷ []) ∷ []) (Some content.Empty)
 gives_empty = gives_part (part (codes "empty")) content.Empty refl (IsPart.empty refl)
 
-gives_text : GivesContent [] (spec_with 7 (content_with (part (codes "textNode") ∷ []) ∷ [])) (Some content.Text)
+gives_text : Gives (content_with (part (codes "textNode") ∷ []) ∷ []) (Some content.Text)
 gives_text = gives_part (part (codes "textNode")) content.Text refl (IsPart.text refl)
 
 -- a `content` without a part gives nothing, and no `content` gives none
-gives_nothing : GivesContent [] (spec_with 7 (content_with [] ∷ [])) (Some content.Empty)
-gives_nothing = GivesContent.some (content_with []) (only_child _) refl (record { parts = []; given = AreParts.nothing; joined = refl })
+gives_nothing : Gives (content_with [] ∷ []) (Some content.Empty)
+gives_nothing = record {
+  content = GivesOne.some (content_with []) (only_child _) refl (record { parts = []; given = AreParts.nothing; joined = refl });
+  classes = no_classes (content_with [] ∷ []) ((λ h. let other : Some elements.Content ≡ Some elements.Classes = h in cc), tt);
+}
 
-gives_none : GivesContent [] (spec_with 7 (constraint_spec ∷ [])) None
-gives_none = GivesContent.none (λ child s is.
-    each_such (λ t. IsContentChild t → ⊥) (constraint_spec ∷ []) child ((λ h. let absent : None ≡ Some elements.Content = h in cc), tt) (among (elements_are (constraint_spec ∷ [])) s) is)
+gives_none : Gives (constraint_spec ∷ []) None
+gives_none = record {
+  content = GivesOne.none (λ child s is.
+      each_such (λ t. IsChild elements.ElementSpec elements.Content t → ⊥) (constraint_spec ∷ []) child ((λ h. let absent : None ≡ Some elements.Content = h in cc), tt)
+      (among (elements_are (constraint_spec ∷ [])) s) is);
+  classes = no_classes (constraint_spec ∷ []) ((λ h. let absent : None ≡ Some elements.Classes = h in cc), tt);
+}
 
 -- a `content` of a `textNode` breaks nothing
 abbrev text_content : Tree
 text_content = content_with (part (codes "textNode") ∷ [])
 
-text_content_fine : IsFine [] text_content
+text_content_fine : IsChild elements.ElementSpec elements.Content text_content → (rule : ℕ) → ContentFault [] text_content rule → ⊥
 text_content_fine is rule (ContentFault.form fault) =
     let broken = by_children (form_at elements.Content) text_content (part (codes "textNode") ∷ []) rule (elements_are _) (λ r. no_own_fault (form_at elements.Content) text_content r tt tt refl) tt fault in
     each_such (MayStand (form_at elements.Content)) _ broken.0 (may_stand _ _ refl refl (λ none passed counts. cc), tt) broken.1 rule broken.2
@@ -450,21 +478,22 @@ schema_is_named children = record { is_schema = refl; ident = refl; name = is_na
 
 -- what is read of an `elementSpec` at byte 7, and what such a file declares
 abbrev spec_of : Option Content → Spec
-spec_of c = record { key = element_key (codes "a"); mode = mode.Add; «module» = []; ns = Some tei_namespace; content = c }
+spec_of c = record { key = element_key (codes "a"); mode = mode.Add; «module» = []; ns = Some tei_namespace; gives = None; classes = None; content = c }
 
 abbrev doc_of : Option Content → OddDoc
 doc_of c = record { ident = codes "s"; start = codes "a" ∷ []; entries = entry.Spec 7 (spec_of c) ∷ [] }
 
-item_read : (nodes_around : List Node) (children : List Tree) (c : Option Content) → GivesContent [] (spec_with 7 children) c
+item_read : (nodes_around : List Node) (children : List Tree) (c : Option Content) → Gives children c
     → IsEntryOf (alone (schema_with nodes_around)) (spec_with 7 children) (entry.Spec 7 (spec_of c))
+unfolding spec_key
 item_read nodes_around children c gives =
-    IsEntryOf.spec (record { ident = codes "a"; is_spec = (refl, refl, is_name (codes "a") refl); key = refl; of_mode = refl; of_module = refl; ns = refl; content = gives })
+    IsEntryOf.spec (record { is_spec = spec_key 7 children; of_mode = refl; of_module = refl; ns = refl; gives = refl; children = gives })
 
 -- a file with this item alone
 abbrev file_with : Tree → Tree
 file_with item = schema_with (nodes (item ∷ []))
 
-one_item_declares : (children : List Tree) (c : Option Content) → GivesContent [] (spec_with 7 children) c → Finds [] (spec_with 7 children) []
+one_item_declares : (children : List Tree) (c : Option Content) → Gives children c → Finds [] (spec_with 7 children) []
     → HoldsNone outermost (spec_with 7 children) → IsSound [] (spec_with 7 children) → Declares (file_with (spec_with 7 children)) (doc_of c)
 one_item_declares children c gives none_found holds sound =
     declares (codes "s") (codes "a") (file_with (spec_with 7 children)) (spec_with 7 children ∷ []) _ (schema_is_named _) refl (elements_are _) (found_first [] _ [] none_found)
@@ -477,8 +506,8 @@ bare = spec_with 7 []
 bare_holds : HoldsNone outermost bare
 bare_holds = none_held _ bare [] refl (plain _ bare refl) tt
 
-bare_gives : GivesContent [] bare None
-bare_gives = GivesContent.none (λ child s is. nothing_stands child s)
+bare_gives : Gives [] None
+bare_gives = record { content = GivesOne.none (λ child s is. nothing_stands child s); classes = no_classes [] tt }
 
 bare_declares : Declares (file_with bare) (doc_of None)
 bare_declares = one_item_declares [] None bare_gives (found_through [] bare [] [] refl refl search.nothing) bare_holds (bare_is_sound (codes "a") [] bare (spec_named 7 []) refl)
@@ -502,7 +531,8 @@ texts_hold =
 
 texts_sound : IsSound [] texts
 texts_sound =
-    spec_is_sound (codes "a") [] texts (text_content ∷ []) (spec_named 7 (text_content ∷ [])) (elements_are (text_content ∷ [])) (omega arith) (text_content_fine, tt)
+    spec_is_sound (codes "a") [] texts (text_content ∷ []) (spec_named 7 (text_content ∷ [])) (elements_are (text_content ∷ [])) (omega arith, omega arith)
+    (((λ h. let other : Some elements.Content ≡ Some elements.Classes = h in cc), text_content_fine), tt)
     (may_stand _ _ refl refl (λ none passed counts. cc), tt)
 
 texts_declare : Declares (file_with texts) (doc_of (Some content.Text))
@@ -527,7 +557,7 @@ described_declares =
     (search.element [] [] (found_through [] (desc_with []) [] [] refl refl search.nothing) (found_first [] bare [] (found_through [] bare [] [] refl refl search.nothing)) refl)
     (none_held _ (desc_with []) [] refl (plain _ _ refl) tt, (bare_holds, tt))
     (desc_sound, (bare_is_sound (codes "a") [] bare (spec_named 7 []) refl, tt))
-    (λ one both. few (IsSpecOf one) (bare ∷ []) (omega arith) (twice_later (IsSpecOf one) (desc_with []) (bare ∷ []) (λ is. let no : None ≡ Some elements.ElementSpec = is.0 in cc) both))
+    (λ one both. few (IsSpecOf one) (bare ∷ []) (omega arith) (twice_later (IsSpecOf one) (desc_with []) (bare ∷ []) (λ is. let no : None ≡ Some is.element = is.is_item in cc) both))
     (entry_less (alone described) (desc_with []) (bare ∷ []) _ refl (entry_more (alone described) bare [] _ [] (item_read _ [] None bare_gives) (no_entries _))) (few_rise _ (omega arith))
   where
     desc_sound : IsSound [] (desc_with [])
@@ -632,14 +662,14 @@ p_in_reference =
 
 -- without a content the content is empty, and without a namespace it is TEI's
 abbrev changed : Option (List ℕ) → Option Content → Spec
-changed ns content = record { key = element_key (codes "b"); mode = mode.Change; «module» = codes "m"; ns = ns; content = content }
+changed ns content = record { key = element_key (codes "b"); mode = mode.Change; «module» = codes "m"; ns = ns; gives = None; classes = None; content = content }
 
-no_content_given : component_of (changed (Some (codes "urn:x")) None) ≡ component.Element (record { «module» = codes "m"; ns = codes "urn:x"; content = content.Empty })
+no_content_given : component_of (changed (Some (codes "urn:x")) None) ≡ component.Element (record { «module» = codes "m"; ns = codes "urn:x"; classes = []; content = content.Empty })
 no_content_given = refl
 
-no_namespace_given : component_of (changed None (Some content.Text)) ≡ component.Element (record { «module» = codes "m"; ns = tei_namespace; content = content.Text })
+no_namespace_given : component_of (changed None (Some content.Text)) ≡ component.Element (record { «module» = codes "m"; ns = tei_namespace; classes = []; content = content.Text })
 no_namespace_given = refl
 
 -- an empty namespace stays empty
-no_namespace : component_of (changed (Some []) None) ≡ component.Element (record { «module» = codes "m"; ns = []; content = content.Empty })
+no_namespace : component_of (changed (Some []) None) ≡ component.Element (record { «module» = codes "m"; ns = []; classes = []; content = content.Empty })
 no_namespace = refl

@@ -14,14 +14,14 @@ use Rattle.odd_forms.specs.Table.{form_at}
 use Rattle.odd_forms.specs.declared.element.Element.TheVariants as element
 use Rattle.odd_decls.specs.declared.fault.Fault.{Fault}
 use Rattle.odd_decls.specs.Faults.{IsEarlier, StandsAgain}
-use Rattle.odd_decls.specs.Offences.{IsFirstOf, IsNotBefore, IsSpecOf, ItemFault, ItemOffends, Offends, StandsTwice}
+use Rattle.odd_decls.specs.Offences.{IsFirstOf, IsNotAfter, IsSpecOf, ItemFault, ItemOffends, Offends}
 use Rattle.odd_decls.specs.Offences as offences
 use Rattle.odd_decls.specs.Reading.{AllRise, IsFirstFault, Rises}
 use Rattle.odd_decls.specs.Search.{Found}
 use Rattle.odd_decls.proofs.Repeats.{BreaksAfter}
 use Rattle.odd_decls.proofs.Searched.{schemas_of}
-use Rattle.odd_decls.proofs.SeenTwice.{later_stands, twice_around, twice_with}
-use Rattle.odd_decls.proofs.SeenTwice as twice
+use Rattle.odd_forms.proofs.Twice.{later_stands, twice_around, twice_with}
+use Rattle.odd_forms.proofs.Twice as twice
 
 -- an offence of items around a place: of those before it, of the item there or of one after it
 data OffendsAround (around : List Bind) (items : List Tree) (item : Tree) (later : List Tree) (place rule : ℕ) : Type 0 where
@@ -37,10 +37,10 @@ offends_around around items item later place rule (offences.alone t s f p) =
       | standing.here h i ↦ here (p ∙ ap (λ u. (out-Tree u).at) (sym i)) (inl (subst (λ u. ItemFault around u rule) (sym i) f))
       | standing.after c h ↦ after t (c, s.1, h) p
     ]
-offends_around around items item later place rule (offences.twice word both p) =
-    elim (twice_around (IsSpecOf word) items item later both) [
-      | twice.before w e ↦ before (offences.twice word w (p ∙ ap (λ u. (out-Tree u).at) (sym e)))
-      | twice.here e is s ↦ here (p ∙ ap (λ u. (out-Tree u).at) (sym e)) (inr ((word, is, s), refl))
+offends_around around items item later place rule (offences.twice key both p) =
+    elim (twice_around (IsSpecOf key) items item later both) [
+      | twice.before w e ↦ before (offences.twice key w (p ∙ ap (λ u. (out-Tree u).at) (sym e)))
+      | twice.here e is s ↦ here (p ∙ ap (λ u. (out-Tree u).at) (sym e)) (inr ((key, is, s), refl))
       | twice.after s ↦ after both.later s p
     ]
 
@@ -51,7 +51,7 @@ NoneOffends around items = (place rule : ℕ) → ItemOffends around items place
 -- no item offends at first
 pub none_offends : (around : List Bind) (place rule : ℕ) → ItemOffends around [] place rule → ⊥
 none_offends around place rule (offences.alone t s f p) = nothing_stands t s
-none_offends around place rule (offences.twice word both p) = nothing_stands both.later (later_stands (IsSpecOf word) [] both)
+none_offends around place rule (offences.twice key both p) = nothing_stands both.later (later_stands (IsSpecOf key) [] both)
 
 -- none with one item more that breaks nothing
 pub none_more : (around : List Bind) (items : List Tree) (item : Tree) → NoneOffends around items → ((rule : ℕ) → BreaksAfter around items item rule → ⊥) → NoneOffends around (items ++ item ∷ [])
@@ -106,14 +106,14 @@ pub first_broken : (around : List Bind) (items : List Tree) (item : Tree) (later
 first_broken around items item later all rule is none least =
     subst (λ ts. IsFirstFault (ItemOffends around ts) (Rises 0 ts) (record { at = (out-Tree item).at; rule = rule })) (sym is) (record {
       is_one = one;
-      first = λ r. record { is_one = one; first = not_before r };
+      first = λ r. record { is_one = one; first = not_after r };
     })
   where
     one : ItemOffends around (items ++ item ∷ later) (out-Tree item).at rule
     one = broken_offends around items item later rule least.0
 
-    not_before : Rises 0 (items ++ item ∷ later) → (other others_rule : ℕ) → ItemOffends around (items ++ item ∷ later) other others_rule → IsNotBefore (out-Tree item).at rule other others_rule
-    not_before r other others_rule h = elim (offends_around around items item later other others_rule h) [
+    not_after : Rises 0 (items ++ item ∷ later) → (other others_rule : ℕ) → ItemOffends around (items ++ item ∷ later) other others_rule → IsNotAfter (out-Tree item).at rule other others_rule
+    not_after r other others_rule h = elim (offends_around around items item later other others_rule h) [
       | before k ↦ absurd (none other others_rule k)
       | here p k ↦ inr (sym p, least.1 others_rule k)
       | after t s p ↦ inl (subst (λ n. suc (out-Tree item).at ≤ n) (sym p) (place_from (suc (out-Tree item).at) later s.0 t s.1 (rises_after 0 items item later r) s.2))
@@ -122,11 +122,11 @@ first_broken around items item later all rule is none least =
 -- an offence of items is at the place of one of them
 offence_stands : (around : List Bind) (items : List Tree) (place rule : ℕ) → ItemOffends around items place rule → (t : Tree) × StandsIn items t × (place ≡ (out-Tree t).at)
 offence_stands around items place rule (offences.alone t s f p) = (t, s, p)
-offence_stands around items place rule (offences.twice word both p) = (both.later, later_stands (IsSpecOf word) items both, p)
+offence_stands around items place rule (offences.twice key both p) = (both.later, later_stands (IsSpecOf key) items both, p)
 
 -- where places rise after a `schemaSpec`, its own fault is before an offence at another place
 own_before : (at : ℕ) (ts : List Tree) (rule place others_rule : ℕ) → Rises (suc at) ts → ((t : Tree) × StandsIn ts t × (place ≡ (out-Tree t).at))
-    → IsNotBefore at rule place others_rule
+    → IsNotAfter at rule place others_rule
 own_before at ts rule place others_rule r (t, s, p) = inl (subst (λ n. suc at ≤ n) (sym p) (place_from (suc at) ts s.0 t s.1 r s.2))
 
 -- one that was found is among the elements that were found
@@ -147,16 +147,16 @@ pub own_first : (first : Found) (others : List Found) (schema : Tree) (rule : �
 own_first first others schema rule is broken =
     subst (λ t. IsFirstFault (Offends first others) (AllRise first others) (record { at = (out-Tree t).at; rule = rule })) is (record {
       is_one = offences.itself least.0 refl;
-      first = λ r. record { is_one = offences.itself least.0 refl; first = not_before r };
+      first = λ r. record { is_one = offences.itself least.0 refl; first = not_after r };
     })
   where
     least : IsLeast (OwnFault (form_at element.SchemaSpec) first.schema) (Some rule)
     least = subst (λ t. IsLeast (OwnFault (form_at element.SchemaSpec) t) (Some rule)) (sym is) broken
 
-    not_before : AllRise first others → (other others_rule : ℕ) → Offends first others other others_rule → IsNotBefore (out-Tree first.schema).at rule other others_rule
-    not_before r other others_rule (offences.itself f p) = inr (sym p, least.1 others_rule f)
-    not_before r other others_rule (offences.again t s p) = own_before (out-Tree first.schema).at (schemas_of others) rule other others_rule r.0 (t.schema, schema_stands others t s, p)
-    not_before r other others_rule (offences.items h) =
+    not_after : AllRise first others → (other others_rule : ℕ) → Offends first others other others_rule → IsNotAfter (out-Tree first.schema).at rule other others_rule
+    not_after r other others_rule (offences.itself f p) = inr (sym p, least.1 others_rule f)
+    not_after r other others_rule (offences.again t s p) = own_before (out-Tree first.schema).at (schemas_of others) rule other others_rule r.0 (t.schema, schema_stands others t s, p)
+    not_after r other others_rule (offences.items h) =
         own_before (out-Tree first.schema).at (children_of first.schema) rule other others_rule r.1 (offence_stands (within first.around first.schema) (children_of first.schema) other others_rule h)
 
 -- the next `schemaSpec` is the first of those that come after one
@@ -166,13 +166,13 @@ next_again [] other e = cc
 next_again (t ∷ ts) other e =
     let same : t ≡ other = same_Some _ _ e in
     subst (λ u. IsFirstFault (StandsAgain (t.now ∷ map (λ t. t.now) ts)) (Rises 0 (t.now ∷ map (λ t. t.now) ts)) (record { at = (out-Tree u.now).at; rule = 4 })) same
-    (record { is_one = one; first = λ r. record { is_one = one; first = not_before r } })
+    (record { is_one = one; first = λ r. record { is_one = one; first = not_after r } })
   where
     one : StandsAgain (t.now ∷ map (λ t. t.now) ts) (out-Tree t.now).at 4
     one = (t.now, ([], map (λ t. t.now) ts, refl), refl, refl)
 
-    not_before : Rises 0 (t.now ∷ map (λ t. t.now) ts) → (place rule : ℕ) → StandsAgain (t.now ∷ map (λ t. t.now) ts) place rule → IsNotBefore (out-Tree t.now).at 4 place rule
-    not_before r place rule h =
+    not_after : Rises 0 (t.now ∷ map (λ t. t.now) ts) → (place rule : ℕ) → StandsAgain (t.now ∷ map (λ t. t.now) ts) place rule → IsNotAfter (out-Tree t.now).at 4 place rule
+    not_after r place rule h =
         let itself : (out-Tree t.now).at ≤ (out-Tree t.now).at = omega arith in
         let low : (out-Tree t.now).at ≤ (out-Tree h.0).at = place_from (out-Tree t.now).at (t.now ∷ map (λ t. t.now) ts) h.1.0 h.0 h.1.1 (itself, r.1) h.1.2 in
         let four : rule ≡ 4 = h.3 in
@@ -180,12 +180,12 @@ next_again (t ∷ ts) other e =
         ⊎_elim (λ e. inr (e ∙ sym h.2, least)) (λ l. inl (subst (λ n. (out-Tree t.now).at < n) (sym h.2) l)) (eq-or-lt_of_le low)
 
 -- by place and then by rule: what is not before one is not before another that is not before it
-not_before_through : (place rule between between_rule other others_rule : ℕ) → IsNotBefore place rule between between_rule → IsNotBefore between between_rule other others_rule
-    → IsNotBefore place rule other others_rule
-not_before_through place rule between between_rule other others_rule (inl h) (inl k) = inl (omega arith)
-not_before_through place rule between between_rule other others_rule (inl h) (inr k) = inl (omega (arith, k.0))
-not_before_through place rule between between_rule other others_rule (inr h) (inl k) = inl (omega (arith, h.0))
-not_before_through place rule between between_rule other others_rule (inr h) (inr k) = inr (h.0 ∙ k.0, omega (arith, h.1, k.1))
+not_after_through : (place rule between between_rule other others_rule : ℕ) → IsNotAfter place rule between between_rule → IsNotAfter between between_rule other others_rule
+    → IsNotAfter place rule other others_rule
+not_after_through place rule between between_rule other others_rule (inl h) (inl k) = inl (omega arith)
+not_after_through place rule between between_rule other others_rule (inl h) (inr k) = inl (omega (arith, k.0))
+not_after_through place rule between between_rule other others_rule (inr h) (inl k) = inl (omega (arith, h.0))
+not_after_through place rule between between_rule other others_rule (inr h) (inr k) = inr (h.0 ∙ k.0, omega (arith, h.1, k.1))
 
 -- the `schemaSpec` breaks nothing by itself
 abbrev pub IsSound : Found → Type 0
@@ -245,8 +245,8 @@ earlier_first first others one other fault sound items again both = record {
   first = λ r. record {
     is_one = is_one;
     first = λ place rule h. ⊎_elim
-        (λ i. not_before_through fault.at fault.rule one.at one.rule place rule both.1 ((items.first (items_rise first others r)).first place rule i))
-        (λ a. not_before_through fault.at fault.rule other.at other.rule place rule both.2 ((again.first (others_rise first others r)).first place rule a))
+        (λ i. not_after_through fault.at fault.rule one.at one.rule place rule both.1 ((items.first (items_rise first others r)).first place rule i))
+        (λ a. not_after_through fault.at fault.rule other.at other.rule place rule both.2 ((again.first (others_rise first others r)).first place rule a))
         (offends_else first others place rule sound h);
   };
 }

@@ -1,15 +1,14 @@
 -- Where a form that is not read yet stands: the element itself, or a child that holds one.
-use Rattle.std.proofs.Common.{◌≡◌, ℕ, Bool, true, not, ◌||◌, ◌&&◌, List, [], ◌∷◌, take, drop, ⊎_elim, codes, sym, subst, ap, ◌∙◌}
-use Rattle.std.specs.Prelude.{is_some}
+use Rattle.std.proofs.Common.{◌≡◌, ℕ, Bool, true, ◌||◌, ◌&&◌, List, [], ◌∷◌, take, drop, ⊎_elim, codes, sym, subst, ap, ◌∙◌}
 use Rattle.std.specs.List.{list_any}
-use Rattle.std.proofs.lemmas.Bool.{and_from, and_parts, false≢true, not-true, or_cases, or_left, or_right}
+use Rattle.std.proofs.lemmas.Bool.{and_from, and_parts, false≢true, or_cases, or_left, or_right}
 use Rattle.std.proofs.lemmas.List.{take-append-drop}
 use Rattle.std.proofs.lemmas.List.Folds.{list_any-append}
 use Rattle.odd_reader.specs.declared.tree.Tree.{Tree}
-use Rattle.odd_reader.specs.Elements.{StandsIn, children_of, given}
+use Rattle.odd_reader.specs.Elements.{StandsIn, children_of}
 use Rattle.odd_decls.specs.Pending.{HoldsForm, IsForm, around_in, here, inside}
 use Rattle.odd_decls.specs.Pending as pending
-use Rattle.odd_forms.specs.Names.{is_one_of, is_tei}
+use Rattle.odd_forms.specs.Names.{is_one_of}
 use Rattle.odd_reader.proofs.InList.{StandsOnce, first_or_later}
 
 -- the names of a row, and whether the row speaks of an element with these around it

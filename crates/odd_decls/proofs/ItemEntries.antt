@@ -1,6 +1,8 @@
 -- The entries that items of a `schemaSpec` give, which break nothing.
-use Rattle.std.proofs.Common.{◌≡◌, ℕ, List, Option, Some, None, ◌⊎◌, inl, inr, ⊎_elim, refl, sym, ap, subst, codes}
+use Rattle.std.proofs.Common.{◌≡◌, ℕ, false, List, Option, Some, None, IsSome, is_some, refl, sym, ap, subst, ◌∙◌, codes}
+use Rattle.std.proofs.lemmas.Option.{same_Some}
 use Rattle.std.specs.Option.{option_map}
+use Rattle.odd_base.specs.declared.key.Key.{Key}
 use Rattle.odd_base.specs.declared.key.Kind.{Kind}
 use Rattle.odd_base.specs.declared.key.Kind.TheVariants as kind
 use Rattle.odd_base.specs.declared.name.Bind.{Bind}
@@ -9,14 +11,16 @@ use Rattle.odd_reader.specs.declared.tree.Tree.{Tree, out-Tree}
 use Rattle.odd_reader.proofs.InList.{stands_first}
 use Rattle.odd_forms.specs.Faults.{AttributeFault, FormFault, OwnFault, ValueFault}
 use Rattle.odd_forms.specs.Form.{name}
-use Rattle.odd_forms.specs.Least.{IsLeast, lesser_rule}
+use Rattle.odd_forms.specs.Least.{IsLeast}
 use Rattle.odd_forms.specs.Table.{form_at, key, needed}
 use Rattle.odd_forms.specs.declared.element.Element.{Element}
 use Rattle.odd_forms.specs.declared.element.Element.TheVariants as element
 use Rattle.odd_content.specs.declared.content.Content.{Content}
-use Rattle.odd_decls.specs.Declares.{GivesContent, IsEntryOf, kind_taken, mode_given, namespace_in, pick_given}
-use Rattle.odd_decls.specs.Offences.{IsItem, IsSpecOf}
-use Rattle.odd_decls.specs.Reading.{GivesEntry, entry_made, reference_of, taken_of}
+use Rattle.odd_content.specs.Giving.{pick_given}
+use Rattle.odd_members.specs.declared.membership.Membership.{Membership}
+use Rattle.odd_decls.specs.Declares.{ChildrenGive, IsEntryOf, kind_taken, namespace_of}
+use Rattle.odd_decls.specs.Offences.{IsItem, IsSpecOf, kind_declared}
+use Rattle.odd_decls.specs.Reading.{GivesEntry, IsEntryMade, entry_made, reference_of, taken_of}
 use Rattle.odd_decls.specs.Search.{Found}
 use Rattle.odd_decls.specs.declared.odd.Entry.{Entry}
 use Rattle.odd_decls.specs.declared.odd.Entry.TheVariants as entry
@@ -46,42 +50,62 @@ taken_given item e of_kind takes keyed schema around is sound = by_key (given it
     by_key None none = absurd (key_absent item e keyed sound none)
     by_key (Some word) some = λ first same inside. IsEntryOf.take e is takes some
 
--- any item but an `elementSpec` does
-pub reference_given : (schema item : Tree) (around : List Bind) (e : Element) → IsItem e item → (e ≡ element.ElementSpec → ⊥) → IsLeast (FormFault (form_at e) item) None
+-- any item that declares no component does
+pub reference_given : (schema item : Tree) (around : List Bind) (e : Element) → IsItem e item → kind_declared e ≡ None → IsLeast (FormFault (form_at e) item) None
     → GivesEntry schema around item (reference_of e item)
-reference_given schema item around e is other sound =
-    ⊎_elim (λ same. absurd (other same)) (λ gives. gives schema around is sound)
-    (each_item (λ k. (k ≡ element.ElementSpec) ⊎ GivesReference item k) (inr (module_given item)) (inr (taken_given item element.ElementRefItem kind.Element refl (stands_first _ _)))
-    (inr (taken_given item element.ClassRefItem kind.Class refl (stands_first _ _))) (inr (taken_given item element.MacroRefItem kind.Macro refl (stands_first _ _)))
-    (inr (taken_given item element.DataRefItem kind.Datatype refl (stands_first _ _))) (inl refl) item e is)
+reference_given schema item around e is none sound =
+    each_item (λ k. kind_declared k ≡ None → GivesReference item k) (λ _. module_given item) (λ _. taken_given item element.ElementRefItem kind.Element refl (stands_first _ _))
+    (λ _. taken_given item element.ClassRefItem kind.Class refl (stands_first _ _)) (λ _. taken_given item element.MacroRefItem kind.Macro refl (stands_first _ _))
+    (λ _. taken_given item element.DataRefItem kind.Datatype refl (stands_first _ _)) (λ h. cc) (λ h. cc) (λ h. cc) item e is none schema around is sound
 
--- no fault of two kinds, and so none of the second
-pub neither_fault : (a b : Option ℕ) → lesser_rule a b ≡ None → b ≡ None
-neither_fault None b e = e
-neither_fault (Some rule) None e = refl
-neither_fault (Some rule) (Some other) e = cc
+-- the `ident` of a declaration is needed, and a name
+ident_needed : (item : Tree) (e : Element) (k : Kind) → IsItem e item → kind_declared e ≡ Some k → StandsIn (form_at e).attributes (needed (codes "ident") name)
+ident_needed item e k is declares =
+    each_item (λ x. kind_declared x ≡ Some k → StandsIn (form_at x).attributes (needed (codes "ident") name)) (λ h. cc) (λ h. cc) (λ h. cc) (λ h. cc) (λ h. cc) (λ _. stands_first _ _)
+    (λ _. stands_first _ _) (λ _. stands_first _ _) item e is declares
 
--- an `elementSpec` that breaks nothing by its form has an ident
-pub ident_given : (item : Tree) → IsItem element.ElementSpec item → IsLeast (FormFault (form_at element.ElementSpec) item) None → ((word : List ℕ) → IsSpecOf word item → ⊥) → ⊥
-ident_given item is sound none = by_value (given item (codes "ident")) refl
+-- a declaration that breaks nothing by its form has a key
+pub key_given : (item : Tree) (e : Element) (k : Kind) → IsItem e item → kind_declared e ≡ Some k → IsLeast (FormFault (form_at e) item) None → ((key : Key) → IsSpecOf key item → ⊥) → ⊥
+key_given item e k is declares sound none = by_value (given item (codes "ident")) refl
   where
     broken : AttributeFault (needed (codes "ident") name) item 1 → ⊥
-    broken f = sound 1 (FormFault.own (OwnFault.attribute (needed (codes "ident") name) (stands_first _ _) f))
+    broken f = sound 1 (FormFault.own (OwnFault.attribute (needed (codes "ident") name) (ident_needed item e k is declares) f))
 
     by_value : (o : Option (List ℕ)) → given item (codes "ident") ≡ o → ⊥
-    by_value None e = broken (AttributeFault.absent refl e)
-    by_value (Some word) e = broken (AttributeFault.value word e (ValueFault.malformed refl (λ named. none word (is, e, named))))
+    by_value None h = broken (AttributeFault.absent refl h)
+    by_value (Some word) h = broken (AttributeFault.value word h (ValueFault.malformed refl (λ named.
+        none (record { kind = k; ident = word }) (record { element = e; is_item = is; of_kind = declares; ident = h; named = named }))))
 
 -- the entry that is made of it
-pub entry_given : (schema item : Tree) (around : List Bind) (ident : List ℕ) (content : Option Content) (e : Entry) → IsSpecOf ident item → GivesContent around item content
-    → e ≡ entry_made schema item ident content → (first : Found) → first.schema ≡ schema → within first.around first.schema ≡ around → IsEntryOf first item e
-entry_given schema item around ident content e is gives made first same inside =
-    subst (IsEntryOf first item) (sym made) (IsEntryOf.spec (record {
-      ident = ident;
-      is_spec = is;
-      key = refl;
+pub entry_given : (schema item : Tree) (around : List Bind) (e : Element) (key : Key) (content : Option Content) (classes : Option Membership) (made : Entry) → IsItem e item → IsSpecOf key item
+    → ChildrenGive around e item content classes → made ≡ entry_made schema item key content classes → (first : Found) → first.schema ≡ schema → within first.around first.schema ≡ around
+    → IsEntryOf first item made
+entry_given schema item around e key content classes made is spec gives e_made first same inside =
+    subst (IsEntryOf first item) (sym e_made) (IsEntryOf.spec (record {
+      is_spec = spec;
       of_mode = refl;
       of_module = refl;
-      ns = ap (λ s. namespace_in (mode_given item) s item) (sym same);
-      content = subst (λ binds. GivesContent binds item content) (sym inside) gives;
+      ns = ap (λ s. namespace_of key.kind s item) (sym same);
+      gives = refl;
+      children = subst (λ binds. ChildrenGive binds spec.element item content classes) (sym inside)
+          (subst (λ x. ChildrenGive around x item content classes) (same_Some _ _ (sym is ∙ spec.is_item)) gives);
     }))
+
+-- the kind of a declaration
+some_declared : (o : Option Kind) → IsSome o → (k : Kind) × (o ≡ Some k)
+some_declared None h = cc
+some_declared (Some k) h = (k, refl)
+
+-- what a declaration gives that breaks nothing by its form
+pub declaration_given : (schema item : Tree) (around : List Bind) (e : Element) (content : Option Content) (classes : Option Membership) (made : Option Entry) → IsItem e item
+    → IsSome (kind_declared e) → IsLeast (FormFault (form_at e) item) None → ChildrenGive around e item content classes → IsEntryMade schema item content classes made
+    → GivesEntry schema around item made
+declaration_given schema item around e content classes None is declares sound gives none =
+    let k = some_declared (kind_declared e) declares in
+    absurd (key_given item e k.0 is k.1 sound none)
+declaration_given schema item around e content classes (Some made) is declares sound gives m = entry_given schema item around e m.0 content classes made is m.1 gives m.2
+
+-- what is no declaration of a kind is one of none
+pub none_declared : (o : Option Kind) → is_some o ≡ false → o ≡ None
+none_declared None h = refl
+none_declared (Some k) h = cc

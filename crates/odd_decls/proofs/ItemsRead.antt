@@ -1,36 +1,36 @@
 -- The items of a `schemaSpec`, read one after the other.
 use Rattle.std.proofs.Common.{◌≡◌, ℕ, List, [], ◌∷◌, ◌++◌, Option, Some, None, sym, ap, subst, ◌∙◌, append_assoc}
 use Rattle.std.specs.BTreeSet.{BTreeSet}
-use Rattle.std.specs.Borrow.{Bor}
+use Rattle.odd_base.specs.declared.key.Key.{Key}
 use Rattle.odd_base.specs.declared.name.Bind.{Bind}
 use Rattle.odd_reader.specs.Elements.{children_of, within}
 use Rattle.odd_reader.specs.declared.tree.Tree.{Tree, out-Tree}
 use Rattle.odd_forms.specs.Least.{IsLeast}
-use Rattle.odd_decls.specs.Faults.{HoldsIdents}
+use Rattle.odd_decls.specs.Faults.{HoldsKeys}
 use Rattle.odd_decls.specs.Reading.{AreItemsRead, AreRead, GivesEntry}
 use Rattle.odd_decls.specs.Search.{Found}
 use Rattle.odd_decls.specs.declared.odd.Entry.{Entry}
 use Rattle.odd_decls.specs.declared.reading.ReadItems.TheVariants as items
 use Rattle.odd_decls.proofs.FirstFaults.{NoneOffends, first_broken, none_more, none_offends}
 use Rattle.odd_decls.proofs.ReadAs.{entry_read, none_read, other_read}
-use Rattle.odd_decls.proofs.Repeats.{BreaksAfter, no_idents}
+use Rattle.odd_decls.proofs.Repeats.{BreaksAfter, no_keys}
 
--- the items that were passed without an offence, their idents and their entries, where the rest is still to come
-pub record ItemsSoFar (schema : Tree) (around : List Bind) (rest : List Tree) (idents : BTreeSet (Bor (List ℕ))) (entries : List Entry) : Type 0 where
+-- the items that were passed without an offence, their keys and their entries, where the rest is still to come
+pub record ItemsSoFar (schema : Tree) (around : List Bind) (rest : List Tree) (keys : BTreeSet Key) (entries : List Entry) : Type 0 where
   pub passed : List Tree
   pub parted : children_of schema ≡ passed ++ rest
   pub none : NoneOffends around passed
-  pub held : HoldsIdents passed idents
+  pub held : HoldsKeys passed keys
   pub read : (first : Found) → first.schema ≡ schema → within first.around first.schema ≡ around → AreRead first passed entries
 
 -- at first no item was passed
-pub no_items : (schema : Tree) (around : List Bind) (rest : List Tree) (idents : BTreeSet (Bor (List ℕ))) (entries : List Entry) → rest ≡ children_of schema → idents.keys ≡ [] → entries ≡ []
-    → ItemsSoFar schema around rest idents entries
-no_items schema around rest idents entries all empty none = record {
+pub no_items : (schema : Tree) (around : List Bind) (rest : List Tree) (keys : BTreeSet Key) (entries : List Entry) → rest ≡ children_of schema → keys.keys ≡ [] → entries ≡ []
+    → ItemsSoFar schema around rest keys entries
+no_items schema around rest keys entries all empty none = record {
   passed = [];
   parted = sym all;
   none = none_offends around;
-  held = no_idents idents empty;
+  held = no_keys keys empty;
   read = λ first is binds. subst (AreRead first []) (sym none) (none_read first);
 }
 
@@ -46,10 +46,10 @@ entry_more schema around first passed entries item None is binds read gives = ot
 entry_more schema around first passed entries item (Some e) is binds read gives = entry_read first passed entries item e read (gives first is binds)
 
 -- an item is passed
-pub item_passed : (schema : Tree) (around : List Bind) (rest later : List Tree) (idents more : BTreeSet (Bor (List ℕ))) (entries new : List Entry) (item : Tree) (given : Option Entry)
-    → (so_far : ItemsSoFar schema around rest idents entries) → rest ≡ item ∷ later → IsLeast (BreaksAfter around so_far.passed item) None → HoldsIdents (so_far.passed ++ item ∷ []) more
+pub item_passed : (schema : Tree) (around : List Bind) (rest later : List Tree) (keys more : BTreeSet Key) (entries new : List Entry) (item : Tree) (given : Option Entry)
+    → (so_far : ItemsSoFar schema around rest keys entries) → rest ≡ item ∷ later → IsLeast (BreaksAfter around so_far.passed item) None → HoldsKeys (so_far.passed ++ item ∷ []) more
     → GivesEntry schema around item given → new ≡ with_entry entries given → ItemsSoFar schema around later more new
-item_passed schema around rest later idents more entries new item given so_far is sound held gives e = record {
+item_passed schema around rest later keys more entries new item given so_far is sound held gives e = record {
   passed = so_far.passed ++ item ∷ [];
   parted = so_far.parted ∙ ap (λ ts. so_far.passed ++ ts) is ∙ sym (append_assoc so_far.passed (item ∷ []) later);
   none = none_more around so_far.passed item so_far.none sound;
@@ -59,8 +59,8 @@ item_passed schema around rest later idents more entries new item given so_far i
 }
 
 -- an item that breaks a rule gives the first fault
-pub item_broken : (schema : Tree) (around : List Bind) (rest later : List Tree) (idents : BTreeSet (Bor (List ℕ))) (entries : List Entry) (item : Tree) (rule : ℕ)
-    → (so_far : ItemsSoFar schema around rest idents entries) → rest ≡ item ∷ later → IsLeast (BreaksAfter around so_far.passed item) (Some rule)
+pub item_broken : (schema : Tree) (around : List Bind) (rest later : List Tree) (keys : BTreeSet Key) (entries : List Entry) (item : Tree) (rule : ℕ)
+    → (so_far : ItemsSoFar schema around rest keys entries) → rest ≡ item ∷ later → IsLeast (BreaksAfter around so_far.passed item) (Some rule)
     → AreItemsRead schema around (items.Broken (record { at = (out-Tree item).at; rule = rule }))
-item_broken schema around rest later idents entries item rule so_far is least =
+item_broken schema around rest later keys entries item rule so_far is least =
     first_broken around so_far.passed item later (children_of schema) rule (so_far.parted ∙ ap (λ ts. so_far.passed ++ ts) is) so_far.none least

@@ -1,79 +1,84 @@
--- The idents of the items so far, and what an item breaks that comes after them.
+-- The keys of the items so far, and what an item breaks that comes after them.
 use Rattle.std.proofs.Common.{◌≡◌, ◌↔◌, ◌⊎◌, ℕ, Bool, true, false, not, cond, if◌then◌else◌, List, [], ◌∷◌, ◌++◌, Option, Some, None, inl, inr, ⊎_elim, IsTrue, refl, sym, ap, subst, ◌∙◌}
 use Rattle.std.proofs.Math.Bool.{not-not}
 use Rattle.std.proofs.lemmas.Bool.{both_ways}
-use Rattle.std.proofs.lemmas.Cmp.{nat_list_cmp_total}
 use Rattle.std.proofs.lemmas.Option.{same_Some}
 use Rattle.std.specs.BTreeSet.{BTreeSet, contains_by}
-use Rattle.std.specs.Borrow.{Bor}
-use Rattle.std.specs.Cmp.{Equal-is, tied_itself}
-use Rattle.std.specs.FinMap.{slice_cmp-IsAntisymmetric, nat_cmp-IsAntisymmetric}
 use Rattle.std.specs.List.{list_any}
 use Rattle.std.specs.Ordering.{eq_by_cmp, is_eq}
-use Rattle.odd_base.specs.Text.{text_cmp}
+use Rattle.odd_base.specs.Key.{key_cmp}
+use Rattle.odd_base.specs.KeyOrder.{tied_is_same}
+use Rattle.odd_base.specs.declared.key.Key.{Key}
 use Rattle.odd_base.specs.declared.name.Bind.{Bind}
 use Rattle.odd_reader.specs.declared.tree.Tree.{Tree}
 use Rattle.odd_forms.specs.Least.{IsLeast, lesser_rule}
 use Rattle.odd_forms.proofs.Least.{least_if, least_or}
-use Rattle.odd_decls.specs.Faults.{HoldsIdents, IsIdentIn}
-use Rattle.odd_decls.specs.Offences.{IsSpecOf, ItemFault}
+use Rattle.odd_decls.specs.Faults.{HoldsKeys, IsKeyIn}
+use Rattle.odd_decls.specs.Offences.{IsSpecOf, ItemFault, kind_declared}
 use Rattle.odd_reader.proofs.InList.{nothing_stands, once_push}
 
--- texts that tie are one text
-same_text : (a b : List ℕ) → eq_by_cmp text_cmp a b ≡ true → a ≡ b
-same_text a b h = slice_cmp-IsAntisymmetric nat_cmp-IsAntisymmetric a b ((Equal-is (text_cmp a b)).0 h)
+-- keys that tie are one key
+same_key : (a b : Key) → eq_by_cmp key_cmp a b ≡ true → a ≡ b
+same_key a b h = (tied_is_same a b (key_cmp a b) refl).0 h
 
--- one text ties with itself
-text_itself : (a b : List ℕ) → a ≡ b → eq_by_cmp text_cmp a b ≡ true
-text_itself a b e = ap is_eq (ap (text_cmp a) (sym e) ∙ tied_itself nat_list_cmp_total a)
+-- one key ties with itself
+key_itself : (a b : Key) → a ≡ b → eq_by_cmp key_cmp a b ≡ true
+key_itself a b e = (tied_is_same a b (key_cmp a b) refl).1 e
 
--- an element has one ident
-one_ident : (item : Tree) (word other : List ℕ) → IsSpecOf word item → IsSpecOf other item → word ≡ other
-one_ident item word other h k = same_Some _ _ (sym h.1 ∙ k.1)
+-- an item declares at one key
+pub one_key : (item : Tree) (key other : Key) → IsSpecOf key item → IsSpecOf other item → key ≡ other
+one_key item key other h k =
+    let elements : h.element ≡ k.element = same_Some _ _ (sym h.is_item ∙ k.is_item) in
+    let kinds : key.kind ≡ other.kind = same_Some _ _ (sym h.of_kind ∙ ap kind_declared elements ∙ k.of_kind) in
+    let idents : key.ident ≡ other.ident = same_Some _ _ (sym h.ident ∙ k.ident) in
+    λ n. record { kind = kinds n; ident = idents n }
 
--- whether the set holds the word
-abbrev holds : BTreeSet (Bor (List ℕ)) → List ℕ → Bool
-holds idents word = contains_by (λ k. text_cmp word k.now) idents
+-- whether the set holds the key
+abbrev holds : BTreeSet Key → Key → Bool
+holds keys key = contains_by (key_cmp key) keys
 
--- an empty set holds the idents of no items
-pub no_idents : (idents : BTreeSet (Bor (List ℕ))) → idents.keys ≡ [] → HoldsIdents [] idents
-no_idents idents empty word = (λ t. absurd (both_ways (holds idents word) (ap (λ ks. list_any (λ k. is_eq (text_cmp word k.now)) ks) empty) t), λ i. absurd (nothing_stands i.0 i.1))
+-- an empty set holds the keys of no items
+pub no_keys : (keys : BTreeSet Key) → keys.keys ≡ [] → HoldsKeys [] keys
+no_keys keys empty key = (λ t. absurd (both_ways (holds keys key) (ap (λ ks. list_any (λ k. is_eq (key_cmp key k)) ks) empty) t), λ i. absurd (nothing_stands i.0 i.1))
 
--- an item without an ident adds none
-pub idents_same : (items : List Tree) (item : Tree) (idents : BTreeSet (Bor (List ℕ))) → ((word : List ℕ) → IsSpecOf word item → ⊥) → HoldsIdents items idents
-    → HoldsIdents (items ++ item ∷ []) idents
-idents_same items item idents none h word =
-    (λ e. (once_push (IsSpecOf word) items item).1 (inl ((h word).0 e)), λ i. (h word).1 (⊎_elim (λ k. k) (λ s. absurd (none word s)) ((once_push (IsSpecOf word) items item).0 i)))
+-- an item without a key adds none
+pub keys_same : (items : List Tree) (item : Tree) (keys : BTreeSet Key) → ((key : Key) → IsSpecOf key item → ⊥) → HoldsKeys items keys → HoldsKeys (items ++ item ∷ []) keys
+keys_same items item keys none h key =
+    (λ e. (once_push (IsSpecOf key) items item).1 (inl ((h key).0 e)), λ i. (h key).1 (⊎_elim (λ k. k) (λ s. absurd (none key s)) ((once_push (IsSpecOf key) items item).0 i)))
 
--- an item's ident is added
-pub idents_added : (items : List Tree) (item : Tree) (old new : BTreeSet (Bor (List ℕ))) (key : List ℕ) → IsSpecOf key item
-    → ((word : List ℕ) → holds new word ≡ cond (eq_by_cmp text_cmp key word) true (holds old word)) → HoldsIdents items old → HoldsIdents (items ++ item ∷ []) new
-idents_added items item old new key is updates h word = by_key (eq_by_cmp text_cmp key word) refl
+-- an item's key is added
+pub keys_added : (items : List Tree) (item : Tree) (old new : BTreeSet Key) (own : Key) → IsSpecOf own item
+    → ((key : Key) → holds new key ≡ cond (eq_by_cmp key_cmp own key) true (holds old key)) → HoldsKeys items old → HoldsKeys (items ++ item ∷ []) new
+keys_added items item old new own is updates h key = by_key (eq_by_cmp key_cmp own key) refl
   where
-    by_key : (b : Bool) → eq_by_cmp text_cmp key word ≡ b → IsTrue (holds new word) ↔ IsIdentIn (items ++ item ∷ []) word
+    by_key : (b : Bool) → eq_by_cmp key_cmp own key ≡ b → IsTrue (holds new key) ↔ IsKeyIn (items ++ item ∷ []) key
     by_key true e =
-        (λ t. (once_push (IsSpecOf word) items item).1 (inr (subst (λ w. IsSpecOf w item) (same_text key word e) is)), λ i. updates word ∙ ap (λ b. cond b true (holds old word)) e)
+        (λ t. (once_push (IsSpecOf key) items item).1 (inr (subst (λ k. IsSpecOf k item) (same_key own key e) is)), λ i. updates key ∙ ap (λ b. cond b true (holds old key)) e)
     by_key false e =
-        let same : holds new word ≡ holds old word = updates word ∙ ap (λ b. cond b true (holds old word)) e in
-        let other : IsSpecOf word item → ⊥ = λ s. both_ways (eq_by_cmp text_cmp key word) e (text_itself key word (one_ident item key word is s)) in (
-          λ t. (once_push (IsSpecOf word) items item).1 (inl ((h word).0 (sym same ∙ t))),
-          λ i. same ∙ (h word).1 (⊎_elim (λ k. k) (λ s. absurd (other s)) ((once_push (IsSpecOf word) items item).0 i)),
+        let same : holds new key ≡ holds old key = updates key ∙ ap (λ b. cond b true (holds old key)) e in
+        let other : IsSpecOf key item → ⊥ = λ s. both_ways (eq_by_cmp key_cmp own key) e (key_itself own key (one_key item own key is s)) in (
+          λ t. (once_push (IsSpecOf key) items item).1 (inl ((h key).0 (sym same ∙ t))),
+          λ i. same ∙ (h key).1 (⊎_elim (λ k. k) (λ s. absurd (other s)) ((once_push (IsSpecOf key) items item).0 i)),
         )
 
--- an earlier item has the item's ident
+-- an earlier item has the item's key
 abbrev pub IsAgain : List Tree → Tree → Type 0
-IsAgain items item = (word : List ℕ) × IsSpecOf word item × IsIdentIn items word
+IsAgain items item = (key : Key) × IsSpecOf key item × IsKeyIn items key
+
+-- an item without a key has none
+pub no_key_again : (items : List Tree) (item : Tree) → ((key : Key) → IsSpecOf key item → ⊥) → IsTrue false ↔ IsAgain items item
+no_key_again items item none = (λ f. cc, λ again. absurd (none again.0 again.1))
 
 -- the set tells it
-pub told_by_set : (items : List Tree) (item : Tree) (idents : BTreeSet (Bor (List ℕ))) (key : List ℕ) (added : Bool) → IsSpecOf key item → HoldsIdents items idents
-    → added ≡ not (holds idents key) → IsTrue (not added) ↔ IsAgain items item
-told_by_set items item idents key added is h e =
-    let held : not added ≡ holds idents key = ap not e ∙ not-not (holds idents key) in (
-      λ t. (key, is, (h key).0 (sym held ∙ t)),
-      λ again. held ∙ (h key).1 (subst (IsIdentIn items) (one_ident item again.0 key again.1 is) again.2),
+pub told_by_set : (items : List Tree) (item : Tree) (keys : BTreeSet Key) (own : Key) (added : Bool) → IsSpecOf own item → HoldsKeys items keys → added ≡ not (holds keys own)
+    → IsTrue (not added) ↔ IsAgain items item
+told_by_set items item keys own added is h e =
+    let held : not added ≡ holds keys own = ap not e ∙ not-not (holds keys own) in (
+      λ t. (own, is, (h own).0 (sym held ∙ t)),
+      λ again. held ∙ (h own).1 (subst (IsKeyIn items) (one_key item again.0 own again.1 is) again.2),
     )
 
--- what an item breaks by itself, and by an earlier one with its ident
+-- what an item breaks by itself, and by an earlier one with its key
 abbrev pub BreaksAfter : List Bind → List Tree → Tree → ℕ → Type 0
 BreaksAfter around items item rule = ItemFault around item rule ⊎ (IsAgain items item × (rule ≡ 4))
 

@@ -7,6 +7,7 @@ use Rattle.std.specs.List.{list_all, list_any}
 use Rattle.std.proofs.lemmas.Bool.{and_from, and_parts, both_ways, false≢true, or_cases}
 use Rattle.std.proofs.lemmas.Option.{same_Some}
 use Rattle.std.proofs.lemmas.Str.{encodes_same}
+use Rattle.odd_base.specs.declared.key.Key.{Key}
 use Rattle.odd_base.specs.Text.{text_cmp}
 use Rattle.odd_base.specs.declared.name.Bind.{Bind}
 use Rattle.odd_tokens.proofs.Ascii.{ascii_codes}
@@ -18,6 +19,7 @@ use Rattle.odd_reader.specs.declared.tree.Node.{Node, Element, Text}
 use Rattle.odd_reader.specs.declared.tree.Tree.{Tree, out-Tree, roll-Tree}
 use Rattle.odd_reader.proofs.AmongChildren.{element_shown, text_shown}
 use Rattle.odd_reader.proofs.InList.{first_or_later, nothing_stands, stands_first, stands_later}
+use Rattle.odd_forms.specs.Children.{IsChild, StandsTwice}
 use Rattle.odd_forms.specs.Faults.{AttributeFault, ChildFault, FormFault, OwnFault, ValueFault, child_in}
 use Rattle.odd_forms.specs.Form.{AreNames, AttributeForm, Form, Suits}
 use Rattle.odd_forms.specs.Least.{Among}
@@ -30,12 +32,12 @@ use Rattle.odd_forms.proofs.Named.{by_name, is_name, named_one}
 use Rattle.odd_content.specs.Breaking.{ContentFault, InnerFault, PartFault}
 use Rattle.odd_content.specs.Giving.{part_of}
 use Rattle.odd_decls.specs.Declares.{AreEntriesOf, Declares, IsEntryOf, PlacesRise}
-use Rattle.odd_decls.specs.Offences.{HasOffence, IsContentChild, IsSpecOf, IsItem, ItemFault, ItemOffends, Offends, StandsTwice}
+use Rattle.odd_decls.specs.Offences.{HasOffence, IsSpecOf, IsItem, ItemFault, ItemOffends, Offends}
 use Rattle.odd_decls.specs.Pending.{HoldsForm, IsForm, IsPending, around_in, outermost}
 use Rattle.odd_decls.specs.Search.{Finds, FindsAmong, Found, own, through}
 use Rattle.odd_decls.specs.Search as search
 use Rattle.odd_decls.specs.declared.odd.Entry.{Entry}
-use Rattle.odd_decls.proofs.ItemFaults.{item_placed, other_by_standing}
+use Rattle.odd_decls.proofs.ItemFaults.{item_placed, one_element, other_by_standing}
 use Rattle.odd_decls.proofs.Searched.{one_search}
 
 -- Trees, names and lists
@@ -245,34 +247,41 @@ spec_known : (word : List ℕ) (item : Tree) → IsNamedSpec word item → IsIte
 spec_known word item n =
     ap (λ name. find (λ e. is_same name.ns tei_namespace && is_among ((form_at e).name ∷ []) name.local) ((form_at elements.SchemaSpec).many ++ (form_at elements.SchemaSpec).once)) n.is_spec
 
--- a `content` among its children breaks nothing
+-- a child is no `classes`, and a `content` among them breaks nothing
 abbrev pub IsFine : List Bind → Tree → Type 0
-IsFine around child = IsContentChild child → (rule : ℕ) → ContentFault around child rule → ⊥
+IsFine around child = (IsChild elements.ElementSpec elements.Classes child → ⊥) × (IsChild elements.ElementSpec elements.Content child → (rule : ℕ) → ContentFault around child rule → ⊥)
+
+-- at most one `classes` and one `content` stand among them
+abbrev pub AreOnce : List Tree → Type 0
+AreOnce ts = (count_by (is_one_of (codes "classes" ∷ [])) ts ≤ 1) × (count_by (is_one_of (codes "content" ∷ [])) ts ≤ 1)
 
 -- so its children break what it breaks
-pub spec_by_children : (word : List ℕ) (around : List Bind) (item : Tree) (ts : List Tree) (rule : ℕ) → IsNamedSpec word item → children_of item ≡ ts
-    → count_by (is_one_of (codes "content" ∷ [])) ts ≤ 1 → Each (IsFine (within around item)) ts → ItemFault around item rule → Among (ChildFault (form_at elements.ElementSpec)) ts rule
+pub spec_by_children : (word : List ℕ) (around : List Bind) (item : Tree) (ts : List Tree) (rule : ℕ) → IsNamedSpec word item → children_of item ≡ ts → AreOnce ts
+    → Each (IsFine (within around item)) ts → ItemFault around item rule → Among (ChildFault (form_at elements.ElementSpec)) ts rule
 spec_by_children word around item ts rule n are once fine (ItemFault.misplaced fault) = absurd (item_placed item elements.ElementSpec rule (spec_known word item n) fault)
 spec_by_children word around item ts rule n are once fine (ItemFault.form e known fault) =
-    by_children (form_at elements.ElementSpec) item ts rule are (spec_alone word item n) (once, tt)
-    (subst (λ k. FormFault (form_at k) item rule) (same_Some _ _ (sym known ∙ spec_known word item n)) fault)
-spec_by_children word around item ts rule n are once fine (ItemFault.content child known s is fault) =
-    absurd (each_such (IsFine (within around item)) ts child fine (among are s) is rule fault)
+    by_children (form_at elements.ElementSpec) item ts rule are (spec_alone word item n) (once.0, (once.1, tt))
+    (subst (λ k. FormFault (form_at k) item rule) (one_element item elements.ElementSpec e (spec_known word item n) known) fault)
+spec_by_children word around item ts rule n are once fine (ItemFault.content e known f) =
+    absurd ((each_such (IsFine (within around item)) ts f.0 fine (among are f.1)).1 (subst (λ k. IsChild k elements.Content f.0) (one_element item elements.ElementSpec e (spec_known word item n) known) f.2.0)
+    rule f.2.1)
+spec_by_children word around item ts rule n are once fine (ItemFault.classes e known f) =
+    absurd ((each_such (IsFine (within around item)) ts f.0 fine (among are f.1)).0 (subst (λ k. IsChild k elements.Classes f.0) (one_element item elements.ElementSpec e (spec_known word item n) known) f.2.0))
 
 -- an item that breaks no rule
 abbrev pub IsSound : List Bind → Tree → Type 0
 IsSound around item = (rule : ℕ) → ItemFault around item rule → ⊥
 
 -- where its children may stand, the item breaks none
-pub spec_is_sound : (word : List ℕ) (around : List Bind) (item : Tree) (ts : List Tree) → IsNamedSpec word item → children_of item ≡ ts
-    → count_by (is_one_of (codes "content" ∷ [])) ts ≤ 1 → Each (IsFine (within around item)) ts → Each (MayStand (form_at elements.ElementSpec)) ts → IsSound around item
+pub spec_is_sound : (word : List ℕ) (around : List Bind) (item : Tree) (ts : List Tree) → IsNamedSpec word item → children_of item ≡ ts → AreOnce ts
+    → Each (IsFine (within around item)) ts → Each (MayStand (form_at elements.ElementSpec)) ts → IsSound around item
 spec_is_sound word around item ts n are once fine stand rule fault =
     let broken = spec_by_children word around item ts rule n are once fine fault in
     each_such (MayStand (form_at elements.ElementSpec)) ts broken.0 stand broken.1 rule broken.2
 
 -- with nothing inside
 pub bare_is_sound : (word : List ℕ) (around : List Bind) (item : Tree) → IsNamedSpec word item → children_of item ≡ [] → IsSound around item
-bare_is_sound word around item n none = spec_is_sound word around item [] n none (omega arith) tt tt
+bare_is_sound word around item n none = spec_is_sound word around item [] n none (omega arith, omega arith) tt tt
 
 -- an item of another name that is none of RELAX NG and is not left out breaks rule 3 or none
 pub other_breaks_three : (around : List Bind) (item : Tree) (rule : ℕ) → child_in (form_at elements.SchemaSpec) item ≡ None → is_relax_ng item ≡ false
@@ -314,16 +323,16 @@ items_alone word start t schema ts found name are place rule h =
     by_item others p r none (Offends.again other s at) = absurd (nothing_stands other (subst (λ fs. StandsIn fs other) none s))
     by_item others p r none (Offends.items offends) = subst (λ us. ItemOffends (within [] schema) us p r) are offends
 
--- sound items of which no two have one ident do not offend
-pub sound_items : (around : List Bind) (ts : List Tree) → Each (IsSound around) ts → ((word : List ℕ) → StandsTwice (IsSpecOf word) ts → ⊥) → (place rule : ℕ) → ItemOffends around ts place rule → ⊥
+-- sound items of which no two have one key do not offend
+pub sound_items : (around : List Bind) (ts : List Tree) → Each (IsSound around) ts → ((key : Key) → StandsTwice (IsSpecOf key) ts → ⊥) → (place rule : ℕ) → ItemOffends around ts place rule → ⊥
 sound_items around ts sound once place rule (ItemOffends.alone item s fault at) = each_such (IsSound around) ts item sound s rule fault
-sound_items around ts sound once place rule (ItemOffends.twice word both at) = once word both
+sound_items around ts sound once place rule (ItemOffends.twice key both at) = once key both
 
 -- an item that stands alone offends by itself
 pub one_item : (around : List Bind) (item : Tree) (place rule : ℕ) → ItemOffends around (item ∷ []) place rule → ItemFault around item rule × (place ≡ (out-Tree item).at)
 one_item around item place rule (ItemOffends.alone other s fault at) =
     ⊎_elim (λ same. (subst (λ t. ItemFault around t rule) same fault, at ∙ ap (λ t. (out-Tree t).at) same)) (λ later. absurd (nothing_stands other later)) (first_or_later item other [] s)
-one_item around item place rule (ItemOffends.twice word both at) = absurd (few (IsSpecOf word) (item ∷ []) (omega arith) both)
+one_item around item place rule (ItemOffends.twice key both at) = absurd (few (IsSpecOf key) (item ∷ []) (omega arith) both)
 
 -- What is declared
 
@@ -368,7 +377,7 @@ few_rise entries short before after one next is =
 -- and no offence.
 pub declares : (word start : List ℕ) (schema : Tree) (ts : List Tree) (entries : List Entry) → IsNamedSchema word start schema → words_of start ≡ start ∷ [] → children_of schema ≡ ts
     → FindsAmong (within [] schema) ts [] → Each (HoldsNone (around_in outermost schema)) ts → Each (IsSound (within [] schema)) ts
-    → ((one : List ℕ) → StandsTwice (IsSpecOf one) ts → ⊥) → AreEntriesOf (alone schema) ts entries → PlacesRise entries
+    → ((one : Key) → StandsTwice (IsSpecOf one) ts → ⊥) → AreEntriesOf (alone schema) ts entries → PlacesRise entries
     → Declares schema (record { ident = word; start = start ∷ []; entries = entries })
 declares word start schema ts entries n one_start are none_found held sound once of_items rise = record {
   all_read = not_pending schema (alone schema) [] found (none_held outermost schema ts are no_form held);

@@ -1,5 +1,6 @@
 -- What the tree of an ODD file declares, where it has no form that is not read yet and no offence of form.
-use Rattle.std.specs.Prelude.{◌≡◌, ◌<◌, ℕ, List, [], ◌∷◌, ◌++◌, Option, Some, None, if◌then◌else◌, codes, unwrap_or}
+use Rattle.std.specs.Prelude.{◌≡◌, ◌<◌, ℕ, Bool, List, [], ◌∷◌, ◌++◌, Option, Some, None, if◌then◌else◌, codes, unwrap_or}
+use Rattle.std.specs.Option.{option_map}
 use Rattle.odd_base.specs.Text.{text_cmp}
 use Rattle.odd_base.specs.declared.key.Kind.{Kind}
 use Rattle.odd_base.specs.declared.key.Kind.TheVariants as kind
@@ -7,17 +8,18 @@ use Rattle.odd_base.specs.declared.name.Bind.{Bind}
 use Rattle.odd_tokens.specs.Same.{is_same}
 use Rattle.odd_reader.specs.Elements.{StandsIn, children_of, given, within}
 use Rattle.odd_reader.specs.declared.tree.Tree.{Tree, out-Tree}
+use Rattle.odd_forms.specs.Children.{GivesOne}
 use Rattle.odd_forms.specs.Names.{tei_namespace}
 use Rattle.odd_forms.specs.Sorted.{IsSet}
-use Rattle.odd_forms.specs.Words.{words_given, words_of}
-use Rattle.odd_content.specs.Giving.{IsContentOf}
+use Rattle.odd_forms.specs.Words.{words_of}
+use Rattle.odd_content.specs.Giving.{IsContentOf, pick_given}
 use Rattle.odd_content.specs.declared.content.Content.{Content}
-use Rattle.odd_content.specs.declared.content.Pick.{Pick}
-use Rattle.odd_content.specs.declared.content.Pick.TheVariants as pick
 use Rattle.odd_forms.specs.declared.element.Element.{Element}
 use Rattle.odd_forms.specs.declared.element.Element.TheVariants as element
-use Rattle.odd_decls.specs.Odd.{element_key, place_of}
-use Rattle.odd_decls.specs.Offences.{HasOffence, IsContentChild, IsItem, IsSpecOf}
+use Rattle.odd_members.specs.Members.{IsMembershipOf}
+use Rattle.odd_members.specs.declared.membership.Membership.{Membership}
+use Rattle.odd_decls.specs.Odd.{place_of}
+use Rattle.odd_decls.specs.Offences.{HasOffence, IsItem, IsSpecOf}
 use Rattle.odd_decls.specs.Pending.{IsPending}
 use Rattle.odd_decls.specs.Search.{Finds, Found}
 use Rattle.odd_decls.specs.declared.odd.Entry.TheVariants as entry
@@ -26,12 +28,6 @@ use Rattle.odd_decls.specs.declared.odd.OddDoc.{OddDoc}
 use Rattle.odd_decls.specs.declared.spec.Mode.{Mode}
 use Rattle.odd_decls.specs.declared.spec.Mode.TheVariants as mode
 use Rattle.odd_decls.specs.declared.spec.Spec.{Spec}
-
--- the content that an `elementSpec` gives: that of its `content`, where it has one
-pub data GivesContent (around : List Bind) (spec : Tree) : Option Content → Type 0 where
-  none : ((child : Tree) → StandsIn (children_of spec) child → IsContentChild child → ⊥) → GivesContent around spec None
-  some : {content : Content} (child : Tree) → StandsIn (children_of spec) child → IsContentChild child → IsContentOf (within around spec) child content
-      → GivesContent around spec (Some content)
 
 -- what a declaration does: it adds, where its `mode` says nothing else
 abbrev pub mode_named : List ℕ → Mode
@@ -45,22 +41,36 @@ mode_given item = mode_named (unwrap_or (given item (codes "mode")) (codes "add"
 abbrev pub namespace_given : Tree → Tree → List ℕ
 namespace_given schema item = unwrap_or (given item (codes "ns")) (unwrap_or (given schema (codes "ns")) tei_namespace)
 
--- the namespace that a declaration gives: one that adds or replaces always gives one
+-- the namespace that the declaration of an element gives: one that adds or replaces always gives one
 abbrev pub namespace_in : Mode → Tree → Tree → Option (List ℕ)
 namespace_in mode.Add schema item = Some (namespace_given schema item)
 namespace_in mode.Replace schema item = Some (namespace_given schema item)
 namespace_in mode.Change schema item = given item (codes "ns")
 namespace_in mode.Delete schema item = given item (codes "ns")
 
--- an `elementSpec` is read as the spec
+-- other components have none
+abbrev pub namespace_of : Kind → Tree → Tree → Option (List ℕ)
+namespace_of kind.Element schema item = namespace_in (mode_given item) schema item
+namespace_of k schema item = None
+
+-- whether a class is of type `atts`, where its declaration gives a type
+abbrev pub type_given : Kind → Tree → Option Bool
+type_given kind.Class item = option_map (λ word. is_same word (codes "atts")) (given item (codes "type"))
+type_given k item = None
+
+-- what the children of a declaration give: its content and the classes that it is a member of
+pub record ChildrenGive (around : List Bind) (e : Element) (item : Tree) (c : Option Content) (m : Option Membership) : Type 0 where
+  pub content : GivesOne e element.Content (IsContentOf (within around item)) (children_of item) c
+  pub classes : GivesOne e element.Classes IsMembershipOf (children_of item) m
+
+-- a declaration is read as the spec
 pub record IsReadAs (first : Found) (item : Tree) (spec : Spec) : Type 0 where
-  pub ident : List ℕ
-  pub is_spec : IsSpecOf ident item
-  pub key : spec.key ≡ element_key ident
+  pub is_spec : IsSpecOf spec.key item
   pub of_mode : spec.mode ≡ mode_given item
   pub of_module : spec.«module» ≡ unwrap_or (given item (codes "module")) []
-  pub ns : spec.ns ≡ namespace_in (mode_given item) first.schema item
-  pub content : GivesContent (within first.around first.schema) item spec.content
+  pub ns : spec.ns ≡ namespace_of spec.key.kind first.schema item
+  pub gives : spec.gives ≡ type_given spec.key.kind item
+  pub children : ChildrenGive (within first.around first.schema) is_spec.element item spec.content spec.classes
 
 -- the kind of the component that an item refers to
 abbrev pub kind_taken : Element → Option Kind
@@ -69,15 +79,6 @@ kind_taken element.ClassRefItem = Some kind.Class
 kind_taken element.MacroRefItem = Some kind.Macro
 kind_taken element.DataRefItem = Some kind.Datatype
 kind_taken e = None
-
--- Which elements of its module a `moduleRef` names, by the words of `include` and those of `except`: one without a word is as if it were absent.
-abbrev pub pick_of : List (List ℕ) → List (List ℕ) → Pick
-pick_of [] [] = pick.All
-pick_of [] (word ∷ words) = pick.Except (word ∷ words)
-pick_of (word ∷ words) excepted = pick.Include (word ∷ words)
-
-abbrev pub pick_given : Tree → Pick
-pick_given item = pick_of (words_given item (codes "include")) (words_given item (codes "except"))
 
 -- an item is read as the entry, at the byte where it begins
 pub data IsEntryOf (first : Found) (item : Tree) : Entry → Type 0 where

@@ -1,20 +1,20 @@
 -- What the parts of the search for the first fault answer.
 use Rattle.std.specs.Prelude.{◌≡◌, ◌↔◌, ◌⊎◌, ℕ, List, IsTrue}
-use Rattle.std.specs.Borrow.{Bor}
 use Rattle.std.specs.BTreeSet.{BTreeSet, contains_by}
-use Rattle.odd_base.specs.Text.{text_cmp}
+use Rattle.odd_base.specs.Key.{key_cmp}
+use Rattle.odd_base.specs.declared.key.Key.{Key}
 use Rattle.odd_reader.specs.declared.tree.Tree.{Tree, out-Tree}
 use Rattle.odd_reader.specs.Elements.{StandsIn}
-use Rattle.odd_decls.specs.Offences.{IsNotBefore, IsSpecOf}
+use Rattle.odd_decls.specs.Offences.{IsNotAfter, IsSpecOf}
 use Rattle.odd_decls.specs.declared.fault.Fault.{Fault}
 
--- one of the items has this ident
-abbrev pub IsIdentIn : List Tree → List ℕ → Type 0
-IsIdentIn items word = (item : Tree) × StandsIn items item × IsSpecOf word item
+-- one of the items has this key
+abbrev pub IsKeyIn : List Tree → Key → Type 0
+IsKeyIn items key = (item : Tree) × StandsIn items item × IsSpecOf key item
 
--- the set holds the idents of the items, and nothing else
-abbrev pub HoldsIdents : List Tree → BTreeSet (Bor (List ℕ)) → Type 0
-HoldsIdents items idents = (word : List ℕ) → IsTrue (contains_by (λ k. text_cmp word k.now) idents) ↔ IsIdentIn items word
+-- the set holds the keys of the items, and nothing else
+abbrev pub HoldsKeys : List Tree → BTreeSet Key → Type 0
+HoldsKeys items keys = (key : Key) → IsTrue (contains_by (key_cmp key) keys) ↔ IsKeyIn items key
 
 -- one of those that come after a `schemaSpec` begins at the place, which breaks rule 4
 abbrev pub StandsAgain : List Tree → ℕ → ℕ → Type 0
@@ -23,4 +23,4 @@ StandsAgain others place rule = (other : Tree) × StandsIn others other × (plac
 -- the fault is one of the two, and neither is before it
 abbrev pub IsEarlier : Fault → Fault → Fault → Type 0
 IsEarlier one other fault =
-    ((fault ≡ one) ⊎ (fault ≡ other)) × IsNotBefore fault.at fault.rule one.at one.rule × IsNotBefore fault.at fault.rule other.at other.rule
+    ((fault ≡ one) ⊎ (fault ≡ other)) × IsNotAfter fault.at fault.rule one.at one.rule × IsNotAfter fault.at fault.rule other.at other.rule

@@ -1,54 +1,56 @@
 -- The offences of form of an ODD file: rule 1, a needed attribute is absent or one is malformed; 2, a form that is left out; 3, a child that may not
 -- stand there; 4, twice. An offence is of an item, wherever inside the item the fault is.
-use Rattle.std.specs.Prelude.{◌≡◌, ◌⊎◌, ◌≤◌, ◌<◌, ℕ, List, [], ◌∷◌, ◌++◌, Some, codes}
+use Rattle.std.specs.Prelude.{◌≡◌, ◌⊎◌, ◌≤◌, ◌<◌, ℕ, List, [], ◌∷◌, Option, Some, None, codes}
+use Rattle.odd_base.specs.declared.key.Key.{Key}
+use Rattle.odd_base.specs.declared.key.Kind.{Kind}
+use Rattle.odd_base.specs.declared.key.Kind.TheVariants as kind
 use Rattle.odd_base.specs.declared.name.Bind.{Bind}
 use Rattle.odd_base.specs.declared.offence.Offence.{Offence}
 use Rattle.odd_base.specs.declared.offence.Who.TheVariants as who
 use Rattle.odd_tokens.specs.Characters.{IsNCName}
 use Rattle.odd_reader.specs.Elements.{StandsIn, children_of, given, within}
 use Rattle.odd_reader.specs.declared.tree.Tree.{Tree, out-Tree}
-use Rattle.odd_forms.specs.Faults.{ChildFault, FormFault, OwnFault, child_in}
+use Rattle.odd_forms.specs.Children.{ChildOfFault, IsChild, StandsTwice}
+use Rattle.odd_forms.specs.Faults.{ChildFault, FormFault, OwnFault}
+use Rattle.odd_forms.specs.Least.{Among}
 use Rattle.odd_forms.specs.Table.{form_at}
 use Rattle.odd_forms.specs.declared.element.Element.{Element}
 use Rattle.odd_forms.specs.declared.element.Element.TheVariants as element
 use Rattle.odd_content.specs.Breaking.{ContentFault}
+use Rattle.odd_members.specs.Members.{ClassesFault}
 use Rattle.odd_decls.specs.Pending.{IsPending}
 use Rattle.odd_decls.specs.Search.{Finds, Found}
 
 -- the item is an element of the table that a `schemaSpec` may have
 abbrev pub IsItem : Element → Tree → Type 0
-IsItem e item = child_in (form_at element.SchemaSpec) item ≡ Some e
+IsItem = IsChild element.SchemaSpec
 
--- the child is a `content`
-abbrev pub IsContentChild : Tree → Type 0
-IsContentChild child = child_in (form_at element.ElementSpec) child ≡ Some element.Content
+-- the kind of the component that such an item declares
+abbrev pub kind_declared : Element → Option Kind
+kind_declared element.ElementSpec = Some kind.Element
+kind_declared element.ClassSpec = Some kind.Class
+kind_declared element.MacroSpec = Some kind.Macro
+kind_declared e = None
 
--- what an item breaks, by standing there, by its form, and in its contents
+-- what an item breaks, by standing there, by its form, in its contents and in its `classes`
 pub data ItemFault (around : List Bind) (item : Tree) : ℕ → Type 0 where
   misplaced : {rule : ℕ} → ChildFault (form_at element.SchemaSpec) item rule → ItemFault around item rule
   form : {rule : ℕ} (e : Element) → IsItem e item → FormFault (form_at e) item rule → ItemFault around item rule
-  content : {rule : ℕ} (child : Tree) → IsItem element.ElementSpec item → StandsIn (children_of item) child → IsContentChild child
-      → ContentFault (within around item) child rule → ItemFault around item rule
+  content : {rule : ℕ} (e : Element) → IsItem e item → Among (ChildOfFault e element.Content (ContentFault (within around item))) (children_of item) rule → ItemFault around item rule
+  classes : {rule : ℕ} (e : Element) → IsItem e item → Among (ChildOfFault e element.Classes ClassesFault) (children_of item) rule → ItemFault around item rule
 
--- the item declares the component of this ident
-abbrev pub IsSpecOf : List ℕ → Tree → Type 0
-IsSpecOf word item = IsItem element.ElementSpec item × (given item (codes "ident") ≡ Some word) × IsNCName word
+-- the item declares the component of this key
+pub record IsSpecOf (key : Key) (item : Tree) : Type 0 where
+  pub element : Element
+  pub is_item : IsItem element item
+  pub of_kind : kind_declared element ≡ Some key.kind
+  pub ident : given item (codes "ident") ≡ Some key.ident
+  pub named : IsNCName key.ident
 
--- two of the elements are such
-pub record StandsTwice (Is : Tree → Type 0) (items : List Tree) : Type 0 where
-  pub before : List Tree
-  pub first : Tree
-  pub between : List Tree
-  pub later : Tree
-  pub after : List Tree
-  pub parts : items ≡ before ++ first ∷ (between ++ later ∷ after)
-  pub first_is : Is first
-  pub later_is : Is later
-
--- what items break at a place: each by itself, and one with the ident of an earlier one
+-- what items break at a place: each by itself, and one with the key of an earlier one
 pub data ItemOffends (around : List Bind) (items : List Tree) : ℕ → ℕ → Type 0 where
   alone : {place rule : ℕ} (item : Tree) → StandsIn items item → ItemFault around item rule → place ≡ (out-Tree item).at → ItemOffends around items place rule
-  twice : {place : ℕ} (word : List ℕ) (both : StandsTwice (IsSpecOf word) items) → place ≡ (out-Tree both.later).at → ItemOffends around items place 4
+  twice : {place : ℕ} (key : Key) (both : StandsTwice (IsSpecOf key) items) → place ≡ (out-Tree both.later).at → ItemOffends around items place 4
 
 -- what a `schemaSpec`, its items and those that come after it in the file break
 pub data Offends (first : Found) (others : List Found) : ℕ → ℕ → Type 0 where
@@ -64,13 +66,13 @@ pub record HasOffence (t : Tree) (place rule : ℕ) : Type 0 where
   pub offends : Offends first others place rule
 
 -- by place and then by rule
-abbrev pub IsNotBefore : ℕ → ℕ → ℕ → ℕ → Type 0
-IsNotBefore place rule other others_rule = (place < other) ⊎ ((place ≡ other) × (rule ≤ others_rule))
+abbrev pub IsNotAfter : ℕ → ℕ → ℕ → ℕ → Type 0
+IsNotAfter place rule other others_rule = (place < other) ⊎ ((place ≡ other) × (rule ≤ others_rule))
 
 -- of all offences the first
 pub record IsFirstOf (HasOne : ℕ → ℕ → Type 0) (place rule : ℕ) : Type 0 where
   pub is_one : HasOne place rule
-  pub first : (other others_rule : ℕ) → HasOne other others_rule → IsNotBefore place rule other others_rule
+  pub first : (other others_rule : ℕ) → HasOne other others_rule → IsNotAfter place rule other others_rule
 
 -- the offence is one of the file, which has no form that is not read yet
 pub record IsOffenceOf (t : Tree) (file : ℕ) (offence : Offence) : Type 0 where
@@ -83,4 +85,4 @@ pub record IsOffenceOf (t : Tree) (file : ℕ) (offence : Offence) : Type 0 wher
 -- and no other of the file comes before it
 pub record IsRefusal (t : Tree) (file : ℕ) (offence : Offence) : Type 0 where
   pub is_one : IsOffenceOf t file offence
-  pub first : (place rule : ℕ) → HasOffence t place rule → IsNotBefore is_one.place offence.rule place rule
+  pub first : (place rule : ℕ) → HasOffence t place rule → IsNotAfter is_one.place offence.rule place rule

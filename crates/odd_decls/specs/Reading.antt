@@ -1,20 +1,25 @@
 -- What the parts of the reading of an ODD file answer.
 use Rattle.std.specs.Prelude.{◌≡◌, ◌⊎◌, ◌≤◌, ℕ, suc, List, [], ◌∷◌, ◌++◌, map, reverse, Option, Some, None, codes, unwrap_or}
 use Rattle.std.specs.Option.{option_map}
+use Rattle.odd_base.specs.declared.key.Key.{Key}
 use Rattle.odd_base.specs.declared.key.Kind.{Kind}
 use Rattle.odd_base.specs.declared.name.Bind.{Bind}
-use Rattle.odd_reader.specs.Elements.{StandsIn, all_binds, children_of, given, within}
+use Rattle.odd_reader.specs.Elements.{all_binds, children_of, given, within}
 use Rattle.odd_reader.specs.declared.tree.Tree.{Tree, out-Tree}
 use Rattle.odd_content.specs.Breaking.{ContentFault}
 use Rattle.odd_content.specs.declared.content.Content.{Content}
+use Rattle.odd_forms.specs.Children.{ChildOfFault}
 use Rattle.odd_forms.specs.Faults.{FormFault, OwnFault}
+use Rattle.odd_forms.specs.Least.{Among}
 use Rattle.odd_forms.specs.Table.{form_at}
 use Rattle.odd_forms.specs.declared.element.Element.{Element}
 use Rattle.odd_forms.specs.declared.element.Element.TheVariants as element
-use Rattle.odd_decls.specs.Declares.{AreEntriesOf, IsDocOf, IsEntryOf, PlacesRise, kind_taken, mode_given, namespace_in, pick_given}
+use Rattle.odd_content.specs.Giving.{pick_given}
+use Rattle.odd_members.specs.Members.{ClassesFault}
+use Rattle.odd_members.specs.declared.membership.Membership.{Membership}
+use Rattle.odd_decls.specs.Declares.{AreEntriesOf, IsDocOf, IsEntryOf, PlacesRise, kind_taken, mode_given, namespace_of, type_given}
 use Rattle.odd_decls.specs.Faults.{StandsAgain}
-use Rattle.odd_decls.specs.Odd.{element_key}
-use Rattle.odd_decls.specs.Offences.{IsContentChild, IsFirstOf, IsItem, IsSpecOf, ItemOffends, Offends}
+use Rattle.odd_decls.specs.Offences.{IsFirstOf, IsItem, IsSpecOf, ItemOffends, Offends}
 use Rattle.odd_decls.specs.Search.{Finds, Found}
 use Rattle.odd_decls.specs.declared.odd.Entry.TheVariants as entry
 use Rattle.odd_decls.specs.declared.odd.Entry.{Entry}
@@ -33,23 +38,38 @@ abbrev pub IsPathTo : List Bind → Option (List (List Bind)) → List Found →
 IsPathTo around None found = found ≡ []
 IsPathTo around (Some path) found = (first : Found) × (rest : List Found) × (found ≡ first ∷ rest) × (first.around ≡ around ++ all_binds (reverse path))
 
--- what a `content` of an `elementSpec` breaks
-abbrev pub ContentsFault : List Bind → Tree → ℕ → Type 0
-ContentsFault around spec rule = (child : Tree) × StandsIn (children_of spec) child × IsContentChild child × ContentFault (within around spec) child rule
+-- what the contents of a declaration break
+abbrev pub ContentsFault : List Bind → Element → Tree → ℕ → Type 0
+ContentsFault around e spec = Among (ChildOfFault e element.Content (ContentFault (within around spec))) (children_of spec)
 
--- what an `elementSpec` breaks by its form or in its contents
-abbrev pub SpecFault : List Bind → Tree → ℕ → Type 0
-SpecFault around spec rule = FormFault (form_at element.ElementSpec) spec rule ⊎ ContentsFault around spec rule
+-- what its `classes` break
+abbrev pub MembershipsFault : Element → Tree → ℕ → Type 0
+MembershipsFault e spec = Among (ChildOfFault e element.Classes ClassesFault) (children_of spec)
 
--- the entry of an `elementSpec` with this ident and this content
-abbrev pub entry_made : Tree → Tree → List ℕ → Option Content → Entry
-entry_made schema item ident content = entry.Spec (out-Tree item).at (record {
-  key = element_key ident;
+-- what a declaration breaks inside
+abbrev pub InnerFault : List Bind → Element → Tree → ℕ → Type 0
+InnerFault around e spec rule = ContentsFault around e spec rule ⊎ MembershipsFault e spec rule
+
+-- what it breaks by its form or inside
+abbrev pub SpecFault : List Bind → Element → Tree → ℕ → Type 0
+SpecFault around e spec rule = FormFault (form_at e) spec rule ⊎ InnerFault around e spec rule
+
+-- the entry of a declaration with this key, and with what its children give
+abbrev pub entry_made : Tree → Tree → Key → Option Content → Option Membership → Entry
+entry_made schema item key content classes = entry.Spec (out-Tree item).at (record {
+  key = key;
   mode = mode_given item;
   «module» = unwrap_or (given item (codes "module")) [];
-  ns = namespace_in (mode_given item) schema item;
+  ns = namespace_of key.kind schema item;
+  gives = type_given key.kind item;
+  classes = classes;
   content = content;
 })
+
+-- where it has a key
+abbrev pub IsEntryMade : Tree → Tree → Option Content → Option Membership → Option Entry → Type 0
+IsEntryMade schema item c m None = (key : Key) → IsSpecOf key item → ⊥
+IsEntryMade schema item c m (Some made) = (key : Key) × IsSpecOf key item × (made ≡ entry_made schema item key c m)
 
 -- the entry of an item that refers to a component of the kind, where it has a key
 abbrev pub taken_of : Option Kind → Tree → Option Entry
@@ -111,7 +131,7 @@ IsReadOrBroken first others (read.Doc doc) = (others ≡ []) × ((place rule : �
 abbrev pub IsJoined : Tree → ReadItems → Option Fault → Read → Type 0
 IsJoined schema own next read = (first : Found) (others : List Found) → first.schema ≡ schema → ArePartsRead first others own next → IsReadOrBroken first others read
 
--- the element has an ident that is a name, and is an `elementSpec`
-abbrev pub IsIdentOf : Tree → Option (List ℕ) → Type 0
-IsIdentOf t None = (word : List ℕ) → IsSpecOf word t → ⊥
-IsIdentOf t (Some word) = IsSpecOf word t
+-- the key of what the element declares, where it declares a component whose ident is a name
+abbrev pub IsKeyOf : Tree → Option Key → Type 0
+IsKeyOf t None = (key : Key) → IsSpecOf key t → ⊥
+IsKeyOf t (Some key) = IsSpecOf key t

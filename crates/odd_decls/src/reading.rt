@@ -1,23 +1,25 @@
 ghost use Rattle.std.specs.Prelude.{◌≡◌, ◌↔◌, ℕ, List, [], ◌∷◌, ◌++◌, map, Err, Some, IfOk, OnOk, IsTrue, codes, unwrap_or};
 ghost use Rattle.odd_base.specs.Text.{text_cmp};
+ghost use Rattle.odd_base.specs.declared.key.Key.{Key as AKey};
 ghost use Rattle.odd_base.specs.declared.offence.Offence.{Offence as AnOffence};
 ghost use Rattle.odd_reader.specs.Elements.{StandsIn, all_binds, given};
 ghost use Rattle.odd_reader.specs.Formed.{IsFormed};
 ghost use Rattle.odd_reader.specs.declared.tree.Tree.{Tree as ATree};
 ghost use Rattle.odd_forms.specs.Sorted.{IsSet};
 ghost use Rattle.odd_decls.specs.Declares.{Declares, start_of};
-ghost use Rattle.odd_decls.specs.Faults.{HoldsIdents, IsIdentIn, StandsAgain};
+ghost use Rattle.odd_decls.specs.Faults.{HoldsKeys, IsKeyIn, StandsAgain};
 ghost use Rattle.odd_decls.specs.Offences.{IsOffenceOf, IsRefusal, IsSpecOf};
 ghost use Rattle.odd_decls.specs.Pending.{IsPending};
 ghost use Rattle.odd_decls.specs.Search.{Finds, Found as AFound};
 ghost use Rattle.odd_decls.specs.Reading.{AreItemsRead, IsFirstIn, IsJoined, IsReadOrBroken, Rises};
 
+use crate::declarations::key_declared;
 use crate::fault::{Fault, earlier};
-use crate::items::{ReadItem, read_item, spec_ident};
+use crate::items::{ReadItem, read_item};
 use crate::odd::{Entries, OddDoc};
 use crate::pending::is_pending;
 use crate::searching::{binds_along, find_schemas, path_to_first};
-use odd_base::{NoMemory, Offence, Scope, Text, TryCopy, Words};
+use odd_base::{Key, NoMemory, Offence, Scope, Text, TryCopy, Words};
 use odd_forms::{Element, fault_where, lesser, own_fault, sorted, words_of};
 use odd_reader::{Bindings, Tree, attribute, elements};
 use std::alloc::Global;
@@ -139,11 +141,11 @@ fn around_first(alloc: Global, tree: &Tree) -> Result<Bindings, NoMemory>
 fn read_items(alloc: Global, schema: &Tree, around: &[&Bindings]) -> Result<ReadItems, NoMemory>
     ensures { IfOk result (AreItemsRead schema.now (all_binds (map (λ b. b.now) around.now))) }
 {
-    let mut idents = BTreeSet::new(alloc);
+    let mut keys = BTreeSet::new(alloc);
     let mut entries = Entries::new(alloc);
     for item in elements(schema) {
         let ReadItem { entry, fault } = read_item(alloc, schema, item, around)?;
-        let again = is_again(&mut idents, item)?;
+        let again = is_again(alloc, &mut keys, item)?;
         if let Some(rule) = lesser(fault, fault_where(again, TWICE)) {
             return Ok(ReadItems::Broken(Fault { at: item.at, rule }));
         }
@@ -154,13 +156,13 @@ fn read_items(alloc: Global, schema: &Tree, around: &[&Bindings]) -> Result<Read
     Ok(ReadItems::Entries(entries))
 }
 
-// Whether an item has one of these idents, to which its own is added.
-fn is_again<'a>(idents: &mut BTreeSet<&'a str>, item: &'a Tree) -> Result<bool, NoMemory>
-    ensures again { IfOk result (λ again. (items : List ATree) → HoldsIdents items idents.old → IsTrue again ↔ ((word : List ℕ) × IsSpecOf word item.now × IsIdentIn items word)) }
-    ensures idents { OnOk result ((items : List ATree) → HoldsIdents items idents.old → HoldsIdents (items ++ item.now ∷ []) idents.new) }
+// Whether an item has one of these keys, to which its own is added.
+fn is_again(alloc: Global, keys: &mut BTreeSet<Key>, item: &Tree) -> Result<bool, NoMemory>
+    ensures again { IfOk result (λ again. (items : List ATree) → HoldsKeys items keys.old → IsTrue again ↔ ((key : AKey) × IsSpecOf key item.now × IsKeyIn items key)) }
+    ensures keys { OnOk result ((items : List ATree) → HoldsKeys items keys.old → HoldsKeys (items ++ item.now ∷ []) keys.new) }
 {
-    match spec_ident(item) {
-        Some(ident) => Ok(!idents.insert(ident.as_str())?),
+    match key_declared(alloc, item)? {
+        Some(key) => Ok(!keys.insert(key)?),
         None => Ok(false),
     }
 }

@@ -1,5 +1,6 @@
 use odd_base::{Key, NoMemory, Text, TryCopy};
 use odd_content::Content;
+use odd_members::Membership;
 use std::alloc::Global;
 
 /// What a declaration does to the component of its key that was declared before.
@@ -16,13 +17,16 @@ pub enum Mode {
 }
 
 /// A declaration of a component. `module` is empty where none is given, and `ns` is the namespace of an element in
-/// documents: one that is added or replaced has one.
+/// documents: one that is added or replaced has one. `gives` says of a class whether it is of type `atts`: one that is
+/// added or replaced says it.
 #[derive(Drop)]
 pub struct Spec {
     pub key: Key,
     pub mode: Mode,
     pub module: Text,
     pub ns: Option<Text>,
+    pub gives: Option<bool>,
+    pub classes: Option<Membership>,
     pub content: Option<Content>,
 }
 
@@ -34,6 +38,10 @@ impl TryCopy for Spec {
             Some(ns) => Some(ns.copy(alloc)?),
             None => None,
         };
+        let classes = match &self.classes {
+            Some(classes) => Some(classes.copy(alloc)?),
+            None => None,
+        };
         let content = match &self.content {
             Some(content) => Some(content.copy(alloc)?),
             None => None,
@@ -43,6 +51,8 @@ impl TryCopy for Spec {
             mode: self.mode,
             module,
             ns,
+            gives: self.gives,
+            classes,
             content,
         })
     }

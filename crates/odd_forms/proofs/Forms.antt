@@ -1,19 +1,19 @@
 -- The least rule that an element breaks by its form, from those of its parts.
-use Rattle.std.proofs.Common.{◌≡◌, ◌≢◌, ◌↔◌, ◌≤◌, ◌<◌, ℕ, Bool, true, false, not, ◌||◌, if◌then◌else◌, List, [], ◌∷◌, Option, Some, None, ◌⊎◌, inl, inr, ⊎_elim, refl, sym, ap, ◌∙◌, subst, arith, leb}
+use Rattle.std.proofs.Common.{◌≡◌, ◌≢◌, ◌↔◌, ◌≤◌, ◌<◌, ℕ, Bool, true, false, not, ◌&&◌, ◌||◌, if◌then◌else◌, List, [], ◌∷◌, Option, Some, None, ◌⊎◌, inl, inr, ⊎_elim, refl, sym, ap, ◌∙◌, subst, arith, leb}
 use Rattle.std.specs.Prelude.{IsTrue, count_by, is_some, nat_le, nat_lt}
 use Rattle.std.specs.List.{list_any}
-use Rattle.std.proofs.lemmas.Bool.{both_ways, cases_Bool, false_from_ne_true, leb-false, leb-true, lt-ltb, ltb-true, not-true}
+use Rattle.std.proofs.lemmas.Bool.{and_from, and_parts, both_ways, cases_Bool, false_from_ne_true, leb-false, leb-true, lt-ltb, ltb-true, not-true}
 use Rattle.std.proofs.lemmas.Option.{same_Some}
 use Rattle.odd_reader.specs.declared.tree.Tree.{Tree}
 use Rattle.odd_reader.specs.Elements.{children_of, given}
 use Rattle.odd_reader.proofs.InList.{StandsOnce}
 use Rattle.odd_forms.specs.declared.element.Element.{Element}
 use Rattle.odd_forms.specs.Faults.{AttributeFault, ChildFault, DemandFault, FormFault, OwnFault, ValueFault, child_in}
-use Rattle.odd_forms.specs.Form.{AttributeForm, Form, Suits, in_order, not_both, number_told}
+use Rattle.odd_forms.specs.Form.{AttributeForm, Form, Suits, in_order, needed_unless, not_both, number_told}
 use Rattle.odd_forms.specs.Least.{Among, IsLeast, lesser_rule}
 use Rattle.odd_forms.specs.Names.{is_one_of, is_passed_over, is_relax_ng, is_tei}
 use Rattle.odd_forms.specs.Table.{form_at}
-use Rattle.odd_forms.specs.Words.{is_among, words_given}
+use Rattle.odd_forms.specs.Words.{is_among, is_given_among, words_given}
 use Rattle.odd_forms.proofs.Least.{least_if, least_or, least_same}
 use Rattle.odd_forms.proofs.Lists.{any_stands}
 
@@ -67,6 +67,28 @@ both_least t one other b tells = least_if (DemandFault (not_both one other) t) b
   where
     back : (rule : ℕ) → DemandFault (not_both one other) t rule → (b ≡ true) × (rule ≡ 3)
     back rule (DemandFault.both h k) = (tells.1 (h, k), refl)
+
+-- no value is there where the test for one fails
+absent : (value : Option (List ℕ)) → is_some value ≡ false → value ≡ None
+absent None h = refl
+absent (Some v) h = cc
+
+-- an attribute that is absent where another does not tell that it may be
+pub needed_least : (t : Tree) (local by : List ℕ) (words : List (List ℕ))
+    → IsLeast (DemandFault (needed_unless local by words) t) (if not (is_some (given t local)) && not (is_given_among words (given t by)) then Some 1 else None)
+needed_least t local by words = least_if (DemandFault (needed_unless local by words) t) (not there && not told) 1 into back
+  where
+    there : Bool
+    there = is_some (given t local)
+
+    told : Bool
+    told = is_given_among words (given t by)
+
+    into : (not there && not told) ≡ true → DemandFault (needed_unless local by words) t 1
+    into h = let p = and_parts (not there) (not told) h in DemandFault.missing (absent (given t local) (not-true there p.0)) (not-true told p.1)
+
+    back : (rule : ℕ) → DemandFault (needed_unless local by words) t rule → ((not there && not told) ≡ true) × (rule ≡ 1)
+    back rule (DemandFault.missing h k) = (and_from (not there) (not told) (ap (λ v. not (is_some v)) h) (ap not k), refl)
 
 -- a child breaks no rule below 2
 child_from_two : (form : Form) (c : Tree) (rule : ℕ) → ChildFault form c rule → 2 ≤ rule

@@ -1,10 +1,13 @@
 pub mod AnyWord
+pub mod Children
 pub mod Forms
 pub mod Least
 pub mod Lists
 pub mod Named
 pub mod Numbers
 pub mod OneSet
+pub mod SetOf
 pub mod SortedItems
 pub mod Spaced
+pub mod Twice
 pub mod WordsLegal

@@ -18,11 +18,11 @@ module _ {A : Type 0} (order : A → A → Ordering) (total : IsTotalOrder order
   not_below x e = let same : order x x ≡ Equal = tied_itself total x in cc
 
   -- the rest of items that rise rises
-  rest_rising : (x : A) (xs : List A) → AreRising order (x ∷ xs) → AreRising order xs
+  pub rest_rising : (x : A) (xs : List A) → AreRising order (x ∷ xs) → AreRising order xs
   rest_rising x xs r before after item next e = r (x ∷ before) after item next (ap (λ ys. x ∷ ys) e)
 
   -- the first of items that rise is below the others
-  first_below : (x : A) (xs : List A) → AreRising order (x ∷ xs) → (y : A) → StandsIn xs y → order x y ≡ Less
+  pub first_below : (x : A) (xs : List A) → AreRising order (x ∷ xs) → (y : A) → StandsIn xs y → order x y ≡ Less
   first_below x [] r y s = absurd (nothing_stands y s)
   first_below x (z ∷ xs) r y s =
       let less : order x z ≡ Less = r [] xs x z refl in

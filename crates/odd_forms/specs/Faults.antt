@@ -3,10 +3,10 @@
 use Rattle.std.specs.Prelude.{◌≡◌, ◌≢◌, ◌≤◌, ◌<◌, ℕ, true, false, ◌||◌, List, [], ◌∷◌, ◌++◌, find, count_by, Option, Some, None, IsSome, IsTrue}
 use Rattle.odd_reader.specs.Elements.{StandsIn, children_of, given}
 use Rattle.odd_reader.specs.declared.tree.Tree.{Tree}
-use Rattle.odd_forms.specs.Form.{AttributeForm, Demand, Form, Suits, in_order, not_both, number_told}
+use Rattle.odd_forms.specs.Form.{AttributeForm, Demand, Form, Suits, in_order, needed_unless, not_both, number_told}
 use Rattle.odd_forms.specs.Names.{is_one_of, is_passed_over, is_relax_ng, is_tei}
 use Rattle.odd_forms.specs.Table.{form_at}
-use Rattle.odd_forms.specs.Words.{is_among, words_given}
+use Rattle.odd_forms.specs.Words.{is_among, is_given_among, words_given}
 use Rattle.odd_forms.specs.declared.element.Element.{Element}
 
 -- the element of the table that an element is, among these
@@ -31,6 +31,8 @@ pub data AttributeFault (a : AttributeForm) (t : Tree) : ℕ → Type 0 where
 pub data DemandFault : Demand → Tree → ℕ → Type 0 where
   out_of_order : {least most : List ℕ} {t : Tree} (m n : ℕ) → number_told (given t least) ≡ Some m → number_told (given t most) ≡ Some n → n < m → DemandFault (in_order least most) t 3
   both : {one other : List ℕ} {t : Tree} → words_given t one ≢ [] → words_given t other ≢ [] → DemandFault (not_both one other) t 3
+  missing : {local by : List ℕ} {words : List (List ℕ)} {t : Tree} → given t local ≡ None → is_given_among words (given t by) ≡ false
+      → DemandFault (needed_unless local by words) t 1
 
 -- what it breaks beside its children
 pub data OwnFault (form : Form) (t : Tree) : ℕ → Type 0 where

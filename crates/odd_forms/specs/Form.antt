@@ -28,6 +28,7 @@ pub record AttributeForm : Type 0 where
 pub data Demand : Type 0 where
   in_order : (least most : List ℕ) → Demand
   not_both : (one other : List ℕ) → Demand
+  needed_unless : (local by : List ℕ) (words : List (List ℕ)) → Demand
 
 pub record Form : Type 0 where
   pub name : List ℕ

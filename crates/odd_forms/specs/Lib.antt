@@ -1,3 +1,4 @@
+pub mod Children
 pub mod Faults
 pub mod Form
 pub mod Least

@@ -26,6 +26,7 @@ attribute (attributes.Word local words left_out rule) =
 abbrev pub demand : TheDemand → Demand
 demand (demands.InOrder least most) = f.in_order least.now most.now
 demand (demands.NotBoth one other) = f.not_both one.now other.now
+demand (demands.NeededUnless local by words) = f.needed_unless local.now by.now (map (λ w. w.now) words.now)
 
 abbrev pub form : TheForm → Form
 form a = record {

@@ -1,6 +1,6 @@
 -- The form of each element. An attribute that is not listed is passed over, and so is text.
 use Rattle.std.specs.Prelude.{ℕ, true, false, List, [], ◌∷◌, codes}
-use Rattle.odd_forms.specs.Form.{AttributeForm, Demand, Form, Kind, name, names, any_names, digits, count, one_of, in_order, not_both}
+use Rattle.odd_forms.specs.Form.{AttributeForm, Demand, Form, Kind, name, names, any_names, digits, count, one_of, in_order, needed_unless, not_both}
 use Rattle.odd_forms.specs.declared.element.Element.TheVariants as elements
 use Rattle.odd_forms.specs.declared.element.Element.{Element}
 
@@ -34,11 +34,19 @@ mode = word (codes "mode") (codes "add" ∷ codes "delete" ∷ codes "change" �
 
 -- what a content model is made of
 abbrev pub parts : List Element
-parts = elements.Sequence ∷ elements.Alternate ∷ elements.ElementRef ∷ elements.AnyElement ∷ elements.TextNode ∷ elements.Empty ∷ []
+parts = elements.Sequence ∷ elements.Alternate ∷ elements.ElementRef ∷ elements.ClassRef ∷ elements.MacroRef ∷ elements.AnyElement ∷ elements.TextNode ∷ elements.Empty ∷ []
 
 -- with no attributes and no children
 abbrev pub plain : List ℕ → Form
 plain local = record { name = local; attributes = []; left_out = []; many = []; once = []; left_out_children = []; passed_over = []; demands = []; closed = false }
+
+-- a declaration of a component
+abbrev pub spec : List ℕ → Form
+spec local = record (plain local) {
+  attributes = needed (codes "ident") name ∷ optional (codes "module") name ∷ mode ∷ [];
+  left_out = codes "prefix" ∷ codes "source" ∷ [];
+  left_out_children = codes "constraintSpec" ∷ [];
+}
 
 -- an item that names one component
 abbrev pub reference : List ℕ → Form
@@ -47,7 +55,9 @@ reference local = record (plain local) { attributes = key ∷ []; left_out = cod
 abbrev pub form_at : Element → Form
 form_at elements.SchemaSpec = record (plain (codes "schemaSpec")) {
   attributes = needed (codes "ident") name ∷ optional (codes "start") names ∷ [];
-  many = elements.ModuleRef ∷ elements.ElementRefItem ∷ elements.ClassRefItem ∷ elements.MacroRefItem ∷ elements.DataRefItem ∷ elements.ElementSpec ∷ [];
+  many =
+      elements.ModuleRef ∷ elements.ElementRefItem ∷ elements.ClassRefItem ∷ elements.MacroRefItem ∷ elements.DataRefItem ∷ elements.ElementSpec ∷ elements.ClassSpec
+      ∷ elements.MacroSpec ∷ [];
   left_out_children = codes "constraintSpec" ∷ [];
   passed_over = codes "altIdent" ∷ [];
 }
@@ -60,11 +70,21 @@ form_at elements.ElementRefItem = reference (codes "elementRef")
 form_at elements.ClassRefItem = record (reference (codes "classRef")) { left_out = codes "source" ∷ codes "include" ∷ codes "except" ∷ [] }
 form_at elements.MacroRefItem = reference (codes "macroRef")
 form_at elements.DataRefItem = reference (codes "dataRef")
-form_at elements.ElementSpec = record (plain (codes "elementSpec")) {
-  attributes = needed (codes "ident") name ∷ optional (codes "module") name ∷ mode ∷ [];
-  left_out = codes "prefix" ∷ codes "source" ∷ [];
-  once = elements.Content ∷ [];
-  left_out_children = codes "constraintSpec" ∷ [];
+form_at elements.ElementSpec = record (spec (codes "elementSpec")) { once = elements.Classes ∷ elements.Content ∷ [] }
+form_at elements.ClassSpec = record (spec (codes "classSpec")) {
+  attributes = needed (codes "ident") name ∷ optional (codes "module") name ∷ mode ∷ word (codes "type") (codes "model" ∷ codes "atts" ∷ []) [] 3 ∷ [];
+  once = elements.Classes ∷ [];
+  passed_over = codes "altIdent" ∷ [];
+  demands = needed_unless (codes "type") (codes "mode") (codes "change" ∷ codes "delete" ∷ []) ∷ [];
+}
+form_at elements.MacroSpec = record (spec (codes "macroSpec")) { once = elements.Content ∷ []; passed_over = codes "altIdent" ∷ [] }
+form_at elements.Classes = record (plain (codes "classes")) {
+  attributes = word (codes "mode") (codes "replace" ∷ codes "change" ∷ []) [] 3 ∷ [];
+  many = elements.MemberOf ∷ [];
+}
+form_at elements.MemberOf = record (plain (codes "memberOf")) {
+  attributes = key ∷ word (codes "mode") (codes "add" ∷ codes "delete" ∷ []) [] 3 ∷ [];
+  left_out = codes "min" ∷ codes "max" ∷ [];
 }
 form_at elements.Content = record (plain (codes "content")) { many = parts; closed = true }
 form_at elements.Sequence = record (plain (codes "sequence")) {
@@ -75,6 +95,19 @@ form_at elements.Sequence = record (plain (codes "sequence")) {
 }
 form_at elements.Alternate = record (plain (codes "alternate")) { attributes = min ∷ max ∷ []; many = parts; demands = bounds ∷ []; closed = true }
 form_at elements.ElementRef = record (plain (codes "elementRef")) {
+  attributes = key ∷ min ∷ max ∷ [];
+  left_out = codes "source" ∷ [];
+  demands = bounds ∷ [];
+  closed = true;
+}
+form_at elements.ClassRef = record (plain (codes "classRef")) {
+  attributes =
+      key ∷ word (codes "expand") (codes "alternate" ∷ []) [] 2 ∷ optional (codes "include") any_names ∷ optional (codes "except") any_names ∷ min ∷ max ∷ [];
+  left_out = codes "source" ∷ [];
+  demands = bounds ∷ not_both (codes "include") (codes "except") ∷ [];
+  closed = true;
+}
+form_at elements.MacroRef = record (plain (codes "macroRef")) {
   attributes = key ∷ min ∷ max ∷ [];
   left_out = codes "source" ∷ [];
   demands = bounds ∷ [];

@@ -1,5 +1,5 @@
 -- The words of an attribute's value, which is what stands between white space, and whether a text is one of some words.
-use Rattle.std.specs.Prelude.{ℕ, Bool, true, false, List, [], ◌∷◌, filter, if◌then◌else◌, unwrap_or}
+use Rattle.std.specs.Prelude.{ℕ, Bool, true, false, List, [], ◌∷◌, filter, Option, Some, None, if◌then◌else◌, unwrap_or}
 use Rattle.std.specs.List.{list_any}
 use Rattle.odd_tokens.specs.Characters.{is_space}
 use Rattle.odd_tokens.specs.Same.{is_same}
@@ -31,6 +31,11 @@ ended (c ∷ cs) later = (c ∷ cs) ∷ later
 -- the text is one of the words
 abbrev pub is_among : List (List ℕ) → List ℕ → Bool
 is_among words text = list_any (is_same text) words
+
+-- a value is there, and it is one of the words
+abbrev pub is_given_among : List (List ℕ) → Option (List ℕ) → Bool
+is_given_among words None = false
+is_given_among words (Some value) = is_among words value
 
 -- the words that an element has in an attribute, and none where it is absent
 abbrev pub words_given : Tree → List ℕ → List (List ℕ)

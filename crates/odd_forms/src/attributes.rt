@@ -1,4 +1,4 @@
-ghost use Rattle.std.specs.Prelude.{◌≡◌, ◌≢◌, ◌↔◌, All, IfOk, IsTrue, Some, []};
+ghost use Rattle.std.specs.Prelude.{◌≡◌, ◌≢◌, ◌↔◌, All, IfOk, IsTrue, Some, [], is_some, map};
 ghost use Rattle.std.specs.Char.{is_ascii_digit};
 ghost use Rattle.std.specs.List.{list_all};
 ghost use Rattle.odd_reader.specs.Elements.{given};
@@ -6,7 +6,7 @@ ghost use Rattle.odd_forms.specs.Faults.{AttributeFault, DemandFault, ValueFault
 ghost use Rattle.odd_forms.specs.Form.{Suits, are_digits as the_are_digits, number_told};
 ghost use Rattle.odd_forms.specs.Least.{IsLeast};
 ghost use Rattle.odd_forms.specs.Seen as seen;
-ghost use Rattle.odd_forms.specs.Words.{words_given};
+ghost use Rattle.odd_forms.specs.Words.{is_given_among, words_given};
 ghost use Rattle.odd_tokens.specs.Characters.{IsNCName};
 
 use crate::faults::{LEFT_OUT, MALFORMED, UNKNOWN, fault_where};
@@ -120,6 +120,12 @@ pub fn demand_fault(demand: &Demand, tree: &Tree) -> Option<u8>
         Demand::NotBoth(one, other) => {
             fault_where(has_word(tree, one) && has_word(tree, other), UNKNOWN)
         }
+        Demand::NeededUnless(local, by, words) => {
+            fault_where(
+                !is_given(tree, local) && !is_one(tree, by, words),
+                MALFORMED,
+            )
+        }
     }
 }
 
@@ -129,6 +135,23 @@ fn has_word(tree: &Tree, local: &str) -> bool
 {
     match attribute(&tree.attrs, local) {
         Some(value) => value.as_str().chars().any(|c| !is_space(c)),
+        None => false,
+    }
+}
+
+// Whether an element has an attribute.
+fn is_given(tree: &Tree, local: &str) -> bool
+    ensures { result ≡ is_some (given tree.now local.now) }
+{
+    attribute(&tree.attrs, local).is_some()
+}
+
+// Whether the value of an attribute is one of the words.
+fn is_one(tree: &Tree, local: &str, words: &[&str]) -> bool
+    ensures { result ≡ is_given_among (map (λ w. w.now) words.now) (given tree.now local.now) }
+{
+    match attribute(&tree.attrs, local) {
+        Some(value) => is_among(words, value),
         None => false,
     }
 }

@@ -16,11 +16,17 @@ pub enum Element {
     MacroRefItem,
     DataRefItem,
     ElementSpec,
+    ClassSpec,
+    MacroSpec,
+    Classes,
+    MemberOf,
     Content,
     Sequence,
     Alternate,
     /// An `elementRef` in a content.
     ElementRef,
+    ClassRef,
+    MacroRef,
     AnyElement,
     TextNode,
     Empty,
@@ -43,11 +49,20 @@ const MODE: AttributeForm = Word {
     rule: 3,
 };
 
+// Which elements a reference to several names, where not all.
+const INCLUDE: AttributeForm = Optional("include", Kind::AnyNames);
+
+const EXCEPT: AttributeForm = Optional("except", Kind::AnyNames);
+
+const NOT_BOTH: Demand = Demand::NotBoth("include", "except");
+
 // What a content model is made of.
 const PARTS: &[Element] = &[
     Element::Sequence,
     Element::Alternate,
     Element::ElementRef,
+    Element::ClassRef,
+    Element::MacroRef,
     Element::AnyElement,
     Element::TextNode,
     Element::Empty,
@@ -64,6 +79,18 @@ const PLAIN: Form = Form {
     passed_over: &[],
     demands: &[],
     closed: false,
+};
+
+// A declaration of a component.
+const SPEC: Form = Form {
+    attributes: &[
+        Needed("ident", Kind::Name),
+        Optional("module", Kind::Name),
+        MODE,
+    ],
+    left_out: &["prefix", "source"],
+    left_out_children: &["constraintSpec"],
+    ..PLAIN
 };
 
 // An item that names one component.
@@ -83,6 +110,8 @@ static SCHEMA_SPEC: Form = Form {
         Element::MacroRefItem,
         Element::DataRefItem,
         Element::ElementSpec,
+        Element::ClassSpec,
+        Element::MacroSpec,
     ],
     left_out_children: &["constraintSpec"],
     passed_over: &["altIdent"],
@@ -91,13 +120,9 @@ static SCHEMA_SPEC: Form = Form {
 
 static MODULE_REF: Form = Form {
     name: "moduleRef",
-    attributes: &[
-        KEY,
-        Optional("include", Kind::AnyNames),
-        Optional("except", Kind::AnyNames),
-    ],
+    attributes: &[KEY, INCLUDE, EXCEPT],
     left_out: &["url", "prefix", "source"],
-    demands: &[Demand::NotBoth("include", "except")],
+    demands: &[NOT_BOTH],
     ..PLAIN
 };
 
@@ -124,14 +149,60 @@ static DATA_REF_ITEM: Form = Form {
 
 static ELEMENT_SPEC: Form = Form {
     name: "elementSpec",
+    once: &[Element::Classes, Element::Content],
+    ..SPEC
+};
+
+static CLASS_SPEC: Form = Form {
+    name: "classSpec",
     attributes: &[
         Needed("ident", Kind::Name),
         Optional("module", Kind::Name),
         MODE,
+        Word {
+            local: "type",
+            words: &["model", "atts"],
+            left_out: &[],
+            rule: 3,
+        },
     ],
-    left_out: &["prefix", "source"],
+    once: &[Element::Classes],
+    passed_over: &["altIdent"],
+    demands: &[Demand::NeededUnless("type", "mode", &["change", "delete"])],
+    ..SPEC
+};
+
+static MACRO_SPEC: Form = Form {
+    name: "macroSpec",
     once: &[Element::Content],
-    left_out_children: &["constraintSpec"],
+    passed_over: &["altIdent"],
+    ..SPEC
+};
+
+static CLASSES: Form = Form {
+    name: "classes",
+    attributes: &[Word {
+        local: "mode",
+        words: &["replace", "change"],
+        left_out: &[],
+        rule: 3,
+    }],
+    many: &[Element::MemberOf],
+    ..PLAIN
+};
+
+static MEMBER_OF: Form = Form {
+    name: "memberOf",
+    attributes: &[
+        KEY,
+        Word {
+            local: "mode",
+            words: &["add", "delete"],
+            left_out: &[],
+            rule: 3,
+        },
+    ],
+    left_out: &["min", "max"],
     ..PLAIN
 };
 
@@ -178,6 +249,36 @@ static ELEMENT_REF: Form = Form {
     ..PLAIN
 };
 
+static CLASS_REF: Form = Form {
+    name: "classRef",
+    attributes: &[
+        KEY,
+        Word {
+            local: "expand",
+            words: &["alternate"],
+            left_out: &[],
+            rule: 2,
+        },
+        INCLUDE,
+        EXCEPT,
+        MIN,
+        MAX,
+    ],
+    left_out: &["source"],
+    demands: &[BOUNDS, NOT_BOTH],
+    closed: true,
+    ..PLAIN
+};
+
+static MACRO_REF: Form = Form {
+    name: "macroRef",
+    attributes: &[KEY, MIN, MAX],
+    left_out: &["source"],
+    demands: &[BOUNDS],
+    closed: true,
+    ..PLAIN
+};
+
 static ANY_ELEMENT: Form = Form {
     name: "anyElement",
     attributes: &[MIN, MAX],
@@ -211,10 +312,16 @@ impl Element {
             Element::MacroRefItem => &MACRO_REF_ITEM,
             Element::DataRefItem => &DATA_REF_ITEM,
             Element::ElementSpec => &ELEMENT_SPEC,
+            Element::ClassSpec => &CLASS_SPEC,
+            Element::MacroSpec => &MACRO_SPEC,
+            Element::Classes => &CLASSES,
+            Element::MemberOf => &MEMBER_OF,
             Element::Content => &CONTENT,
             Element::Sequence => &SEQUENCE,
             Element::Alternate => &ALTERNATE,
             Element::ElementRef => &ELEMENT_REF,
+            Element::ClassRef => &CLASS_REF,
+            Element::MacroRef => &MACRO_REF,
             Element::AnyElement => &ANY_ELEMENT,
             Element::TextNode => &TEXT_NODE,
             Element::Empty => &EMPTY,

@@ -1,6 +1,7 @@
-ghost use Rattle.std.specs.Prelude.{◌≡◌, [], ◌∷◌, count_by, if◌then◌else◌, IfOk, Some, None, map, is_some, nat_le};
+ghost use Rattle.std.specs.Prelude.{◌≡◌, ◌↔◌, [], ◌∷◌, count_by, if◌then◌else◌, IfOk, IsTrue, Some, None, map, is_some, nat_le};
 ghost use Rattle.std.specs.List.{list_any};
 ghost use Rattle.odd_reader.specs.Elements.{children_of, given};
+ghost use Rattle.odd_forms.specs.Children.{IsChild};
 ghost use Rattle.odd_forms.specs.Faults.{AttributeFault, ChildFault, DemandFault, FormFault, OwnFault, child_in, element_among as the_element_among};
 ghost use Rattle.odd_forms.specs.Least.{Among, IsLeast, lesser_rule};
 ghost use Rattle.odd_forms.specs.Names.{is_one_of as the_is_one_of};
@@ -102,6 +103,13 @@ pub fn child_of(form: &Form, child: &Tree) -> Option<Element>
     ensures { result ≡ child_in (seen.form form.now) child.now }
 {
     element_among(form.many, child).or(element_among(form.once, child))
+}
+
+/// Whether the child of an element of the table is of a kind.
+pub fn is_child(parent: Element, kind: Element, child: &Tree) -> bool
+    ensures { IsTrue result ↔ IsChild parent kind child.now }
+{
+    child_of(parent.form(), child) == Some(kind)
 }
 
 /// The least rule that a child breaks by standing there.

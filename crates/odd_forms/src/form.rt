@@ -58,6 +58,8 @@ pub enum Demand {
     InOrder(&'static str, &'static str),
     /// One of the two attributes at most has a word.
     NotBoth(&'static str, &'static str),
+    /// The first attribute is there, unless the second is one of the words.
+    NeededUnless(&'static str, &'static str, &'static [&'static str]),
 }
 
 /// What an element of an ODD file may have.

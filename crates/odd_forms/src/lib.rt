@@ -12,7 +12,8 @@ mod words;
 pub use attributes::number;
 pub use element::Element;
 pub use faults::{
-    LEFT_OUT, MALFORMED, child_fault, child_of, fault_where, form_fault, lesser, own_fault,
+    LEFT_OUT, MALFORMED, TWICE, child_fault, child_of, fault_where, form_fault, is_child, lesser,
+    own_fault,
 };
 pub use form::{AttributeForm, Demand, Form, Kind};
 pub use names::{is_one_of, is_passed_over, is_relax_ng, is_tei};

@@ -1,7 +1,7 @@
 use odd_base::{Key, Keys, Kind, NoMemory, Offence, Text, Who, Words};
 use odd_case_files::add_content;
 use odd_content::Content;
-use odd_decls::{Component, ElementPart, Library, OddDoc, OddRefusal};
+use odd_decls::{ClassPart, Component, ElementPart, Library, OddDoc, OddRefusal};
 use odd_forms::TEI;
 use odd_modes::{select, step};
 use std::alloc::Global;
@@ -69,25 +69,51 @@ fn add_words(out: &mut Text, words: &Words) -> Result<(), NoMemory> {
 
 // Puts the fields of a component but those that an `add` without them has.
 fn add_part(alloc: Global, out: &mut Text, part: &Component) -> Result<(), NoMemory> {
-    let Component::Element(part) = part;
-    let ElementPart {
-        module,
-        ns,
-        content,
-    } = part;
+    let module = part.module();
     if !module.as_str().is_empty() {
         out.push_str(" module=")?;
         out.push_str(module.as_str())?;
     }
-    if ns.as_str() != TEI {
+    match part {
+        Component::Element(part) => add_element(out, part)?,
+        Component::Class(part) => add_class(out, part)?,
+        Component::Macro(_) | Component::Datatype(_) => {}
+    }
+    match part.content() {
+        None | Some(Content::Empty) => Ok(()),
+        Some(content) => {
+            out.push_str(" content=")?;
+            add_content(alloc, out, content)
+        }
+    }
+}
+
+// Puts the namespace and the memberships of an element.
+fn add_element(out: &mut Text, part: &ElementPart) -> Result<(), NoMemory> {
+    if part.ns.as_str() != TEI {
         out.push_str(" ns=")?;
-        out.push_str(ns.as_str())?;
+        out.push_str(part.ns.as_str())?;
     }
-    if matches!(content, Content::Empty) {
-        return Ok(());
+    add_classes(out, &part.classes)
+}
+
+// Puts the type and the memberships of a class.
+fn add_class(out: &mut Text, part: &ClassPart) -> Result<(), NoMemory> {
+    if part.gives {
+        out.push_str(" type=atts")?;
     }
-    out.push_str(" content=")?;
-    add_content(alloc, out, content)
+    add_classes(out, &part.classes)
+}
+
+// Puts memberships, with commas between them.
+fn add_classes(out: &mut Text, classes: &Words) -> Result<(), NoMemory> {
+    let mut before = " classes=";
+    for word in classes.as_slice() {
+        out.push_str(before)?;
+        out.push_str(word.as_str())?;
+        before = ",";
+    }
+    Ok(())
 }
 
 fn add_keys(out: &mut Text, keys: &Keys) -> Result<(), NoMemory> {

@@ -2,7 +2,8 @@ use odd_base::{Key, Kind, NoMemory, Text, Words};
 use odd_case_files::CaseFault;
 use odd_content::{Content, Pick};
 use odd_decls::{Entries, Entry, Mode, OddDoc, Spec};
-use odd_forms::TEI;
+use odd_forms::{TEI, sorted};
+use odd_members::{ClassMarks, Membership};
 use rng_values::Bounds;
 use std::alloc::Global;
 
@@ -104,11 +105,15 @@ fn mode_of(word: &str) -> Option<Mode> {
 // A declaration in a mode, with such fields as `module=m`.
 fn read_spec(alloc: Global, mode: &str, key: Key, fields: &[&str]) -> Result<Spec, CaseFault> {
     let mode = mode_of(mode).ok_or(CaseFault::NoItem)?;
+    let ns = namespace_without(alloc, key.kind, mode)?;
+    let gives = type_without(key.kind, mode);
     let mut spec = Spec {
         key,
         mode,
         module: Text::new(alloc),
-        ns: namespace_without(alloc, mode)?,
+        ns,
+        gives,
+        classes: None,
         content: None,
     };
     put_fields(alloc, &mut spec, fields)?;
@@ -127,18 +132,59 @@ fn put_field(alloc: Global, spec: &mut Spec, name: &str, value: &str) -> Result<
     match name {
         "module" => spec.module = Text::from_str(alloc, value)?,
         "ns" => spec.ns = Some(Text::from_str(alloc, value)?),
+        "type" => spec.gives = Some(read_type(value)?),
+        "classes" => spec.classes = Some(Membership::Replace(read_classes(alloc, value)?)),
+        "change" => spec.classes = Some(Membership::Change(read_marks(alloc, value)?)),
         "content" => spec.content = Some(read_content(alloc, value)?),
         _ => return Err(CaseFault::NoItem),
     }
     Ok(())
 }
 
-// The namespace where none is given: what is added or replaced is in TEI's.
-fn namespace_without(alloc: Global, mode: Mode) -> Result<Option<Text>, NoMemory> {
-    match mode {
-        Mode::Add | Mode::Replace => Ok(Some(Text::from_str(alloc, TEI)?)),
-        Mode::Delete | Mode::Change => Ok(None),
+// The namespace where none is given: an element that is added or replaced is in TEI's.
+fn namespace_without(alloc: Global, kind: Kind, mode: Mode) -> Result<Option<Text>, NoMemory> {
+    match (kind, mode) {
+        (Kind::Element, Mode::Add | Mode::Replace) => Ok(Some(Text::from_str(alloc, TEI)?)),
+        _ => Ok(None),
     }
+}
+
+// The type where none is given: a class that is added or replaced is of type `model`.
+fn type_without(kind: Kind, mode: Mode) -> Option<bool> {
+    match (kind, mode) {
+        (Kind::Class, Mode::Add | Mode::Replace) => Some(false),
+        _ => None,
+    }
+}
+
+fn read_type(value: &str) -> Result<bool, CaseFault> {
+    match value {
+        "atts" => Ok(true),
+        "model" => Ok(false),
+        _ => Err(CaseFault::NoItem),
+    }
+}
+
+// Classes with commas between them.
+fn read_classes(alloc: Global, value: &str) -> Result<Words, NoMemory> {
+    let mut classes = Words::new(alloc);
+    for word in value.split(',').filter(|word| !word.is_empty()) {
+        classes.push(Text::from_str(alloc, word)?)?;
+    }
+    sorted(alloc, classes)
+}
+
+// Such classes, each after `+` where it is added and after `-` where it is taken away.
+fn read_marks(alloc: Global, value: &str) -> Result<ClassMarks, CaseFault> {
+    let mut marks = ClassMarks::new(alloc);
+    for word in value.split(',').filter(|word| !word.is_empty()) {
+        let (is_added, class) = match word.strip_prefix('+') {
+            Some(class) => (true, class),
+            None => (false, word.strip_prefix('-').ok_or(CaseFault::NoItem)?),
+        };
+        marks.put(Text::from_str(alloc, class)?, is_added)?;
+    }
+    Ok(marks)
 }
 
 fn read_content(alloc: Global, content: &str) -> Result<Content, NoMemory> {

@@ -15,7 +15,7 @@ use Rattle.odd_reader.specs.declared.tree.Tree.{Tree, out-Tree}
 use Rattle.odd_meaning.specs.Admission.{Admits, IsValidBy, IsValidWithin, name_in_documents}
 use Rattle.odd_meaning.specs.Labels.{Label}
 use Rattle.odd_meaning.proofs.ExampleTrees.{apart, bare_depth, childless_depth, element, element_in, leaf, none_counts, words}
-use Rattle.odd_meaning.proofs.ValidityExamples.{holding, none_there, opened, part_in, part_of, text_with_words}
+use Rattle.odd_meaning.proofs.ValidityExamples.{holding, none_there, one_part, opened, part_in, text_with_words}
 
 -- one of the start words is enough
 second_word : Admits (holding (codes "a") content.Text) (codes "b" ∷ codes "a" ∷ []) (element (codes "a") [] (words ∷ []))
@@ -57,7 +57,7 @@ named_as_held : (part : ElementPart) (ident word : List ℕ) (t : Tree) (counts 
     → IsValidBy counts of_two t word → (out-Tree t).name ≡ name_in_documents ident part
 named_as_held part ident word t counts e held v =
     let o : IsValidBy counts of_two t ident = subst (IsValidBy counts of_two t) e v in
-    o.named ∙ ap (name_in_documents ident) (ap part_of (same_Some _ _ (sym o.held ∙ held)))
+    o.named ∙ ap (name_in_documents ident) (one_part _ _ (same_Some _ _ (sym o.held ∙ held)))
 
 -- so the library admits two names alone
 name_of_two : (t : Tree) → depth t ≡ 1 → Admits of_two of_two.start t

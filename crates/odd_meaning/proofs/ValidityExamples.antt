@@ -7,7 +7,6 @@ use Rattle.std.proofs.lemmas.Option.{same_Some}
 use Rattle.odd_content.specs.declared.content.Content.{Content}
 use Rattle.odd_content.specs.declared.content.Content.TheVariants as content
 use Rattle.odd_decls.specs.Odd.{element_key}
-use Rattle.odd_decls.specs.declared.library.Component.{Component}
 use Rattle.odd_decls.specs.declared.library.Component.TheVariants as component
 use Rattle.odd_decls.specs.declared.library.ElementPart.{ElementPart}
 use Rattle.odd_decls.specs.declared.library.Library.{Library}
@@ -23,9 +22,9 @@ use Rattle.odd_meaning.specs.Offers.{AreOffered, IsOffered}
 use Rattle.odd_meaning.proofs.ExampleTrees.{apart, attribute, bare_depth, branch, branch_depth, childless_depth, element, element_in, leaf, leaf_alone_counts, leaf_element}
 use Rattle.odd_meaning.proofs.ExampleTrees.{none_counts, space, space_alone, space_counts, space_depth, space_is_passed, words, words_alone, words_count, words_depth}
 
--- a namespace and a content, with no module
+-- a namespace and a content, with no module and in no class
 abbrev pub part_in : List ℕ → Content → ElementPart
-part_in ns k = record { «module» = []; ns = ns; content = k }
+part_in ns k = record { «module» = []; ns = ns; classes = []; content = k }
 
 -- a library that holds one element, and one that holds an element of TEI's
 abbrev holding_part : List ℕ → ElementPart → Library
@@ -50,14 +49,14 @@ pub opened : (library : Library) (t : Tree) (ident : List ℕ) (levels : ℕ) �
     → IsValidBy (counting (IsValidWithin levels library)) library t ident
 opened library t ident levels e v = subst (λ n. IsValidWithin n library t ident) e v
 
--- the held `a`, and its content
-abbrev pub part_of : Component → ElementPart
-part_of (component.Element part) = part
+-- one element is one part
+pub one_part : (p q : ElementPart) → component.Element p ≡ component.Element q → p ≡ q
+one_part p q e = cc
 
+-- the held `a`, and its content
 the_part : (part : ElementPart) (t : Tree) (counts : Marking Label) (v : IsValidBy counts (holding_part (codes "a") part) t (codes "a")) → part ≡ v.part
 the_part part t counts v =
-    let e : Some (component.Element part) ≡ Some (component.Element v.part) = v.held in
-    ap part_of (same_Some _ _ e)
+    one_part part v.part (same_Some _ _ v.held)
 
 the_content : (k : Content) (t : Tree) (counts : Marking Label) (v : IsValidBy counts (holding (codes "a") k) t (codes "a")) → k ≡ v.part.content
 the_content k t counts v = ap (λ (p : ElementPart). p.content) (the_part (part_in tei_namespace k) t counts v)

@@ -6,7 +6,7 @@ use Rattle.odd_reader.specs.Splits.{Counted, Then}
 use Rattle.odd_reader.specs.declared.tree.Node.{Node, Element as AnElement}
 use Rattle.odd_reader.specs.declared.tree.Tree.{Tree}
 use Rattle.rng_values.specs.declared.bounds.Bounds.{Bounds}
-use Rattle.odd_content.specs.declared.content.Content.{Content, Empty, Text, Element, Any, Sequence', Alternate', Row_of-Content, end_of-Content, more_of-Content}
+use Rattle.odd_content.specs.declared.content.Content.{Content, Empty, Text, Element, Class, Macro, Any, Sequence', Alternate', Row_of-Content, end_of-Content, more_of-Content}
 use Rattle.odd_meaning.specs.Labels.{Label, element, condition}
 
 abbrev pub IsUpTo : Option ℕ → ℕ → Type 0
@@ -22,12 +22,18 @@ pub record IsOne (counts : Marking Label) (l : Label) (w : List Node) : Type 0 w
   pub alone : w ≡ AnElement tree ∷ []
   pub counted : counts tree l
 
+-- nothing is a piece of a class or a macro, as libraries hold none so far
+abbrev pub IsOfNone : List Node → Type 0
+IsOfNone w = ⊥
+
 abbrev mutual
   -- `empty` no child, `textNode` any number of texts; of any other part a number of pieces within its bounds
   pub Admits : Marking Label → Content → List Node → Type 0
   Admits m Empty w = w ≡ []
   Admits m Text w = list_any is_element w ≡ false
   Admits m (Element key b) w = Counted (IsWithin b) (IsOne m (element key)) w
+  Admits m (Class key p b) w = Counted (IsWithin b) IsOfNone w
+  Admits m (Macro key b) w = Counted (IsWithin b) IsOfNone w
   Admits m (Any c b) w = Counted (IsWithin b) (IsOne m (condition c)) w
   Admits m (Sequence' shape parts b) w = Counted (IsWithin b) (InOrder m parts) w
   Admits m (Alternate' shape parts b) w = Counted (IsWithin b) (ByOne m parts) w

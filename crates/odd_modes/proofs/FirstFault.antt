@@ -5,7 +5,7 @@ use Rattle.odd_reader.specs.Elements.{StandsIn}
 use Rattle.odd_reader.proofs.InList.{StandsOnce, ends, nothing_stands, once_push}
 use Rattle.odd_forms.specs.Least.{IsLeast}
 use Rattle.odd_decls.specs.Odd.{place_of}
-use Rattle.odd_decls.specs.Offences.{IsNotBefore}
+use Rattle.odd_decls.specs.Offences.{IsNotAfter}
 use Rattle.odd_decls.specs.declared.fault.Fault.{Fault}
 use Rattle.odd_decls.specs.declared.odd.Entry.{Entry}
 use Rattle.odd_decls.specs.declared.odd.OddDoc.{OddDoc}
@@ -20,7 +20,7 @@ first_same P Q None into back h = λ place rule q. h place rule (back place rule
 first_same P Q (Some fault) into back h = record { is_one = into fault.at fault.rule h.is_one; first = λ place rule q. h.first place rule (back place rule q) }
 
 -- what is not before one is not before another that is not before it
-through : (place rule between between_rule other others_rule : ℕ) → IsNotBefore place rule between between_rule → IsNotBefore between between_rule other others_rule → IsNotBefore place rule other others_rule
+through : (place rule between between_rule other others_rule : ℕ) → IsNotAfter place rule between between_rule → IsNotAfter between between_rule other others_rule → IsNotAfter place rule other others_rule
 through place rule between between_rule other others_rule (inl h) (inl k) = inl (omega arith)
 through place rule between between_rule other others_rule (inl h) (inr k) = inl (omega (arith, k.0))
 through place rule between between_rule other others_rule (inr h) (inl k) = inl (omega (arith, h.0))

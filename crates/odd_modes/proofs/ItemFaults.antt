@@ -26,7 +26,7 @@ use Rattle.odd_decls.specs.declared.spec.Mode.TheVariants as mode
 use Rattle.odd_decls.specs.declared.spec.Spec.{Spec}
 use Rattle.odd_modes.specs.Choosing.{IsChosen}
 use Rattle.odd_modes.specs.Index.{is_of_module}
-use Rattle.odd_modes.specs.Offences.{IsAbsent, IsOfModule, ReferenceFault, SpecFault, words_in}
+use Rattle.odd_modes.specs.Offences.{GivesAnotherType, IsAbsent, IsOfModule, ReferenceFault, SpecFault, words_in}
 use Rattle.odd_modes.specs.Offences as offences
 use Rattle.odd_modes.proofs.HeldEntries.{held_stands, stands_held}
 
@@ -99,16 +99,34 @@ spec_added library doc at spec chosen adds told = least_if (SpecFault library do
     back : (rule : ℕ) → SpecFault library doc (entry.Spec at spec) rule → (chosen ≡ true) × (rule ≡ 5)
     back rule (offences.chosen m is) = (told.1 is, refl)
     back rule (offences.not_chosen m none) = absurd (m adds)
+    back rule (offences.another_type m is other) = let no_add : mode.Change ≡ mode.Add = sym m ∙ adds in cc
 
--- and one that changes, deletes or replaces
-pub spec_laid : (library : Library) (doc : OddDoc) (at : ℕ) (spec : Spec) (chosen : Bool) → spec.mode ≢ mode.Add → IsTrue chosen ↔ IsChosen library doc spec.key
-    → IsLeast (SpecFault library doc (entry.Spec at spec)) (if not chosen then Some 6 else None)
-spec_laid library doc at spec chosen no_add told =
-    least_if (SpecFault library doc (entry.Spec at spec)) (not chosen) 6 (λ t. offences.not_chosen no_add (λ is. both_ways chosen (not-true chosen t) (told.1 is))) back
+-- and one that changes, deletes or replaces what is not chosen
+pub spec_not_chosen : (library : Library) (doc : OddDoc) (at : ℕ) (spec : Spec) → spec.mode ≢ mode.Add → (IsChosen library doc spec.key → ⊥)
+    → IsLeast (SpecFault library doc (entry.Spec at spec)) (Some 6)
+spec_not_chosen library doc at spec no_add none = (offences.not_chosen no_add none, least)
   where
-    back : (rule : ℕ) → SpecFault library doc (entry.Spec at spec) rule → (not chosen ≡ true) × (rule ≡ 6)
-    back rule (offences.chosen m is) = absurd (no_add m)
-    back rule (offences.not_chosen m none) = (not_from_false chosen (false_from_ne_true chosen (λ t. none (told.0 t))), refl)
+    least : (rule : ℕ) → SpecFault library doc (entry.Spec at spec) rule → 6 ≤ rule
+    least rule (offences.chosen m is) = absurd (none is)
+    least rule (offences.not_chosen m other) = omega arith
+    least rule (offences.another_type m is other) = absurd (none is)
+
+-- one that changes what is chosen
+pub spec_changed : (library : Library) (doc : OddDoc) (at : ℕ) (spec : Spec) (another : Bool) → spec.mode ≡ mode.Change → IsChosen library doc spec.key
+    → IsTrue another ↔ GivesAnotherType library spec → IsLeast (SpecFault library doc (entry.Spec at spec)) (if another then Some 9 else None)
+spec_changed library doc at spec another changes chosen told = least_if (SpecFault library doc (entry.Spec at spec)) another 9 (λ t. offences.another_type changes chosen (told.0 t)) back
+  where
+    back : (rule : ℕ) → SpecFault library doc (entry.Spec at spec) rule → (another ≡ true) × (rule ≡ 9)
+    back rule (offences.chosen m is) = let both : mode.Change ≡ mode.Add = sym changes ∙ m in cc
+    back rule (offences.not_chosen m none) = absurd (none chosen)
+    back rule (offences.another_type m is other) = (told.1 other, refl)
+
+-- and one that deletes or replaces it
+pub spec_sound : (library : Library) (doc : OddDoc) (at : ℕ) (spec : Spec) → spec.mode ≢ mode.Add → spec.mode ≢ mode.Change → IsChosen library doc spec.key
+    → IsLeast (SpecFault library doc (entry.Spec at spec)) None
+spec_sound library doc at spec no_add no_change chosen rule (offences.chosen m is) = no_add m
+spec_sound library doc at spec no_add no_change chosen rule (offences.not_chosen m none) = none chosen
+spec_sound library doc at spec no_add no_change chosen rule (offences.another_type m is other) = no_change m
 
 -- what is lent of a component that is held
 pub copied_held : (lent : Option (Bor Component)) → is_some (option_copied lent) ≡ is_some lent

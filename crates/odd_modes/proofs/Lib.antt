@@ -1,11 +1,9 @@
 pub mod AfterOne
-pub mod Empty
 pub mod FirstFault
 pub mod Fronts
 pub mod Held
 pub mod HeldEntries
 pub mod ItemFaults
-pub mod OneFirst
 pub mod OneLibrary
 pub mod Referring
 pub mod SpecAt

@@ -6,7 +6,11 @@ use Rattle.std.specs.Ordering.{eq_by_cmp}
 use Rattle.odd_base.specs.Key.{key_cmp}
 use Rattle.odd_base.specs.declared.key.Key.{Key}
 use Rattle.odd_decls.specs.Library.{component_of}
+use Rattle.odd_members.specs.Membership.{classes_over}
+use Rattle.odd_decls.specs.declared.library.ClassPart.{ClassPart}
 use Rattle.odd_decls.specs.declared.library.Component.{Component}
+use Rattle.odd_decls.specs.declared.library.ElementPart.{ElementPart}
+use Rattle.odd_decls.specs.declared.library.OtherPart.{OtherPart}
 use Rattle.odd_decls.specs.declared.library.Component.TheVariants as component
 use Rattle.odd_decls.specs.declared.library.Library.{Library}
 use Rattle.odd_decls.specs.declared.odd.Entry.{Entry}
@@ -18,9 +22,25 @@ use Rattle.odd_decls.specs.declared.spec.Spec.{Spec}
 use Rattle.odd_modes.specs.Choosing.{is_referred}
 
 -- a spec laid over a component: its module stays, and what the spec gives is put in place of what was there
+abbrev pub element_laid_over : ElementPart → Spec → ElementPart
+element_laid_over part spec = record {
+  «module» = part.«module»;
+  ns = unwrap_or spec.ns part.ns;
+  classes = classes_over spec.classes part.classes;
+  content = unwrap_or spec.content part.content;
+}
+
+abbrev pub class_laid_over : ClassPart → Spec → ClassPart
+class_laid_over part spec = record { «module» = part.«module»; gives = unwrap_or spec.gives part.gives; classes = classes_over spec.classes part.classes }
+
+abbrev pub other_laid_over : OtherPart → Spec → OtherPart
+other_laid_over part spec = record { «module» = part.«module»; content = unwrap_or spec.content part.content }
+
 abbrev pub laid_over : Component → Spec → Component
-laid_over (component.Element part) spec =
-    component.Element (record { «module» = part.«module»; ns = unwrap_or spec.ns part.ns; content = unwrap_or spec.content part.content })
+laid_over (component.Element part) spec = component.Element (element_laid_over part spec)
+laid_over (component.Class part) spec = component.Class (class_laid_over part spec)
+laid_over (component.Macro part) spec = component.Macro (other_laid_over part spec)
+laid_over (component.Datatype part) spec = component.Datatype (other_laid_over part spec)
 
 -- what is held where a spec of the mode is over what was held
 abbrev pub declared : Mode → Spec → Option Component → Option Component

@@ -1,6 +1,7 @@
 -- The offences of a file against the library before it: rule 5, what is added was chosen; 6, what is changed, deleted or replaced was not chosen, or what is
--- referred to is not held; 7, no component is of the module; 8, `include` or `except` names no element of the module.
-use Rattle.std.specs.Prelude.{◌≡◌, ◌≢◌, ℕ, List, [], Some, None}
+-- referred to is not held; 7, no component is of the module; 8, `include` or `except` names no element of the module; 9, a class that is changed is given
+-- another type.
+use Rattle.std.specs.Prelude.{◌≡◌, ◌≢◌, ℕ, Bool, List, [], Some, None}
 use Rattle.std.specs.FinMap.{find}
 use Rattle.odd_base.specs.Key.{key_cmp}
 use Rattle.odd_base.specs.declared.key.Key.{Key}
@@ -12,7 +13,9 @@ use Rattle.odd_content.specs.declared.content.Pick.TheVariants as pick
 use Rattle.odd_decls.specs.Odd.{element_key, place_of}
 use Rattle.odd_decls.specs.Offences.{IsFirstOf}
 use Rattle.odd_decls.specs.Library.{module_of}
+use Rattle.odd_decls.specs.declared.library.ClassPart.{ClassPart}
 use Rattle.odd_decls.specs.declared.library.Component.{Component}
+use Rattle.odd_decls.specs.declared.library.Component.TheVariants as component
 use Rattle.odd_decls.specs.declared.library.Library.{Library}
 use Rattle.odd_decls.specs.declared.odd.Entry.{Entry}
 use Rattle.odd_decls.specs.declared.odd.Entry.TheVariants as entry
@@ -42,10 +45,19 @@ pub data ReferenceFault (library : Library) : Entry → ℕ → Type 0 where
   no_element : {at : ℕ} {name : List ℕ} {p : Pick} (word : List ℕ) → StandsIn (words_in p) word → (IsOfModule library name (element_key word) → ⊥)
       → ReferenceFault library (entry.Module at name p) 8
 
+-- a class is held at the key of the declaration, which gives it another type
+pub record GivesAnotherType (library : Library) (spec : Spec) : Type 0 where
+  pub part : ClassPart
+  pub held : find key_cmp spec.key library.parts ≡ Some (component.Class part)
+  pub gives : Bool
+  pub given : spec.gives ≡ Some gives
+  pub another : gives ≢ part.gives
+
 -- what a declaration breaks
 pub data SpecFault (library : Library) (doc : OddDoc) : Entry → ℕ → Type 0 where
   chosen : {at : ℕ} {spec : Spec} → spec.mode ≡ mode.Add → IsChosen library doc spec.key → SpecFault library doc (entry.Spec at spec) 5
   not_chosen : {at : ℕ} {spec : Spec} → spec.mode ≢ mode.Add → (IsChosen library doc spec.key → ⊥) → SpecFault library doc (entry.Spec at spec) 6
+  another_type : {at : ℕ} {spec : Spec} → spec.mode ≡ mode.Change → IsChosen library doc spec.key → GivesAnotherType library spec → SpecFault library doc (entry.Spec at spec) 9
 
 -- what an item breaks
 pub data ItemFault (library : Library) (doc : OddDoc) : Entry → ℕ → Type 0 where

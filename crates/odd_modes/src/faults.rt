@@ -7,12 +7,12 @@ ghost use Rattle.odd_decls.specs.Odd.{element_key};
 ghost use Rattle.odd_decls.specs.declared.odd.OddDoc.{OddDoc as ADoc};
 ghost use Rattle.odd_modes.specs.Choosing.{IsChosen};
 ghost use Rattle.odd_modes.specs.Index.{AreModulesOf, AreReferencesOf, IsEarlierOf, IsFirst, fault_of, is_of_module};
-ghost use Rattle.odd_modes.specs.Offences.{Offends, OffendsAt, ReferenceFault, RefersWrongly, SpecFault, words_in as the_words_in};
+ghost use Rattle.odd_modes.specs.Offences.{GivesAnotherType, Offends, OffendsAt, ReferenceFault, RefersWrongly, SpecFault, words_in as the_words_in};
 
 use crate::references::References;
 use odd_base::{Key, Kind, NoMemory, Text, TryCopy};
 use odd_content::Pick;
-use odd_decls::{Entry, Fault, Library, Mode, OddDoc, earlier};
+use odd_decls::{Component, Entry, Fault, Library, Mode, OddDoc, Spec, earlier};
 use odd_forms::fault_where;
 use std::alloc::Global;
 use std::collections::BTreeSet;
@@ -25,6 +25,8 @@ const NOT_CHOSEN: u8 = 6;
 const NO_MODULE: u8 = 7;
 // `include` or `except` names no element of the module.
 const NO_ELEMENT: u8 = 8;
+// A class that is changed is given another type.
+const ANOTHER_TYPE: u8 = 9;
 
 /// The first of the faults of a file's items by place, of those at one place the one with the least rule.
 pub fn first_fault(
@@ -178,9 +180,21 @@ fn spec_fault(library: &Library, references: &References<'_>, entry: &Entry) -> 
         return None;
     };
     let chosen = is_chosen(library, references, &spec.key);
-    match spec.mode {
-        Mode::Add => fault_where(chosen, CHOSEN),
-        Mode::Delete | Mode::Change | Mode::Replace => fault_where(!chosen, NOT_CHOSEN),
+    match (spec.mode, chosen) {
+        (Mode::Add, _) => fault_where(chosen, CHOSEN),
+        (_, false) => Some(NOT_CHOSEN),
+        (Mode::Change, true) => fault_where(gives_another_type(library, spec), ANOTHER_TYPE),
+        (Mode::Delete | Mode::Replace, true) => None,
+    }
+}
+
+// Whether a declaration gives the class that is held at its key another type.
+fn gives_another_type(library: &Library, spec: &Spec) -> bool
+    ensures { IsTrue result ↔ GivesAnotherType library.now spec.now }
+{
+    match (library.find(&spec.key), spec.gives) {
+        (Some(Component::Class(part)), Some(gives)) => gives != part.gives,
+        _ => false,
     }
 }
 

@@ -23,8 +23,8 @@ use std::alloc::Global;
 /// The library after a file, which is number `file` of its chain, counted from 1, over the library after the files before
 /// it (docs/merging.md). Offence is answered for the first item by place that breaks a rule, with the least that it
 /// breaks: 5, it adds what is chosen; 6, it changes, deletes or replaces what is not chosen, or refers to what is not
-/// held; 7, no component is of the module; 8, `include` or `except` names no element of the module. NoMemory is
-/// answered for want of memory.
+/// held; 7, no component is of the module; 8, `include` or `except` names no element of the module; 9, it gives a class
+/// that it changes another type. NoMemory is answered for want of memory.
 pub fn step(
     alloc: Global,
     library: &Library,

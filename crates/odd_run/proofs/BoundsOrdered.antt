@@ -91,6 +91,8 @@ mutual
   part_ordered left (IsPart.text is) unbroken = tt
   part_ordered left {around = around} {t = t} (IsPart.element is) unbroken =
       part_bounds kind.ElementRef left around t is (stands_later _ _ _ (stands_first _ _)) (stands_later _ _ _ (stands_later _ _ _ (stands_first _ _))) (stands_first _ _) unbroken
+  part_ordered left {around = around} {t = t} (IsPart.«class» is) unbroken = part_bounds kind.ClassRef left around t is (stands_later _ _ _ (stands_later _ _ _ (stands_later _ _ _ (stands_later _ _ _ (stands_first _ _))))) (stands_later _ _ _ (stands_later _ _ _ (stands_later _ _ _ (stands_later _ _ _ (stands_later _ _ _ (stands_first _ _)))))) (stands_first _ _) unbroken
+  part_ordered left {around = around} {t = t} (IsPart.«macro» is) unbroken = part_bounds kind.MacroRef left around t is (stands_later _ _ _ (stands_first _ _)) (stands_later _ _ _ (stands_later _ _ _ (stands_first _ _))) (stands_first _ _) unbroken
   part_ordered left {around = around} {t = t} (IsPart.any is of) unbroken =
       part_bounds kind.AnyElement left around t is (stands_first _ _) (stands_later _ _ _ (stands_first _ _)) (stands_first _ _) unbroken
   part_ordered left {around = around} {t = t} (IsPart.sequence {parts = parts} is of) unbroken = (

@@ -11,7 +11,7 @@ use Rattle.odd_decls.specs.declared.odd.OddDoc.{OddDoc}
 use Rattle.odd_decls.proofs.OneDoc.{one_doc}
 use Rattle.odd_modes.specs.After.{IsLibraryAfter}
 use Rattle.odd_modes.specs.Offences.{Offends}
-use Rattle.odd_chain.specs.Files.{AreAllRead, ChainOffends, Gives, IsChainRefusal, IsFirstPending, IsNotAfter, more, none, of_form, of_items}
+use Rattle.odd_chain.specs.Files.{AreAllRead, ChainOffends, Gives, IsChainRefusal, IsFirstPending, ComesNotAfter, more, none, of_form, of_items}
 
 -- the one item of a list
 pub only_item : {A : Type 0} (x y : A) (before after : List A) → x ∷ [] ≡ before ++ y ∷ after → (before ≡ []) × (y ≡ x)
@@ -62,7 +62,7 @@ module _ (t : Tree) where
     first = λ file stage place rule o. first file stage place rule (as_one file stage place rule o);
   }
     where
-      first : (file stage place rule : ℕ) → OffendsAsOne t file stage place rule → IsNotAfter offence.file 0 r.is_one.place offence.rule file stage place rule
+      first : (file stage place rule : ℕ) → OffendsAsOne t file stage place rule → ComesNotAfter offence.file 0 r.is_one.place offence.rule file stage place rule
       first file stage place rule (form h) = inr (r.is_one.in_file, inr (refl, r.first place rule h))
       first file stage place rule (items doc d o) = absurd (d.unoffended r.is_one.place offence.rule r.is_one.offends)
 

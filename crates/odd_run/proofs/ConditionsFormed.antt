@@ -50,6 +50,8 @@ mutual
   part_formed h f (IsPart.empty e) = All-nil IsFormedCondition
   part_formed h f (IsPart.text e) = All-nil IsFormedCondition
   part_formed h f (IsPart.element e) = All-nil IsFormedCondition
+  part_formed h f (IsPart.«class» e) = All-nil IsFormedCondition
+  part_formed h f (IsPart.«macro» e) = All-nil IsFormedCondition
   part_formed {around = around} h f (IsPart.any {condition = condition} e is) =
       All-cons IsFormedCondition condition [] (condition_formed _ condition (within_legal around h f) f is) (All-nil IsFormedCondition)
   part_formed {around = around} {t = t} h f (IsPart.sequence {parts = parts} e are) =

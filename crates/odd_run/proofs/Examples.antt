@@ -19,15 +19,17 @@ use Rattle.odd_tokens.specs.Characters.{is_char, is_name_char, is_name_start}
 use Rattle.odd_reader.specs.Spelled.{GivesTree}
 use Rattle.odd_reader.specs.declared.tree.Tree.{Tree, roll-Tree}
 use Rattle.odd_reader.proofs.Running.{empty_not_xml, literal_gives}
-use Rattle.odd_decls.specs.Declares.{Declares, GivesContent, IsEntryOf}
+use Rattle.odd_decls.specs.Declares.{Declares, IsEntryOf}
 use Rattle.odd_decls.specs.Odd.{element_key}
+use Rattle.odd_forms.specs.Children.{GivesOne}
 use Rattle.odd_forms.specs.Faults.{ChildFault}
 use Rattle.odd_forms.specs.Names.{tei, tei_namespace}
+use Rattle.odd_forms.specs.declared.element.Element.TheVariants as elements
 use Rattle.odd_reader.specs.Elements.{StandsIn}
 use Rattle.odd_reader.proofs.InList.{nothing_stands, stands_first}
-use Rattle.odd_decls.specs.Offences.{HasOffence, IsNotBefore, IsRefusal, IsSpecOf, ItemOffends, Offends}
+use Rattle.odd_decls.specs.Offences.{HasOffence, IsNotAfter, IsRefusal, IsSpecOf, ItemOffends, Offends}
 use Rattle.odd_decls.specs.Offences as form
-use Rattle.odd_decls.specs.Library.{component_of}
+use Rattle.odd_decls.specs.Library.{component_of, content_of}
 use Rattle.odd_modes.specs.After.{IsLibraryAfter, held_after, held_by, last_of}
 use Rattle.odd_modes.specs.Offences.{ItemFault, SpecFault}
 use Rattle.odd_chain.specs.Files.{Gives}
@@ -54,8 +56,8 @@ use Rattle.rng_emit.proofs.Shapes.{empty_is, ref_is}
 use Rattle.odd_reader.specs.Markup.{Markup, element as element_with, file_printed}
 use Rattle.rng_patterns.specs.declared.grammar.Grammar.{Grammar}
 use Rattle.odd_forms.specs.Sorted.{IsSet}
-use Rattle.compile_core.specs.Compiled.{IsGrammarOf, element_define}
-use Rattle.compile_core.specs.Conditions.{IsConditionOf, condition_cmp, conditions_in, content_of}
+use Rattle.compile_core.specs.Compiled.{IsGrammarOf, component_define}
+use Rattle.compile_core.specs.Conditions.{IsConditionOf, condition_cmp, conditions_of}
 use Rattle.compile_core.specs.Schema.{IsLeastMissing, IsSchema}
 use Rattle.odd_run.specs.Note.{code_of, note_text}
 use Rattle.odd_run.specs.Outcome.{answers, gives}
@@ -333,26 +335,25 @@ abbrev a_key : Key
 a_key = element_key (codes "a")
 
 abbrev element_spec : Spec
-element_spec = record { key = a_key; mode = mode.Add; «module» = []; ns = Some tei_namespace; content = None }
+element_spec = record { key = a_key; mode = mode.Add; «module» = []; ns = Some tei_namespace; gives = None; classes = None; content = None }
 
 abbrev one_doc : OddDoc
 one_doc = record { ident = codes "s"; start = codes "a" ∷ []; entries = entry.Spec 68 element_spec ∷ [] }
 
 abbrev one_library : Library
-one_library = record { ident = codes "s"; start = codes "a" ∷ []; parts = (a_key, component.Element (record { «module» = []; ns = tei_namespace; content = content.Empty })) ∷ [] }
+one_library = record { ident = codes "s"; start = codes "a" ∷ []; parts = (a_key, component.Element (record { «module» = []; ns = tei_namespace; classes = []; content = content.Empty })) ∷ [] }
 
 element_named : IsNamedSpec (codes "a") element_tree
 element_named = record { is_spec = refl; ident = refl; name = is_name (codes "a") refl; no_mode = refl; no_module = refl; no_prefix = refl; no_source = refl }
 
 element_read : IsEntryOf (alone root_tree) element_tree (entry.Spec 68 element_spec)
 element_read = IsEntryOf.spec (record {
-  ident = codes "a";
-  is_spec = (refl, refl, is_name (codes "a") refl);
-  key = refl;
+  is_spec = record { element = elements.ElementSpec; is_item = refl; of_kind = refl; ident = refl; named = is_name (codes "a") refl };
   of_mode = refl;
   of_module = refl;
   ns = refl;
-  content = GivesContent.none (λ child s is. nothing_stands child s);
+  gives = refl;
+  children = record { content = GivesOne.none (λ child s is. nothing_stands child s); classes = GivesOne.none (λ child s is. nothing_stands child s) };
 })
 
 one_element_declares : Declares root_tree one_doc
@@ -367,6 +368,7 @@ added_sound : (before : Library) (rule : ℕ) → IsLibraryAfter [] before → I
 added_sound before rule is (ItemFault.reference f) = elim f [ ]
 added_sound before rule is (ItemFault.spec (SpecFault.chosen added chosen)) = let none : None ≡ Some chosen.part = sym (is.holds a_key) ∙ chosen.held in cc
 added_sound before rule is (ItemFault.spec (SpecFault.not_chosen other nothing)) = other refl
+added_sound before rule is (ItemFault.spec (SpecFault.another_type changed chosen type)) = let other : mode.Add ≡ mode.Change = changed in cc
 
 one_element_sound : (place rule : ℕ) → OffendsAlone one_doc place rule → ⊥
 one_element_sound place rule o =
@@ -388,13 +390,13 @@ a_is_held word s = each_such (λ w. map.find key_cmp (element_key w) one_library
 
 -- its grammar has no condition, and one define
 abbrev a_grammar : Grammar
-a_grammar = record { start = expr.Ref (codes "e.a"); defines = element_define one_library [] (a_key, component.Element (record { «module» = []; ns = tei_namespace; content = content.Empty })) ∷ [] }
+a_grammar = record { start = expr.Ref (codes "e.a"); defines = component_define one_library [] (a_key, component.Element (record { «module» = []; ns = tei_namespace; classes = []; content = content.Empty })) ∷ [] }
 
 no_condition : IsSet condition_cmp (IsConditionOf one_library) []
 no_condition = record {
   rising = λ before after item next e. absurd (nothing_stands item (before, next ∷ after, e));
   none_else = λ c s. absurd (nothing_stands c s);
-  each = λ c h. absurd (each_such (λ e. StandsIn (conditions_in (content_of e.1)) c → ⊥) one_library.parts h.entry ((λ s. nothing_stands c s), tt) h.among h.holds);
+  each = λ c h. absurd (each_such (λ e. StandsIn (conditions_of (content_of e.1)) c → ⊥) one_library.parts h.entry ((λ s. nothing_stands c s), tt) h.among h.holds);
 }
 
 a_grammar_is : IsGrammarOf one_library (codes "a" ∷ []) a_grammar
@@ -514,7 +516,7 @@ p_offends = record {
 }
 
 -- the file has no other offence
-p_alone : (place rule : ℕ) → HasOffence offending_tree place rule → IsNotBefore 68 3 place rule
+p_alone : (place rule : ℕ) → HasOffence offending_tree place rule → IsNotAfter 68 3 place rule
 p_alone place rule h =
     let fault = one_item _ p_tree place rule
     (items_alone (codes "s") (codes "a") offending_tree offending_tree (p_tree ∷ []) offending_schema (root_named (p_tree ∷ [])) (elements_are (p_tree ∷ [])) place rule h) in

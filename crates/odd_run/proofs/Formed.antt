@@ -4,6 +4,7 @@ use Rattle.std.proofs.lemmas.List.Elements.{All-nil, All-cons}
 use Rattle.std.specs.Option.{IfSome}
 use Rattle.std.specs.Prelude.{All, codes, unwrap_or}
 use Rattle.odd_base.specs.declared.key.Key.{Key}
+use Rattle.odd_base.specs.declared.key.Kind.{Kind}
 use Rattle.odd_base.specs.declared.key.Kind.TheVariants as kind
 use Rattle.odd_base.specs.declared.name.Bind.{Bind}
 use Rattle.odd_tokens.proofs.Legal.{ascii_legal}
@@ -13,12 +14,16 @@ use Rattle.odd_reader.specs.Formed.{IsFormedTag}
 use Rattle.odd_reader.specs.declared.tree.Tree.{Tree}
 use Rattle.odd_reader.proofs.FormedBindings.{BindLegally}
 use Rattle.odd_reader.proofs.InList.{stands_first, stands_later}
+use Rattle.odd_forms.specs.Children.{GivesOne}
 use Rattle.odd_forms.specs.Names.{tei_namespace}
+use Rattle.odd_forms.specs.declared.element.Element.{Element}
+use Rattle.odd_forms.specs.declared.element.Element.TheVariants as element
+use Rattle.odd_content.specs.Giving.{IsContentOf}
 use Rattle.odd_content.specs.declared.content.Content.{Content}
 use Rattle.odd_content.specs.declared.content.Content.TheVariants as content
-use Rattle.odd_decls.specs.Declares.{Declares, GivesContent, IsEntryOf, IsReadAs, mode_given, namespace_given, namespace_in}
-use Rattle.odd_decls.specs.Library.{component_of}
-use Rattle.odd_decls.specs.Offences.{IsSpecOf, ItemFault, ItemOffends, Offends}
+use Rattle.odd_decls.specs.Declares.{Declares, IsEntryOf, IsReadAs, mode_given, namespace_given, namespace_in, namespace_of}
+use Rattle.odd_decls.specs.Library.{component_as, component_of}
+use Rattle.odd_decls.specs.Offences.{IsItem, ItemFault, ItemOffends, Offends}
 use Rattle.odd_decls.specs.declared.library.Component.{Component}
 use Rattle.odd_decls.specs.declared.library.Component.TheVariants as component
 use Rattle.odd_decls.specs.declared.library.Library.{Library}
@@ -27,6 +32,8 @@ use Rattle.odd_decls.specs.declared.odd.OddDoc.{OddDoc}
 use Rattle.odd_decls.specs.declared.spec.Mode.{Mode}
 use Rattle.odd_decls.specs.declared.spec.Mode.TheVariants as mode
 use Rattle.odd_decls.specs.declared.spec.Spec.{Spec}
+use Rattle.odd_members.specs.Membership.{classes_over}
+use Rattle.odd_decls.proofs.HeldForms.{declares_elements}
 use Rattle.odd_decls.proofs.FoundFormed.{IsFormedSomewhere, found_formed}
 use Rattle.odd_modes.proofs.Held.{EachSpec, held_from}
 use Rattle.odd_modes.specs.After.{laid_over}
@@ -63,21 +70,25 @@ given_or P None default given h = h
 given_or P (Some value) default given h = given
 
 -- a formed spec over a legal namespace and a formed content
-laid_formed : (spec : Spec) (m ns : List ℕ) (c : Content) → IsFormedSpec spec → IsLegal ns → IsFormedContent c
-    → IsFormedElement (record { «module» = m; ns = unwrap_or spec.ns ns; content = unwrap_or spec.content c })
-laid_formed spec m ns c f legal formed =
+laid_formed : (spec : Spec) (m ns : List ℕ) (classes : List (List ℕ)) (c : Content) → IsFormedSpec spec → IsLegal ns → IsFormedContent c
+    → IsFormedElement (record { «module» = m; ns = unwrap_or spec.ns ns; classes = classes; content = unwrap_or spec.content c })
+laid_formed spec m ns classes c f legal formed =
     let both = given_or IsFormedContent spec.content c f.content formed in
     record { legal = given_or IsLegal spec.ns ns f.ns legal; conditions = both.0; ordered = both.1 }
 
 -- as a component
 made_formed : (spec : Spec) → IsFormedSpec spec → IsFormedAt spec.key (component_of spec)
 made_formed spec f =
-    (f.key.0, f.key.1, laid_formed spec spec.«module» tei_namespace content.Empty f (ascii_legal tei_namespace refl) (All-nil IsFormedCondition, tt))
+    let part = laid_formed spec spec.«module» tei_namespace (classes_over spec.classes []) content.Empty f (ascii_legal tei_namespace refl) (All-nil IsFormedCondition, tt) in
+    (f.key.0, f.key.1, subst (λ k. IsFormedPart (component_as k spec)) (sym f.key.0) part)
 
 -- laid over a component
 over_formed : (key : Key) (part : Component) (spec : Spec) → IsFormedSpec spec → IsFormedAt key part → IsFormedAt key (laid_over part spec)
 over_formed key (component.Element part) spec f h =
-    (h.0, h.1, laid_formed spec part.«module» part.ns part.content f h.2.legal (h.2.conditions, h.2.ordered))
+    (h.0, h.1, laid_formed spec part.«module» part.ns (classes_over spec.classes part.classes) part.content f h.2.legal (h.2.conditions, h.2.ordered))
+over_formed key (component.Class part) spec f h = absurd h.2
+over_formed key (component.Macro part) spec f h = absurd h.2
+over_formed key (component.Datatype part) spec f h = absurd h.2
 
 -- the namespace that an element gives
 ns_legal : (t : Tree) → IsFormedTag t → IfSome (given t (codes "ns")) IsLegal
@@ -99,6 +110,13 @@ legal_in mode.Replace schema item f g = legal_namespace schema item f g
 legal_in mode.Change schema item f g = ns_legal item g
 legal_in mode.Delete schema item f g = ns_legal item g
 
+-- which is none but for an element
+legal_of : (k : Kind) (schema item : Tree) → IsFormedTag schema → IsFormedTag item → IfSome (namespace_of k schema item) IsLegal
+legal_of kind.Element schema item f g = legal_in (mode_given item) schema item f g
+legal_of kind.Class schema item f g = tt
+legal_of kind.Macro schema item f g = tt
+legal_of kind.Datatype schema item f g = tt
+
 -- what an item of a file declares
 module _ (t : Tree) (doc : OddDoc) (formed : IsFormedSomewhere t) (d : Declares t doc) where
   -- the `schemaSpec`
@@ -115,24 +133,24 @@ module _ (t : Tree) (doc : OddDoc) (formed : IsFormedSomewhere t) (d : Declares 
       d.unoffended _ rule (record { first = d.first; others = []; found = d.found; offends = Offends.items (ItemOffends.alone item s f refl) })
 
   -- the content that an item gives
-  content_formed : (item : Tree) (ident : List ℕ) → StandsIn (children_of d.first.schema) item → IsSpecOf ident item → (o : Option Content)
-      → GivesContent (within d.first.around d.first.schema) item o → IfSome o IsFormedContent
-  content_formed item ident s is None (GivesContent.none h) = tt
-  content_formed item ident s is (Some c) (GivesContent.some child among content of) =
+  content_formed : (item : Tree) (e : Element) → StandsIn (children_of d.first.schema) item → IsItem e item → (o : Option Content)
+      → GivesOne e element.Content (IsContentOf (within (within d.first.around d.first.schema) item)) (children_of item) o → IfSome o IsFormedContent
+  content_formed item e s is None (GivesOne.none h) = tt
+  content_formed item e s is (Some c) (GivesOne.some child among content of) =
       let around = within d.first.around d.first.schema in
       let item_formed = child_formed schema_formed.2 item s in
       let f = child_formed item_formed.2 child among in (
         conditions_formed (within around item) child f.0 f.1 c (within_legal around schema_legal item_formed.2) f.2 of,
-        bounds_ordered (within around item) child c of (λ rule k. item_unbroken item s rule (ItemFault.content child is.0 among content k)),
+        bounds_ordered (within around item) child c of (λ rule k. item_unbroken item s rule (ItemFault.content e is (child, among, (content, k)))),
       )
 
   -- an item that is read as a spec
   read_formed : (item : Tree) (made : Spec) → StandsIn (children_of d.first.schema) item → IsReadAs d.first item made → IsFormedSpec made
   read_formed item made s r = record {
-    key = subst IsFormedKey (sym r.key) (refl, r.is_spec.2);
+    key = (declares_elements t doc d item made.key s r.is_spec, r.is_spec.named);
     ns = subst (λ o. IfSome o IsLegal) (sym r.ns)
-        (legal_in (mode_given item) d.first.schema item (tag_formed schema_formed.2) (tag_formed (child_formed schema_formed.2 item s).2));
-    content = content_formed item r.ident s r.is_spec made.content r.content;
+        (legal_of made.key.kind d.first.schema item (tag_formed schema_formed.2) (tag_formed (child_formed schema_formed.2 item s).2));
+    content = content_formed item r.is_spec.element s r.is_spec.is_item made.content r.children.content;
   }
 
   -- each spec is read from an item

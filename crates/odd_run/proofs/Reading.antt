@@ -1,5 +1,5 @@
 -- The files of a chain, read one after another, and where reading stops.
-use Rattle.std.proofs.Common.{◌≡◌, ◌≤◌, ◌<◌, ◌+◌, ℕ, suc, List, [], ◌∷◌, ◌++◌, length, get_or, take, drop, Option, Some, Result, Ok, Err, ◌⊎◌, ⊎_elim, inl, inr, refl, sym, ap, subst, ◌∙◌, add-one, arith, length-append}
+use Rattle.std.proofs.Common.{◌≡◌, ◌<◌, ◌+◌, ℕ, suc, List, [], ◌∷◌, ◌++◌, length, get_or, take, drop, Option, Some, Result, Ok, Err, ◌⊎◌, ⊎_elim, inl, inr, refl, sym, ap, subst, ◌∙◌, add-one, arith, length-append}
 use Rattle.std.specs.Prelude.{Bool, IfErr, IfOk, IsTrue, OnOk}
 use Rattle.std.proofs.lemmas.List.{length-take-le, take-append-drop}
 use Rattle.odd_base.specs.Count.{next_count}

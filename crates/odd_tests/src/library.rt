@@ -4,7 +4,8 @@ use crate::making::{key, many_words, text};
 use compile_core::{CompileRefusal, compile};
 use odd_base::{Kind, NoMemory, Text, TryCopy, Who, Words};
 use odd_content::Content;
-use odd_decls::{Component, ElementPart, Library, Mode, Spec};
+use odd_decls::{ClassPart, Component, ElementPart, Library, Mode, OtherPart, Spec};
+use odd_members::Membership;
 use rng_emit::print_rng;
 use std::alloc::Global;
 use std::test::Fail;
@@ -16,6 +17,7 @@ fn element(alloc: Global, content: Content) -> Result<ElementPart, NoMemory> {
     Ok(ElementPart {
         module: Text::new(alloc),
         ns: text(alloc, TEI)?,
+        classes: Words::new(alloc),
         content,
     })
 }
@@ -96,21 +98,54 @@ fn the_empty_library_has_a_start_word_alone(rt: HostRuntime) -> Result<(), Fail>
 }
 
 #[test]
-fn components_and_specs_are_copied(rt: HostRuntime) -> Result<(), Fail> {
-    let component = Component::Element(element(rt.alloc(), Content::Text)?);
-    let Component::Element(part) = &component.copy(rt.alloc())?;
+fn an_element_is_copied(rt: HostRuntime) -> Result<(), Fail> {
+    let part = element(rt.alloc(), Content::Text)?.copy(rt.alloc())?;
     assert_eq!(rt; part.ns.as_str(), TEI);
-    assert!(rt; part.module.as_str().is_empty() && matches!(part.content, Content::Text));
+    assert!(rt; part.module.as_str().is_empty() && part.classes.is_empty());
+    assert!(rt; matches!(part.content, Content::Text));
+    Ok(())
+}
+
+#[test]
+fn a_class_is_copied(rt: HostRuntime) -> Result<(), Fail> {
+    let part = ClassPart {
+        module: text(rt.alloc(), "m")?,
+        gives: true,
+        classes: words_of(rt.alloc(), "c d")?,
+    };
+    let copy = part.copy(rt.alloc())?;
+    assert_eq!(rt; copy.module.as_str(), "m");
+    assert!(rt; copy.gives && copy.classes.len() == 2);
+    Ok(())
+}
+
+#[test]
+fn a_macro_is_copied(rt: HostRuntime) -> Result<(), Fail> {
+    let part = OtherPart {
+        module: text(rt.alloc(), "m")?,
+        content: Content::Text,
+    };
+    let copy = Component::Macro(part).copy(rt.alloc())?;
+    assert_eq!(rt; copy.module().as_str(), "m");
+    assert!(rt; matches!(copy.content(), Some(Content::Text)));
+    Ok(())
+}
+
+#[test]
+fn a_declaration_is_copied(rt: HostRuntime) -> Result<(), Fail> {
     let spec = Spec {
         key: key(rt.alloc(), Kind::Element, "a")?,
         mode: Mode::Change,
         module: text(rt.alloc(), "m")?,
         ns: Some(text(rt.alloc(), "n")?),
+        gives: None,
+        classes: Some(Membership::Replace(words_of(rt.alloc(), "c d")?)),
         content: Some(Content::Text),
     };
     let copy = spec.copy(rt.alloc())?;
     assert!(rt; copy.key == spec.key && copy.mode == Mode::Change);
     assert_eq!(rt; copy.module.as_str(), "m");
     assert!(rt; matches!(copy.content, Some(Content::Text)));
+    assert!(rt; matches!(&copy.classes, Some(Membership::Replace(words)) if words.len() == 2));
     Ok(())
 }

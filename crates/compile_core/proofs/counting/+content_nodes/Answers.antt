@@ -6,11 +6,12 @@ use Rattle.odd_base.specs.Key.{key_cmp}
 use Rattle.odd_decls.specs.Odd.{element_key}
 use Rattle.odd_content.specs.declared.content.Condition.{Condition}
 use Rattle.odd_decls.specs.declared.library.Library.{Library}
+use Rattle.rng_patterns.specs.declared.grammar.Expr.TheVariants as expr
 use Rattle.compile_core.specs.Contents.{condition_name, condition_pattern, content_pattern, element_pattern}
 use Rattle.compile_core.specs.Counted.{counted}
 use Rattle.compile_core.proofs.ContentParts.{alternate_pattern, sequence_pattern}
 use Rattle.compile_core.proofs.DefineCounts.{element_pattern_elements}
-use Rattle.compile_core.proofs.PatternCounts.{choice_of_each, empty_elements, group_of_each, pattern_elements, ref_elements, text_elements}
+use Rattle.compile_core.proofs.PatternCounts.{choice_of_each, empty_elements, group_of_each, not_allowed_elements, pattern_elements, ref_elements, text_elements}
 use Rattle.compile_core.proofs.counting.+content_nodes.Goals as goal
 use Rattle.compile_core.proofs.counting.+content_nodes.Goals.{joined_nodes-After-grouped_nodes}
 
@@ -28,6 +29,16 @@ content_nodes-returns-in-Element t c = λ library conditions.
     let one = element_pattern_elements key (find key_cmp (element_key key) library.parts) in
     c.repeated_nodes.ensures (element_pattern library key) (ap counted (sym one))
     ∙ ap (λ content. counted (pattern_elements (content_pattern library conditions content))) (sym c.in-Element.is)
+
+pub content_nodes-returns-in-Class : goal.content_nodes-returns-in-Class
+content_nodes-returns-in-Class t c = λ library conditions.
+    c.repeated_nodes-in-Class.ensures expr.NotAllowed (ap counted (sym not_allowed_elements))
+    ∙ ap (λ content. counted (pattern_elements (content_pattern library conditions content))) (sym c.in-Class.is)
+
+pub content_nodes-returns-in-Macro : goal.content_nodes-returns-in-Macro
+content_nodes-returns-in-Macro t c = λ library conditions.
+    c.repeated_nodes-in-Macro.ensures expr.NotAllowed (ap counted (sym not_allowed_elements))
+    ∙ ap (λ content. counted (pattern_elements (content_pattern library conditions content))) (sym c.in-Macro.is)
 
 pub content_nodes-returns-in-Any : goal.content_nodes-returns-in-Any
 content_nodes-returns-in-Any t c = λ library conditions.

@@ -1,5 +1,5 @@
 use Rattle.std.proofs.Common.{◌∙◌, sym, ap}
-use Rattle.compile_core.specs.Compiled.{element_define, start_pattern}
+use Rattle.compile_core.specs.Compiled.{component_define, start_pattern}
 use Rattle.compile_core.specs.Counted.{counted}
 use Rattle.compile_core.proofs.Counts.{counted_more, counted_sum}
 use Rattle.compile_core.proofs.DefineCounts.{start_counted, text_parts}
@@ -14,4 +14,4 @@ returns c = λ conditions all.
     let frame = c.saturating_add-frame.ensures ∙ counted_more _ (pattern_elements (start_pattern start)) 2 words in
     let defines = c.saturating_add-defines.ensures ∙ counted_sum _ _ _ _ (c.conditions_nodes.ensures conditions all) (c.elements_nodes.ensures conditions) in
     c.saturating_add.ensures ∙ counted_sum _ _ _ _ frame defines
-    ∙ ap counted (sym (text_parts (start_pattern start) c.args.before.now (element_define library conditions) library.parts))
+    ∙ ap counted (sym (text_parts (start_pattern start) c.args.before.now (component_define library conditions) library.parts))

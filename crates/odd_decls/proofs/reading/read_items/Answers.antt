@@ -6,7 +6,7 @@ use Rattle.odd_decls.proofs.Repeats.{least_after, none_alone}
 use Rattle.odd_decls.proofs.reading.read_items.Goals as goal
 
 pub loop-item-init : goal.loop-item-init
-loop-item-init c = no_items c.args.schema.now _ _ _ _ (c.into_iter-item-iterator.ensures.into_iter_gives ∙ c.elements-item-items.ensures) c.new-idents.ensures.empty c.new-entries.ensures
+loop-item-init c = no_items c.args.schema.now _ _ _ _ (c.into_iter-item-iterator.ensures.into_iter_gives ∙ c.elements-item-items.ensures) c.new-keys.ensures.empty c.new-entries.ensures
 
 pub loop-item-preserved : goal.loop-item-preserved
 loop-item-preserved c =
@@ -16,7 +16,7 @@ loop-item-preserved c =
     let none = sym c.lesser.ensures ∙ c.in_default.is in
     let least = least_after around so_far.passed item _ _ _ c.in_ok-again.again c.in_ok-entry.ensures.fault (c.in_ok-again.ensures.again so_far.passed so_far.held) c.fault_where.ensures none in
     let gives = subst (GivesEntry c.args.schema.now around item) c.in_default-entry.is (c.in_ok-entry.ensures.entry (none_alone _ _ none)) in
-    item_passed c.args.schema.now around _ _ _ _ _ _ item None so_far c.in-Some.ensures.steps least (c.in_ok-again.ensures.idents so_far.passed so_far.held) gives refl
+    item_passed c.args.schema.now around _ _ _ _ _ _ item None so_far c.in-Some.ensures.steps least (c.in_ok-again.ensures.keys so_far.passed so_far.held) gives refl
 
 pub loop-item-preserved-in-Continue-branch-3 : goal.loop-item-preserved-in-Continue-branch-3
 loop-item-preserved-in-Continue-branch-3 c =
@@ -26,7 +26,7 @@ loop-item-preserved-in-Continue-branch-3 c =
     let none = sym c.lesser.ensures ∙ c.in_default.is in
     let least = least_after around so_far.passed item _ _ _ c.in_ok-again.again c.in_ok-entry.ensures.fault (c.in_ok-again.ensures.again so_far.passed so_far.held) c.fault_where.ensures none in
     let gives = subst (GivesEntry c.args.schema.now around item) c.in-Some-entry.is (c.in_ok-entry.ensures.entry (none_alone _ _ none)) in
-    item_passed c.args.schema.now around _ _ _ _ _ _ item (Some c.in-Some-entry.entry) so_far c.in-Some.ensures.steps least (c.in_ok-again.ensures.idents so_far.passed so_far.held) gives c.in_ok-push.ensures.ok
+    item_passed c.args.schema.now around _ _ _ _ _ _ item (Some c.in-Some-entry.entry) so_far c.in-Some.ensures.steps least (c.in_ok-again.ensures.keys so_far.passed so_far.held) gives c.in_ok-push.ensures.ok
 
 pub returns-in-Some-lesser : goal.returns-in-Some-lesser
 returns-in-Some-lesser c =

@@ -1,0 +1,10 @@
+-- The order of offences by place and rule.
+use Rattle.std.proofs.Common.{◌≡◌, ℕ, inl, inr, arith}
+use Rattle.odd_decls.specs.Offences.{IsNotAfter}
+
+-- two offences, neither of which comes after the other, are one
+pub neither_after : (p r q s : ℕ) → IsNotAfter p r q s → IsNotAfter q s p r → (p ≡ q) × (r ≡ s)
+neither_after p r q s (inl a) (inl b) = omega (arith, a, b)
+neither_after p r q s (inl a) (inr b) = let e = b.0 in omega (arith, a, e)
+neither_after p r q s (inr a) (inl b) = let e = a.0 in omega (arith, b, e)
+neither_after p r q s (inr a) (inr b) = let h = a.1 in let k = b.1 in (a.0, omega (arith, h, k))
