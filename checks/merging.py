@@ -19,8 +19,10 @@ COUNT = 300
 TEI = "http://www.tei-c.org/ns/1.0"
 KINDS = ["element", "class", "macro", "datatype"]
 IDENTS, MODULES = "abcdef", "mno"
-NAMESPACES, CONTENTS = ["", "urn:x", "urn:y", TEI], ["empty", "text", "a", "b"]
-TYPES, CLASSES = ["model", "atts"], "uvwx"
+NAMESPACES = ["", "urn:x", "urn:y", TEI]
+# Mostly such as break no rule.
+CONTENTS = 8 * ["empty", "text", "a", "b"] + ["class/a", "class/b", "macro/a", "macro/b", "text,class/b", "macro/b,a,class/a"]
+TYPES, CLASSES = ["model", "model", "atts"], {"element": "abuv", "class": "buvw"}
 # The fields that a declaration of a kind may have.
 FIELDS = {"element": "module ns classes content", "class": "module type classes", "macro": "module content", "datatype": "module content"}
 MODES = ["add", "delete", "change", "replace"]
@@ -32,7 +34,7 @@ BY_ITSELF = Component("", TEI, "model", "", "empty")
 
 
 class Offence(Exception):
-    """The first offence of a chain: its file, its place and its rule."""
+    """The first offence of a chain: its file, its place or component, and its rule."""
 
 
 # What docs/merging.md says.
@@ -144,14 +146,61 @@ def held_after(library, doc):
     return made
 
 
-def library_after(docs):
-    """The library after docs, or their first offence."""
+def library_after(docs, is_asked=True):
+    """The library after docs, or their first offence. Where libraries are not asked, that of their items."""
     library = {}
     for file, doc in enumerate(docs, 1):
         if found := list(offences(library, doc)):
-            raise Offence(file, *min(found))
+            place, rule = min(found)
+            raise Offence(file, f"at {place}", rule)
         library = held_after(library, doc)
+        if is_asked and (broken := list(breaks(library))):
+            rule, *key = min(broken, key=lambda found: (found[0], key_order(found[1:])))
+            raise Offence(file, " ".join(key), rule)
     return library
+
+
+# What a library breaks.
+
+
+def links(library, key):
+    """The held classes of which a component is said to be a member."""
+    return {("class", ident) for ident in split(library[key].classes)} & library.keys()
+
+
+def names_in(library, key):
+    """The classes and macros that a content names."""
+    content = library[key].content if key[0] in ("element", "macro") else ""
+    return {tuple(part.split("/")) for part in split(content) if "/" in part}
+
+
+def macros(library, key):
+    """The held macros that a content names."""
+    return {other for other in names_in(library, key) & library.keys() if other[0] == "macro"}
+
+
+def reached(library, key, links_of):
+    """What a component leads to, by one step or more."""
+    found, waiting = set(), [key]
+    while waiting:
+        new = links_of(library, waiting.pop()) - found
+        found |= new
+        waiting.extend(new)
+    return found
+
+
+def breaks(library):
+    """The rules that components of a library break, each with its key."""
+    for key in library:
+        names = names_in(library, key)
+        if any(other[0] == "macro" and other not in library for other in names):
+            yield 11, *key
+        if key[0] == "class" and key in reached(library, key, links):
+            yield 13, *key
+        if key[0] == "macro" and key in reached(library, key, macros):
+            yield 14, *key
+        if any(other[0] == "class" and other in library and library[other].type == "atts" for other in names):
+            yield 17, *key
 
 
 # What is told of it.
@@ -165,11 +214,17 @@ def key_order(key):
 def told_component(key, component):
     """A key, and the fields in which a component differs from what is declared without any."""
     fields = [
-        f"{name}={value} 1..1" if name == "content" and value != "text" else f"{name}={value}"
+        f"{name}={shown_content(value) if name == 'content' else value}"
         for name, value, without in zip(Component._fields, component, BY_ITSELF)
         if value != without
     ]
     return " ".join([*key, *fields])
+
+
+def shown_content(content):
+    """A content as the cases show it."""
+    parts = [part if part in ("text", "empty") else f"{part.replace('/', ' ')} 1..1" for part in content.split(",")]
+    return parts[0] if len(parts) == 1 else f"sequence({', '.join(parts)}) 1..1"
 
 
 def told_library(docs):
@@ -179,23 +234,34 @@ def told_library(docs):
     return [" ".join([ident, *start]), *(told_component(key, library[key]) for key in sorted(library, key=key_order))]
 
 
+def told_members(docs):
+    """A line for each class of the library after docs, with the elements that are its members."""
+    library = library_after(docs)
+    elements_of = {key: reached(library, key, links) for key in library if key[0] == "element"}
+    for key in sorted(library, key=key_order):
+        if key[0] == "class":
+            found = sorted((ident for (_, ident), classes in elements_of.items() if key in classes), key=str.encode)
+            yield " ".join([key[1], *found])
+
+
 def told_chosen(docs):
     """The lines of what the last of the docs chooses: where there is none, nothing."""
     if not docs:
         return []
     *before, last = docs
-    library = library_after(before)
+    library = library_after(before, is_asked=False)
     if found := list(offences(library, last, of_references_alone=True)):
-        raise Offence(len(docs), *min(found))
+        place, rule = min(found)
+        raise Offence(len(docs), f"at {place}", rule)
     return [" ".join(key) for key in sorted(chosen(library, last), key=key_order)]
 
 
 def answer(told, docs):
     """The lines that a question is answered by."""
     try:
-        return told(docs)
+        return list(told(docs))
     except Offence as offence:
-        return ["file {} at {} rule {}".format(*offence.args)]
+        return ["file {} {} rule {}".format(*offence.args)]
 
 
 # Random chains.
@@ -229,10 +295,10 @@ def random_fields(rng, kind):
         if rng.random() > (0.8 if name == "module" else 0.4):
             continue
         if name == "classes" and rng.random() < 0.6:
-            marks = [rng.choice("+-") + name for name in sorted(rng.sample(CLASSES, rng.randrange(1, 4)))]
+            marks = [rng.choice("+-") + name for name in sorted(rng.sample(CLASSES[kind], rng.randrange(1, 4)))]
             yield f"change={','.join(marks)}"
         elif name == "classes":
-            yield f"classes={','.join(rng.sample(CLASSES, rng.randrange(4)))}"
+            yield f"classes={','.join(rng.sample(CLASSES[kind], rng.randrange(4)))}"
         else:
             yield f"{name}={rng.choice({'module': MODULES, 'ns': NAMESPACES, 'type': TYPES, 'content': CONTENTS}[name])}"
 
@@ -286,7 +352,7 @@ def written(doc):
 
 # Cases.
 
-QUESTIONS = {"library": told_library, "chosen": told_chosen}
+QUESTIONS = {"library": told_library, "members": told_members, "chosen": told_chosen}
 
 
 def sections(case):
@@ -302,7 +368,7 @@ def sections(case):
         else:
             first, last = int(words[0]), int(words[1])
             step = 1 if first <= last else -1
-            found[-1][1] += "".join(text.replace("#", str(number)) for number in range(first, last + step, step))
+            found[-1][1] += "".join(text.replace("#+", str(number + 1)).replace("#", str(number)) for number in range(first, last + step, step))
     return [(kind, text.splitlines()) for kind, text in found]
 
 

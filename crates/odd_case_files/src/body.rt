@@ -38,7 +38,8 @@ pub fn add_body(out: &mut Vec<u8>, body: Option<&str>, form: Form) -> Result<(),
     Ok(())
 }
 
-/// Puts a body once for each number from the first to the last, with the number in place of each `#`.
+/// Puts a body once for each number from the first to the last, with the number in place of each `#`, and the one after it in
+/// place of each `#+`.
 pub fn add_each(
     alloc: Global,
     out: &mut Vec<u8>,
@@ -56,7 +57,9 @@ pub fn add_each(
         } else {
             first.saturating_sub(step)
         };
+        let next = format!(in alloc; "{}", number.saturating_add(1))?;
         let number = format!(in alloc; "{number}")?;
+        let text = text.replace(alloc, "#+", next.as_str())?;
         let text = text.replace(alloc, "#", number.as_str())?;
         add_body(out, Some(text.as_str()), form)?;
     }

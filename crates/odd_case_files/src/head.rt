@@ -51,6 +51,7 @@ pub enum Head<'a> {
     Patterns(Over),
     Docs,
     Library,
+    Members,
     Chosen,
 }
 
@@ -91,6 +92,7 @@ pub fn read_text_head(head: &str) -> Option<Head<'_>> {
         "patterns of children" => Some(Head::Patterns(Over::Children)),
         "docs" => Some(Head::Docs),
         "library" => Some(Head::Library),
+        "members" => Some(Head::Members),
         "chosen" => Some(Head::Chosen),
         _ => match head.strip_prefix("file ") {
             Some(name) if !name.contains(' ') => Some(Head::File(name)),

@@ -1,5 +1,5 @@
 -- The first offence of a chain, by what its files declare.
-use Rattle.std.proofs.Common.{◌≡◌, ◌≤◌, ℕ, suc, List, [], ◌∷◌, ◌++◌, length, inl, inr, ⊎_elim, refl, sym, ap, subst, ◌∙◌, append_assoc, arith, length-append, append-nil}
+use Rattle.std.proofs.Common.{◌≡◌, ◌≤◌, ℕ, suc, List, [], ◌∷◌, ◌++◌, length, inl, inr, refl, sym, ap, subst, ◌∙◌, append_assoc, arith, length-append, append-nil}
 use Rattle.odd_base.specs.declared.offence.Offence.{Offence}
 use Rattle.odd_reader.specs.declared.tree.Tree.{Tree}
 use Rattle.odd_reader.proofs.InList.{nothing_stands}
@@ -8,43 +8,59 @@ use Rattle.odd_decls.specs.Offences.{HasOffence}
 use Rattle.odd_decls.specs.declared.library.Library.{Library}
 use Rattle.odd_decls.specs.declared.odd.OddDoc.{OddDoc}
 use Rattle.odd_modes.specs.After.{IsLibraryAfter}
-use Rattle.odd_chain.specs.Files.{AreDeclared, ChainOffends, Gives, IsChainRefusal, ComesNotAfter, of_form, of_items}
-use Rattle.odd_chain.specs.Offences.{IsRefusal, OffendsIn}
+use Rattle.odd_chain.specs.Files.{AreDeclared, ChainOffends, Gives, IsChainRefusal, of_doc, of_form}
+use Rattle.odd_chain.specs.Offences.{OffendsIn, of_item, of_library}
+use Rattle.odd_chain.specs.Order.{ComesNotAfter, IsFirst, Position, form}
 use Rattle.odd_chain.specs.Reading.{IsBrokenAfter}
 use Rattle.odd_chain.proofs.Declared.{DeclareFirst, as_many, first_declared, no_more_declared, stands_after}
+use Rattle.odd_chain.proofs.Merged.{number_within}
 
 -- an offence of docs is one of these and more
-offends_more : (docs upto later : List OddDoc) (file place rule : ℕ) → docs ≡ upto ++ later → OffendsIn upto file place rule → OffendsIn docs file place rule
-offends_more docs upto later file place rule e o = record {
-  earlier = o.earlier;
-  doc = o.doc;
-  later = o.later ++ later;
-  parts = e ∙ ap (λ ds. ds ++ later) o.parts ∙ append_assoc o.earlier (o.doc ∷ o.later) later;
-  number = o.number;
-  library = o.library;
-  is_before = o.is_before;
-  offends = o.offends;
+offends_more : (docs upto later : List OddDoc) (file : ℕ) (at : Position) → docs ≡ upto ++ later → OffendsIn upto file at → OffendsIn docs file at
+offends_more docs upto later _ _ e (of_item before doc after library parts is offends) =
+    of_item before doc (after ++ later) library (e ∙ ap (λ ds. ds ++ later) parts ∙ append_assoc before (doc ∷ after) later) is offends
+offends_more docs upto later _ _ e (of_library before doc after library parts is breaks) =
+    of_library before doc (after ++ later) library (e ∙ ap (λ ds. ds ++ later) parts ∙ append_assoc before (doc ∷ after) later) is breaks
+
+-- the docs up to one with an offence
+record UpTo (docs : List OddDoc) (file : ℕ) (at : Position) : Type 0 where
+  first : List OddDoc
+  later : List OddDoc
+  parts : docs ≡ first ++ later
+  number : length first ≡ file
+  offends : OffendsIn first file at
+
+up_to : (docs : List OddDoc) (file : ℕ) (at : Position) → OffendsIn docs file at → UpTo docs file at
+up_to docs _ _ (of_item before doc after library parts is offends) = record {
+  first = before ++ doc ∷ [];
+  later = after;
+  parts = parts ∙ sym (append_assoc before (doc ∷ []) after);
+  number = omega (arith, length-append {A = OddDoc});
+  offends = of_item before doc [] library refl is offends;
+}
+up_to docs _ _ (of_library before doc after library parts is breaks) = record {
+  first = before ++ doc ∷ [];
+  later = after;
+  parts = parts ∙ sym (append_assoc before (doc ∷ []) after);
+  number = omega (arith, length-append {A = OddDoc});
+  offends = of_library before doc [] library refl is breaks;
 }
 
 module _ (trees : List Tree) (docs : List OddDoc) (are : DeclareFirst trees docs) where
-  -- what offends by an item is an offence of the docs
-  of_docs : (upto later : List Tree) (others : List OddDoc) (file place rule : ℕ) → trees ≡ upto ++ later → AreDeclared upto others → OffendsIn others file place rule
-      → OffendsIn docs file place rule
-  of_docs upto later others file place rule e declared o =
+  -- what a doc offends by is an offence of the docs
+  of_docs : (upto later : List Tree) (others : List OddDoc) (file : ℕ) (at : Position) → trees ≡ upto ++ later → AreDeclared upto others → OffendsIn others file at → OffendsIn docs file at
+  of_docs upto later others file at e declared o =
       let made = no_more_declared are.files are.rest upto later docs others are.end are.declared declared (sym are.parts ∙ e) in
-      offends_more docs others made.0 file place rule made.1 o
+      offends_more docs others made.0 file at made.1 o
 
   -- and the other way round
-  of_chain : (file place rule : ℕ) → OffendsIn docs file place rule → ChainOffends trees file 1 place rule
-  of_chain file place rule o =
-      let upto = o.earlier ++ o.doc ∷ [] in
-      let made = first_declared are.files docs upto o.later are.declared (o.parts ∙ sym (append_assoc o.earlier (o.doc ∷ []) o.later)) in
-      let number : length made.0 ≡ file = omega (arith, as_many made.0 upto made.3, length-append {A = OddDoc}) in
+  of_chain : (file : ℕ) (at : Position) → OffendsIn docs file at → ChainOffends trees file at
+  of_chain file at o =
+      let up = up_to docs file at o in
+      let made = first_declared are.files docs up.first up.later are.declared up.parts in
+      let number : length made.0 ≡ file = sym (as_many made.0 up.first made.3) ∙ up.number in
       let parts : trees ≡ made.0 ++ (made.1 ++ are.rest) = are.parts ∙ ap (λ ts. ts ++ are.rest) made.2 ∙ append_assoc made.0 made.1 are.rest in
-      let offends : OffendsIn upto file place rule =
-      record { earlier = o.earlier; doc = o.doc; later = []; parts = refl; number = o.number; library = o.library; is_before = o.is_before; offends = o.offends } in
-      subst (λ n. ChainOffends trees n 1 place rule) number
-      (of_items made.0 (made.1 ++ are.rest) upto parts made.3 (subst (λ n. OffendsIn upto n place rule) (sym number) offends))
+      subst (λ n. ChainOffends trees n at) number (of_doc made.0 (made.1 ++ are.rest) up.first parts made.3 (subst (λ n. OffendsIn up.first n at) (sym number) up.offends))
 
   -- a file with an offence of form stands after those that declare the docs
   after_declared : (before later : List Tree) (t : Tree) (place rule : ℕ) → trees ≡ before ++ t ∷ later → HasOffence t place rule
@@ -53,35 +69,33 @@ module _ (trees : List Tree) (docs : List OddDoc) (are : DeclareFirst trees docs
       stands_after are.files are.rest before later docs t are.declared (λ doc d. d.unoffended place rule h) (sym are.parts ∙ e)
 
   -- the number of a doc with an offence is at most the count of those files
-  within_files : (file place rule : ℕ) → OffendsIn docs file place rule → file ≤ length are.files
-  within_files file place rule o = omega (arith, as_many are.files docs are.declared, ap length o.parts, length-append {A = OddDoc})
+  within_files : (file : ℕ) (at : Position) → OffendsIn docs file at → file ≤ length are.files
+  within_files file at o = omega (arith, as_many are.files docs are.declared, number_within docs file at o)
 
   -- the first offence of the docs is that of the chain
-  pub items_refused : (o : Offence) → IsRefusal docs o → IsChainRefusal trees o
-  items_refused o r = record { stage = 1; place = r.place; placed = r.placed; is_one = of_chain o.file r.place o.rule r.is_one; first = first }
+  pub docs_refused : (o : Offence) → IsFirst (OffendsIn docs) o → IsChainRefusal trees o
+  docs_refused o r = record { at = r.at; told = r.told; is_one = of_chain o.file r.at r.is_one; first = first }
     where
-      first : (other others_stage place rule : ℕ) → ChainOffends trees other others_stage place rule → ComesNotAfter o.file 1 r.place o.rule other others_stage place rule
-      first other others_stage place rule (of_form before t later e h) =
+      first : (other : ℕ) (others : Position) → ChainOffends trees other others → ComesNotAfter o.file r.at other others
+      first _ _ (of_form {place} {rule} before t later e h) =
           let made = after_declared before later t place rule e h in
-          inl (omega (arith, within_files o.file r.place o.rule r.is_one, ap length made.1, length-append {A = Tree}))
-      first other others_stage place rule (of_items upto later others e declared h) =
-          ⊎_elim (λ below. inl below) (λ same. inr (same.0, inr (refl, same.1))) (r.first other place rule (of_docs upto later others other place rule e declared h))
+          inl (omega (arith, within_files o.file r.at r.is_one, ap length made.1, length-append {A = Tree}))
+      first _ _ (of_doc {at} upto later others e declared h) = r.first (length upto) at (of_docs upto later others (length upto) at e declared h)
 
 -- where all files declare docs
 abbrev pub whole : (trees : List Tree) (docs : List OddDoc) → AreDeclared trees docs → DeclareFirst trees docs
 whole trees docs are = record { files = trees; rest = []; parts = sym (append-nil trees); declared = are; end = λ t later doc e d. cc }
 
 -- and none of these has an offence, the library after them is given
-pub docs_give : (trees : List Tree) (docs : List OddDoc) (library : Library) → AreDeclared trees docs → ((file place rule : ℕ) → OffendsIn docs file place rule → ⊥)
+pub docs_give : (trees : List Tree) (docs : List OddDoc) (library : Library) → AreDeclared trees docs → ((file : ℕ) (at : Position) → OffendsIn docs file at → ⊥)
     → IsLibraryAfter docs library → Gives trees library
 docs_give trees docs library are sound after = record { docs = docs; declared = are; unoffended = unoffended; is_library = after }
   where
-    unoffended : (file stage place rule : ℕ) → ChainOffends trees file stage place rule → ⊥
-    unoffended file stage place rule (of_form before t later e h) =
+    unoffended : (file : ℕ) (at : Position) → ChainOffends trees file at → ⊥
+    unoffended _ _ (of_form {place} {rule} before t later e h) =
         let made = after_declared trees docs (whole trees docs are) before later t place rule e h in
         nothing_stands t (made.0, later, made.2)
-    unoffended file stage place rule (of_items upto later others e declared h) =
-        sound file place rule (of_docs trees docs (whole trees docs are) upto later others file place rule e declared h)
+    unoffended _ _ (of_doc {at} upto later others e declared h) = sound (length upto) at (of_docs trees docs (whole trees docs are) upto later others (length upto) at e declared h)
 
 -- where a file has an offence of form, and those before it declare docs
 abbrev pub broken : (trees : List Tree) (docs : List OddDoc) (o : Offence) → IsBrokenAfter trees docs o → DeclareFirst trees docs
@@ -94,31 +108,30 @@ broken trees docs o b = record {
 }
 
 -- and none of these has an offence, its first one is that of the chain
-pub form_refused : (trees : List Tree) (docs : List OddDoc) (o : Offence) → IsBrokenAfter trees docs o → ((file place rule : ℕ) → OffendsIn docs file place rule → ⊥)
+pub form_refused : (trees : List Tree) (docs : List OddDoc) (o : Offence) → IsBrokenAfter trees docs o → ((file : ℕ) (at : Position) → OffendsIn docs file at → ⊥)
     → IsChainRefusal trees o
 form_refused trees docs o b sound = record {
-  stage = 0;
-  place = b.refused.is_one.place;
-  placed = b.refused.is_one.placed;
-  is_one =
-      subst (λ n. ChainOffends trees n 0 b.refused.is_one.place o.rule) (sym b.refused.is_one.in_file)
-      (of_form b.earlier b.tree b.later b.parts b.refused.is_one.offends);
+  at = at;
+  told = λ n. record { file = o.file; who = b.refused.is_one.placed n; rule = o.rule };
+  is_one = subst (λ n. ChainOffends trees n at) (sym b.refused.is_one.in_file) (of_form b.earlier b.tree b.later b.parts b.refused.is_one.offends);
   first = first;
 }
   where
+    at : Position
+    at = form b.refused.is_one.place o.rule
+
     -- another offence of form is of the same file, or of a later one
     own_or_later : (before between later : List Tree) (t : Tree) (place rule : ℕ) → before ≡ b.earlier ++ between → b.tree ∷ b.later ≡ between ++ t ∷ later
-        → HasOffence t place rule → ComesNotAfter o.file 0 b.refused.is_one.place o.rule (suc (length before)) 0 place rule
+        → HasOffence t place rule → ComesNotAfter o.file at (suc (length before)) (form place rule)
     own_or_later before [] later t place rule e is h =
-        let file : o.file ≡ suc (length before) = omega (arith, ap length e, length-append {A = Tree}) in
+        let file : o.file ≡ suc (length before) = omega (arith, b.refused.is_one.in_file, ap length e, length-append {A = Tree}) in
         let same : t ≡ b.tree = cc in
-        inr (file, inr (refl, b.refused.first place rule (subst (λ x. HasOffence x place rule) same h)))
-    own_or_later before (u ∷ between) later t place rule e is h = inl (omega (arith, ap length e, length-append {A = Tree}))
+        inr (file, b.refused.first place rule (subst (λ x. HasOffence x place rule) same h))
+    own_or_later before (u ∷ between) later t place rule e is h = inl (omega (arith, b.refused.is_one.in_file, ap length e, length-append {A = Tree}))
 
-    first : (other others_stage place rule : ℕ) → ChainOffends trees other others_stage place rule
-        → ComesNotAfter o.file 0 b.refused.is_one.place o.rule other others_stage place rule
-    first other others_stage place rule (of_form before t later e h) =
+    first : (other : ℕ) (others : Position) → ChainOffends trees other others → ComesNotAfter o.file at other others
+    first _ _ (of_form {place} {rule} before t later e h) =
         let made = after_declared trees docs (broken trees docs o b) before later t place rule e h in
         own_or_later before made.0 later t place rule made.1 made.2 h
-    first other others_stage place rule (of_items upto later others e declared h) =
-        absurd (sound other place rule (of_docs trees docs (broken trees docs o b) upto later others other place rule e declared h))
+    first _ _ (of_doc {at} upto later others e declared h) =
+        absurd (sound (length upto) at (of_docs trees docs (broken trees docs o b) upto later others (length upto) at e declared h))

@@ -1,3 +1,4 @@
 pub mod Files
 pub mod Offences
+pub mod Order
 pub mod Reading

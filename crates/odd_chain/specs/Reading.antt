@@ -1,9 +1,13 @@
 -- What is kept of the files of a chain that are read so far.
-use Rattle.std.specs.Prelude.{◌≡◌, ◌<◌, ◌^◌, suc, List, ◌∷◌, ◌++◌, length}
+use Rattle.std.specs.Prelude.{◌≡◌, ◌<◌, ◌^◌, ℕ, suc, List, ◌∷◌, ◌++◌, length}
+use Rattle.odd_base.specs.declared.key.Key.{Key}
 use Rattle.odd_base.specs.declared.offence.Offence.{Offence}
+use Rattle.odd_base.specs.declared.offence.Who.TheVariants as who
 use Rattle.odd_reader.specs.declared.tree.Tree.{Tree}
 use Rattle.odd_decls.specs.Offences.{IsRefusal}
+use Rattle.odd_decls.specs.declared.library.Library.{Library}
 use Rattle.odd_decls.specs.declared.odd.OddDoc.{OddDoc}
+use Rattle.odd_meaning.specs.Rules.{Breaks, IsFirstBreak}
 use Rattle.odd_chain.specs.Files.{AreAllRead, AreDeclared, IsFirstPending}
 use Rattle.odd_chain.specs.declared.chain.Chain.{Chain}
 use Rattle.odd_chain.specs.declared.chain.Chain.TheVariants as chain
@@ -28,3 +32,10 @@ abbrev pub HasFewDocs : Chain → Type 0
 HasFewDocs (chain.Whole docs) = length docs < 2 ^ 32
 HasFewDocs (chain.Broken docs offence) = length docs < 2 ^ 32
 HasFewDocs (chain.Pending file) = Unit {0}
+
+-- the first offence of the library after a file
+pub record IsFirstOfLibrary (library : Library) (file : ℕ) (offence : Offence) : Type 0 where
+  pub in_file : offence.file ≡ file
+  pub key : Key
+  pub placed : offence.who ≡ who.Part key
+  pub is_first : IsFirstBreak (Breaks library) key offence.rule

@@ -2,7 +2,8 @@ ghost use Rattle.std.specs.Prelude.{◌≡◌, ◌≢◌, ◌<◌, ◌^◌, ℕ,
 ghost use Rattle.odd_base.specs.declared.offence.Offence.{Offence as AnOffence};
 ghost use Rattle.odd_modes.specs.After.{IsLibraryAfter};
 ghost use Rattle.odd_chain.specs.Files.{AreAllRead, AreDeclared, Gives, IsChainRefusal, IsFirstPending};
-ghost use Rattle.odd_chain.specs.Offences.{IsRefusal, OffendsIn};
+ghost use Rattle.odd_chain.specs.Offences.{OffendsIn};
+ghost use Rattle.odd_chain.specs.Order.{IsFirst, Position};
 ghost use Rattle.odd_chain.specs.Reading.{HasFewDocs, IsBrokenAfter, IsChainOf};
 ghost use Rattle.odd_reader.specs.Formed.{IsFormed};
 ghost use Rattle.odd_reader.specs.declared.tree.Tree.{Tree as ATree};
@@ -58,8 +59,8 @@ impl Chain {
 
     /// The library after all files (docs/merging.md). Where a file has a form that is not read yet, NotYet is answered for
     /// the first such file, and else Offence for the first offence of the chain: of the first file that has one, those of
-    /// form by place and then by rule, and then those of its items against the library before it, by place and then by
-    /// rule. The chain has fewer than 2^32 docs. NoMemory is answered for want of memory.
+    /// form by place and then by rule, then those of its items against the library before it, by place and then by rule,
+    /// and then those of the library after it, by rule, kind and ident. The chain has fewer than 2^32 docs. NoMemory is answered for want of memory.
     pub fn library(self, alloc: Global) -> Result<Library, ChainRefusal>
         requires { HasFewDocs self }
         ensures library { IfOk result (λ library. (trees : List ATree) → IsChainOf self trees → Gives trees library) }
@@ -115,8 +116,8 @@ fn broken_with(
 fn merged(alloc: Global, docs: &OddDocs) -> Result<Library, ChainRefusal>
     requires { length docs.now < 2 ^ 32 }
     ensures library { IfOk result (IsLibraryAfter docs.now) }
-    ensures sound { IsOk result → (file place rule : ℕ) → OffendsIn docs.now file place rule → ⊥ }
-    ensures offence { (offence : AnOffence) → result ≡ Err (ChainRefusal.Offence offence) → IsRefusal docs.now offence }
+    ensures sound { IsOk result → (file : ℕ) (at : Position) → OffendsIn docs.now file at → ⊥ }
+    ensures offence { (offence : AnOffence) → result ≡ Err (ChainRefusal.Offence offence) → IsFirst (OffendsIn docs.now) offence }
     ensures read { (file : ℕ) → result ≢ Err (ChainRefusal.NotYet file) }
 {
     match merge(alloc, docs) {

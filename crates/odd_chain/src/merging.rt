@@ -1,9 +1,14 @@
 ghost use Rattle.std.specs.Prelude.{◌≡◌, ◌≢◌, ◌<◌, ◌^◌, ℕ, length, Err, IfOk, IsOk};
+ghost use Rattle.odd_base.specs.declared.key.Key.{Key as AKey};
 ghost use Rattle.odd_base.specs.declared.offence.Offence.{Offence as AnOffence};
+ghost use Rattle.odd_meaning.specs.Rules.{Breaks};
 ghost use Rattle.odd_modes.specs.After.{IsLibraryAfter};
-ghost use Rattle.odd_chain.specs.Offences.{IsRefusal, OffendsIn};
+ghost use Rattle.odd_chain.specs.Offences.{OffendsIn};
+ghost use Rattle.odd_chain.specs.Order.{IsFirst, Position};
+ghost use Rattle.odd_chain.specs.Reading.{IsFirstOfLibrary};
 
-use odd_base::Seq;
+use odd_base::{Offence, Seq, Who};
+use odd_classes::{LibraryRefusal, check_library};
 use odd_decls::{Library, OddDoc, OddRefusal};
 use odd_modes::step;
 use std::alloc::Global;
@@ -12,14 +17,14 @@ use std::alloc::Global;
 pub type OddDocs = Seq<OddDoc>;
 
 /// The library after the docs of a chain, each over the library after those before it (docs/merging.md); over no doc it is
-/// the empty one. Offence is answered for the first doc that has an offence, with its first by place and then by rule;
-/// the number of a doc is its place in the list, counted from 1. There are fewer than 2^32 docs. NoMemory is answered for
-/// want of memory.
+/// the empty one. Offence is answered for the first doc that has an offence: with the first of its items by place and then
+/// by rule, and where its items have none with the first of the library after it, by rule, kind and ident. The number of a
+/// doc is its place in the list, counted from 1. There are fewer than 2^32 docs. NoMemory is answered for want of memory.
 pub fn merge(alloc: Global, docs: &OddDocs) -> Result<Library, OddRefusal>
     requires { length docs.now < 2 ^ 32 }
     ensures library { IfOk result (IsLibraryAfter docs.now) }
-    ensures sound { IsOk result → (file place rule : ℕ) → OffendsIn docs.now file place rule → ⊥ }
-    ensures offence { (offence : AnOffence) → result ≡ Err (OddRefusal.Offence offence) → IsRefusal docs.now offence }
+    ensures sound { IsOk result → (file : ℕ) (at : Position) → OffendsIn docs.now file at → ⊥ }
+    ensures offence { (offence : AnOffence) → result ≡ Err (OddRefusal.Offence offence) → IsFirst (OffendsIn docs.now) offence }
     ensures read { result ≢ Err OddRefusal.NotYet }
 {
     let mut library = Library::empty(alloc)?;
@@ -27,6 +32,23 @@ pub fn merge(alloc: Global, docs: &OddDocs) -> Result<Library, OddRefusal>
     for doc in docs.as_slice() {
         file += 1;
         library = step(alloc, &library, doc, file)?;
+        check(alloc, &library, file)?;
     }
     Ok(library)
+}
+
+// Whether the library after a doc breaks a rule.
+fn check(alloc: Global, library: &Library, file: u32) -> Result<(), OddRefusal>
+    ensures sound { IsOk result → (key : AKey) (rule : ℕ) → Breaks library.now key rule → ⊥ }
+    ensures offence { (offence : AnOffence) → result ≡ Err (OddRefusal.Offence offence) → IsFirstOfLibrary library.now file offence }
+    ensures read { result ≢ Err OddRefusal.NotYet }
+{
+    match check_library(alloc, library) {
+        Ok(()) => Ok(()),
+        Err(LibraryRefusal::Rule { key, rule }) => {
+            let who = Who::Part(key);
+            Err(OddRefusal::Offence(Offence { file, who, rule }))
+        }
+        Err(LibraryRefusal::NoMemory) => Err(OddRefusal::NoMemory),
+    }
 }

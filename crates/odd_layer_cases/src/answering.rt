@@ -1,4 +1,4 @@
-use crate::chains::{told_chosen, told_library};
+use crate::chains::{told_chosen, told_library, told_members};
 use crate::draft::read_question;
 use crate::letters::Letters;
 use crate::patterns::told_lines;
@@ -54,17 +54,23 @@ fn chains_difference(alloc: Global, chains: &[Chain]) -> Result<Option<String>, 
 
 // What is answered of a chain otherwise than wanted.
 fn chain_difference(alloc: Global, chain: &Chain) -> Result<Option<String>, CaseFault> {
-    let docs = chain.docs.as_slice();
     if let Some(wanted) = &chain.library {
-        let text = told_library(alloc, docs)?;
+        let text = told_library(alloc, &chain.docs)?;
         let difference = text_difference(alloc, "library", wanted, &text)?;
+        if difference.is_some() {
+            return Ok(difference);
+        }
+    }
+    if let Some(wanted) = &chain.members {
+        let text = told_members(alloc, &chain.docs)?;
+        let difference = text_difference(alloc, "members", wanted, &text)?;
         if difference.is_some() {
             return Ok(difference);
         }
     }
     match &chain.chosen {
         Some(wanted) => {
-            let text = told_chosen(alloc, docs)?;
+            let text = told_chosen(alloc, chain.docs.as_slice())?;
             text_difference(alloc, "chosen", wanted, &text)
         }
         None => Ok(None),

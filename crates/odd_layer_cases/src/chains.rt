@@ -1,16 +1,31 @@
 use odd_base::{Key, Keys, Kind, NoMemory, Offence, Text, Who, Words};
 use odd_case_files::add_content;
+use odd_chain::{OddDocs, merge};
+use odd_classes::members;
 use odd_content::Content;
 use odd_decls::{ClassPart, Component, ElementPart, Library, OddDoc, OddRefusal};
 use odd_forms::TEI;
 use odd_modes::{select, step};
 use std::alloc::Global;
 
+// How many docs a case may have.
+const MOST_DOCS: usize = 1000;
+
 /// The library after the docs of a chain, or their first offence.
-pub fn told_library(alloc: Global, docs: &[OddDoc]) -> Result<Text, NoMemory> {
+pub fn told_library(alloc: Global, docs: &OddDocs) -> Result<Text, NoMemory> {
     let mut out = Text::new(alloc);
-    match library_after(alloc, docs) {
+    match merged(alloc, docs) {
         Ok(library) => add_library(alloc, &mut out, &library)?,
+        Err(refusal) => add_refusal(alloc, &mut out, &refusal)?,
+    }
+    Ok(out)
+}
+
+/// The members of each class of the library after the docs of a chain, or their first offence.
+pub fn told_members(alloc: Global, docs: &OddDocs) -> Result<Text, NoMemory> {
+    let mut out = Text::new(alloc);
+    match merged(alloc, docs) {
+        Ok(library) => add_members(alloc, &mut out, &library)?,
         Err(refusal) => add_refusal(alloc, &mut out, &refusal)?,
     }
     Ok(out)
@@ -24,6 +39,15 @@ pub fn told_chosen(alloc: Global, docs: &[OddDoc]) -> Result<Text, NoMemory> {
         Err(refusal) => add_refusal(alloc, &mut out, &refusal)?,
     }
     Ok(out)
+}
+
+// The library after the docs of a chain, or their first offence. A case with more docs than any has is told as one for want of
+// memory.
+fn merged(alloc: Global, docs: &OddDocs) -> Result<Library, OddRefusal> {
+    if docs.len() > MOST_DOCS {
+        return Err(OddRefusal::NoMemory);
+    }
+    merge(alloc, docs)
 }
 
 fn library_after(alloc: Global, docs: &[OddDoc]) -> Result<Library, OddRefusal> {
@@ -54,6 +78,22 @@ fn add_library(alloc: Global, out: &mut Text, library: &Library) -> Result<(), N
         out.push('\n')?;
         add_key(out, key)?;
         add_part(alloc, out, part)?;
+    }
+    Ok(())
+}
+
+// Puts a line for each class, with its members.
+fn add_members(alloc: Global, out: &mut Text, library: &Library) -> Result<(), NoMemory> {
+    let mut is_first = true;
+    for (key, _) in library.parts.entries() {
+        if key.kind == Kind::Class {
+            if !is_first {
+                out.push('\n')?;
+            }
+            is_first = false;
+            out.push_str(key.ident.as_str())?;
+            add_words(out, &members(alloc, library, &key.ident)?)?;
+        }
     }
     Ok(())
 }
@@ -139,13 +179,18 @@ fn add_key(out: &mut Text, key: &Key) -> Result<(), NoMemory> {
     out.push_str(key.ident.as_str())
 }
 
-// Puts an offence: its file, its place and its rule.
+// Puts an offence: its file, its place or its component, and its rule.
 fn add_refusal(alloc: Global, out: &mut Text, refusal: &OddRefusal) -> Result<(), NoMemory> {
     match refusal {
         OddRefusal::Offence(Offence { file, who, rule }) => {
             out.push_str(format!(in alloc; "file {file}")?.as_str())?;
-            if let Who::At(place) = who {
-                out.push_str(format!(in alloc; " at {place}")?.as_str())?;
+            match who {
+                Who::At(place) => out.push_str(format!(in alloc; " at {place}")?.as_str())?,
+                Who::Part(key) => {
+                    out.push(' ')?;
+                    add_key(out, key)?;
+                }
+                Who::Start(_) | Who::Asked(_) => {}
             }
             out.push_str(format!(in alloc; " rule {rule}")?.as_str())
         }

@@ -1,15 +1,22 @@
 use odd_base::{Key, Kind, NoMemory, Text, Words};
 use odd_case_files::CaseFault;
-use odd_content::{Content, Pick};
+use odd_chain::OddDocs;
+use odd_content::{Content, Contents, Pick};
 use odd_decls::{Entries, Entry, Mode, OddDoc, Spec};
 use odd_forms::{TEI, sorted};
 use odd_members::{ClassMarks, Membership};
 use rng_values::Bounds;
 use std::alloc::Global;
 
+// The bounds of a part that stands once.
+const ONCE: Bounds = Bounds {
+    min: 1,
+    max: Some(1),
+};
+
 /// The docs of a text. Each begins with a line of its ident and start words, and each line below it is an item, whose
 /// place is the number of the line, counted from 1.
-pub fn read_docs(alloc: Global, text: &[u8]) -> Result<Vec<OddDoc>, CaseFault> {
+pub fn read_docs(alloc: Global, text: &[u8]) -> Result<OddDocs, CaseFault> {
     let Ok(text) = str::from_utf8(text) else {
         return Err(CaseFault::NoItem);
     };
@@ -18,7 +25,11 @@ pub fn read_docs(alloc: Global, text: &[u8]) -> Result<Vec<OddDoc>, CaseFault> {
         let words: Vec<&str> = line.split_ascii_whitespace().collect(alloc)?;
         add_line(alloc, &mut docs, words.as_slice())?;
     }
-    Ok(docs)
+    let mut read = OddDocs::new(alloc);
+    for doc in docs {
+        read.push(doc)?;
+    }
+    Ok(read)
 }
 
 // Begins a doc, or adds an item to the last one.
@@ -187,16 +198,43 @@ fn read_marks(alloc: Global, value: &str) -> Result<ClassMarks, CaseFault> {
     Ok(marks)
 }
 
+// A part of the content, or several with commas between them, which are a sequence.
 fn read_content(alloc: Global, content: &str) -> Result<Content, NoMemory> {
-    match content {
+    if !content.contains(',') {
+        return read_part(alloc, content);
+    }
+    let mut parts = Contents::new(alloc);
+    for part in content.split(',') {
+        parts.push(read_part(alloc, part)?)?;
+    }
+    Ok(Content::Sequence {
+        parts,
+        bounds: ONCE,
+    })
+}
+
+fn read_part(alloc: Global, part: &str) -> Result<Content, NoMemory> {
+    match part.split_once('/') {
+        Some(("class", ident)) => Ok(Content::Class {
+            key: Text::from_str(alloc, ident)?,
+            pick: Pick::All,
+            bounds: ONCE,
+        }),
+        Some(("macro", ident)) => Ok(Content::Macro {
+            key: Text::from_str(alloc, ident)?,
+            bounds: ONCE,
+        }),
+        _ => read_named(alloc, part),
+    }
+}
+
+fn read_named(alloc: Global, part: &str) -> Result<Content, NoMemory> {
+    match part {
         "empty" => Ok(Content::Empty),
         "text" => Ok(Content::Text),
         ident => Ok(Content::Element {
             key: Text::from_str(alloc, ident)?,
-            bounds: Bounds {
-                min: 1,
-                max: Some(1),
-            },
+            bounds: ONCE,
         }),
     }
 }

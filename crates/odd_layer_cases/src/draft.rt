@@ -47,6 +47,10 @@ fn put_part(alloc: Global, draft: &mut Draft, part: Part<'_>) -> Result<(), Case
             let wanted = said_answer(alloc, text)?;
             set_once(&mut last_chain(draft)?.library, wanted)
         }
+        Head::Members => {
+            let wanted = said_answer(alloc, text)?;
+            set_once(&mut last_chain(draft)?.members, wanted)
+        }
         Head::Chosen => {
             let wanted = said_answer(alloc, text)?;
             set_once(&mut last_chain(draft)?.chosen, wanted)
@@ -63,6 +67,7 @@ fn begun_chain(alloc: Global, text: &[u8]) -> Result<Chain, CaseFault> {
     Ok(Chain {
         docs: read_docs(alloc, text)?,
         library: None,
+        members: None,
         chosen: None,
     })
 }
@@ -95,7 +100,7 @@ fn finish(draft: Draft) -> Result<Question, CaseFault> {
 // The question of chains, of each of which something is asked.
 fn chains_question(chains: Vec<Chain>) -> Result<Question, CaseFault> {
     for chain in &chains {
-        if chain.library.is_none() && chain.chosen.is_none() {
+        if chain.library.is_none() && chain.members.is_none() && chain.chosen.is_none() {
             return Err(CaseFault::NothingAsked);
         }
     }

@@ -1,13 +1,15 @@
 use odd_base::{Bytes, Words};
 use odd_case_files::Over;
-use odd_decls::OddDoc;
+use odd_chain::OddDocs;
 
 /// Docs in their order, and what must be answered of them.
 #[derive(Drop)]
 pub struct Chain {
-    pub docs: Vec<OddDoc>,
+    pub docs: OddDocs,
     /// The library after the last.
     pub library: Option<Bytes>,
+    /// The members of its classes.
+    pub members: Option<Bytes>,
     /// What the last chooses.
     pub chosen: Option<Bytes>,
 }

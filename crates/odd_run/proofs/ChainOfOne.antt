@@ -1,5 +1,6 @@
 -- A chain of one file: its offences, and what it gives.
 use Rattle.std.proofs.Common.{◌≡◌, ℕ, List, [], ◌∷◌, ◌++◌, refl, sym, subst, inr}
+use Rattle.odd_base.specs.declared.key.Key.{Key}
 use Rattle.odd_base.specs.declared.offence.Offence.{Offence}
 use Rattle.odd_reader.specs.declared.tree.Tree.{Tree}
 use Rattle.odd_reader.proofs.InList.{nothing_stands}
@@ -11,7 +12,11 @@ use Rattle.odd_decls.specs.declared.odd.OddDoc.{OddDoc}
 use Rattle.odd_decls.proofs.OneDoc.{one_doc}
 use Rattle.odd_modes.specs.After.{IsLibraryAfter}
 use Rattle.odd_modes.specs.Offences.{Offends}
-use Rattle.odd_chain.specs.Files.{AreAllRead, ChainOffends, Gives, IsChainRefusal, IsFirstPending, ComesNotAfter, more, none, of_form, of_items}
+use Rattle.odd_modes.proofs.OneLibrary.{one_library}
+use Rattle.odd_meaning.specs.Rules.{Breaks}
+use Rattle.odd_chain.specs.Files.{AreAllRead, ChainOffends, Gives, IsChainRefusal, IsFirstPending, more, none, of_doc, of_form}
+use Rattle.odd_chain.specs.Offences.{OffendsIn, of_item, of_library}
+use Rattle.odd_chain.specs.Order.{ComesNotAfter, Position, form}
 
 -- the one item of a list
 pub only_item : {A : Type 0} (x y : A) (before after : List A) → x ∷ [] ≡ before ++ y ∷ after → (before ≡ []) × (y ≡ x)
@@ -22,49 +27,50 @@ only_item x y (z ∷ before) after e = absurd (nothing_stands y (before, after, 
 abbrev pub OffendsAlone : OddDoc → ℕ → ℕ → Type 0
 OffendsAlone doc place rule = (before : Library) × IsLibraryAfter [] before × Offends before doc place rule
 
--- an offence of a chain of one file
-data OffendsAsOne (t : Tree) : ℕ → ℕ → ℕ → ℕ → Type 0 where
-  form : {place rule : ℕ} → HasOffence t place rule → OffendsAsOne t 1 0 place rule
-  items : {place rule : ℕ} (doc : OddDoc) → Declares t doc → OffendsAlone doc place rule → OffendsAsOne t 1 1 place rule
-
 module _ (t : Tree) where
-  as_one : (file stage place rule : ℕ) → ChainOffends (t ∷ []) file stage place rule → OffendsAsOne t file stage place rule
-  as_one file stage place rule (of_form [] u later e h) = form (subst (λ x. HasOffence x place rule) (only_item t u [] later e).1 h)
-  as_one file stage place rule (of_form (x ∷ earlier) u later e h) = absurd (nothing_stands u (earlier, later, cc))
-  as_one file stage place rule (of_items [] later docs e none o) = absurd (nothing_stands o.doc (o.earlier, o.later, o.parts))
-  as_one file stage place rule (of_items (x ∷ []) later docs e (more {doc = doc} d none) o) =
-      let is : x ≡ t = cc in
-      let parts = only_item doc o.doc o.earlier o.later o.parts in
-      items doc (subst (λ x. Declares x doc) is d)
-      (o.library, subst (λ ds. IsLibraryAfter ds o.library) parts.0 o.is_before, subst (λ d. Offends o.library d place rule) parts.1 o.offends)
-  as_one file stage place rule (of_items (x ∷ y ∷ upto) later docs e d o) = absurd cc
+  -- a file that stands alone has no offence where it declares a doc of which no item offends, and the library after it breaks no rule
+  module _ (doc : OddDoc) (library : Library) (d : Declares t doc) (sound : (place rule : ℕ) → OffendsAlone doc place rule → ⊥) (is : IsLibraryAfter (doc ∷ []) library)
+      (unbroken : (key : Key) (rule : ℕ) → Breaks library key rule → ⊥) where
+    of_docs : (file : ℕ) (at : Position) → OffendsIn (doc ∷ []) file at → ⊥
+    of_docs _ _ (of_item {place} {rule} earlier other later before parts after offends) =
+        let only = only_item doc other earlier later parts in
+        sound place rule (before, subst (λ ds. IsLibraryAfter ds before) only.0 after, subst (λ x. Offends before x place rule) only.1 offends)
+    of_docs _ _ (of_library {key} {rule} earlier other later made parts after breaks) =
+        let only = only_item doc other earlier later parts in
+        let alone : IsLibraryAfter (doc ∷ []) made = subst (λ ds. IsLibraryAfter ds made) (λ n. only.0 n ++ only.1 n ∷ []) after in
+        unbroken key rule (subst (λ l. Breaks l key rule) (one_library (doc ∷ []) made library alone is) breaks)
 
-  -- a file without an offence gives its library
-  pub gives_alone : (doc : OddDoc) (library : Library) → Declares t doc → ((place rule : ℕ) → OffendsAlone doc place rule → ⊥) → IsLibraryAfter (doc ∷ []) library → Gives (t ∷ []) library
-  gives_alone doc library d sound is = record {
-    docs = doc ∷ [];
-    declared = more d none;
-    unoffended = λ file stage place rule o. unoffended file stage place rule (as_one file stage place rule o);
-    is_library = is;
-  }
-    where
-      unoffended : (file stage place rule : ℕ) → OffendsAsOne t file stage place rule → ⊥
-      unoffended file stage place rule (form h) = d.unoffended place rule h
-      unoffended file stage place rule (items other e o) = sound place rule (subst (λ x. OffendsAlone x place rule) (one_doc t other doc e d) o)
+    of_chain : (file : ℕ) (at : Position) → ChainOffends (t ∷ []) file at → ⊥
+    of_chain _ _ (of_form {place} {rule} earlier u later e h) = d.unoffended place rule (subst (λ x. HasOffence x place rule) (only_item t u earlier later e).1 h)
+    of_chain _ at (of_doc [] later docs e f o) = elim o [ ]
+    of_chain _ _ (of_doc {at} (x ∷ []) later docs e (more {doc = other} f none) o) =
+        let same : x ≡ t = cc in
+        of_docs 1 at (subst (λ y. OffendsIn (y ∷ []) 1 at) (one_doc t other doc (subst (λ u. Declares u other) same f) d) o)
+    of_chain _ _ (of_doc (x ∷ y ∷ upto) later docs e f o) = absurd cc
+
+    -- and then it gives that library
+    pub gives_alone : Gives (t ∷ []) library
+    gives_alone = record { docs = doc ∷ []; declared = more d none; unoffended = of_chain; is_library = is }
 
   -- the first offence of form is that of the chain
   pub refused_alone : (offence : Offence) → IsRefusal t 1 offence → IsChainRefusal (t ∷ []) offence
   refused_alone offence r = record {
-    stage = 0;
-    place = r.is_one.place;
-    placed = r.is_one.placed;
-    is_one = subst (λ n. ChainOffends (t ∷ []) n 0 r.is_one.place offence.rule) (sym r.is_one.in_file) (of_form [] t [] refl r.is_one.offends);
-    first = λ file stage place rule o. first file stage place rule (as_one file stage place rule o);
+    at = at;
+    told = λ n. record { file = offence.file; who = r.is_one.placed n; rule = offence.rule };
+    is_one = subst (λ n. ChainOffends (t ∷ []) n at) (sym r.is_one.in_file) (of_form [] t [] refl r.is_one.offends);
+    first = first;
   }
     where
-      first : (file stage place rule : ℕ) → OffendsAsOne t file stage place rule → ComesNotAfter offence.file 0 r.is_one.place offence.rule file stage place rule
-      first file stage place rule (form h) = inr (r.is_one.in_file, inr (refl, r.first place rule h))
-      first file stage place rule (items doc d o) = absurd (d.unoffended r.is_one.place offence.rule r.is_one.offends)
+      at : Position
+      at = form r.is_one.place offence.rule
+
+      first : (file : ℕ) (others : Position) → ChainOffends (t ∷ []) file others → ComesNotAfter offence.file at file others
+      first _ _ (of_form {place} {rule} [] u later e h) = inr (r.is_one.in_file, r.first place rule (subst (λ x. HasOffence x place rule) (only_item t u [] later e).1 h))
+      first _ _ (of_form (x ∷ earlier) u later e h) = absurd (nothing_stands u (earlier, later, cc))
+      first _ others (of_doc [] later docs e _ o) = elim o [ ]
+      first _ _ (of_doc (x ∷ upto) later docs e (more {doc = other} f rest) o) =
+          let same : x ≡ t = cc in
+          absurd ((subst (λ u. Declares u other) same f).unoffended r.is_one.place offence.rule r.is_one.offends)
 
   pub all_read_alone : (IsPending t → ⊥) → AreAllRead (t ∷ [])
   all_read_alone read u s p = read (subst IsPending (only_item t u s.0 s.1 s.2).1 p)

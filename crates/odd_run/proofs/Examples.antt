@@ -1,5 +1,5 @@
 -- Small checks of what the definitions of this crate say: where they hold, and where they do not.
-use Rattle.std.proofs.Common.{◌≡◌, ◌≤◌, ◌+◌, ℕ, Bool, true, false, cond, List, [], ◌∷◌, length, Some, None, inl, inr, refl, sym, ap, ◌∙◌, arith, rules, suc}
+use Rattle.std.proofs.Common.{◌≡◌, ◌≤◌, ◌+◌, ℕ, Bool, true, false, cond, List, [], ◌∷◌, length, Some, None, inl, inr, refl, sym, ap, subst, ◌∙◌, arith, rules, suc}
 use Rattle.std.specs.Fmt.{digits}
 use Rattle.std.specs.Prelude.{◌≢◌, All, codes, map as map_items}
 use Rattle.std.specs.FinMap as map
@@ -38,6 +38,7 @@ use Rattle.odd_decls.specs.Pending as pending
 use Rattle.odd_decls.specs.Search.{Finds}
 use Rattle.odd_decls.specs.Search as search
 use Rattle.odd_content.specs.declared.content.Content.TheVariants as content
+use Rattle.odd_decls.specs.declared.library.Component.{Component}
 use Rattle.odd_decls.specs.declared.library.Component.TheVariants as component
 use Rattle.odd_decls.specs.declared.library.Library.{Library}
 use Rattle.odd_decls.specs.declared.odd.Entry.TheVariants as entry
@@ -69,6 +70,7 @@ use Rattle.odd_run.specs.declared.words.Command.TheVariants as command
 use Rattle.odd_run.specs.declared.words.Job.{Job}
 use Rattle.odd_run.specs.declared.status.LimitKind.TheVariants as limit
 use Rattle.odd_run.specs.declared.status.Status.TheVariants as status
+use Rattle.odd_run.proofs.Idle.{IsIdle, idle_unbroken}
 use Rattle.odd_run.proofs.ChainOfOne.{OffendsAlone, all_read_alone, gives_alone, only_item, pending_alone, refused_alone}
 use Rattle.odd_run.proofs.OneReply.{one_chain}
 use Rattle.odd_run.proofs.Replies.{one_status}
@@ -382,8 +384,21 @@ one_element_held key = held (eq_by_cmp key_cmp key a_key)
     held true = refl
     held false = refl
 
+-- what it holds names nothing, so it breaks no rule
+one_is : (key : Key) (part : Component) → map.find key_cmp key one_library.parts ≡ Some part → part ≡ component_of element_spec
+one_is key part h =
+    elim (eq_by_cmp key_cmp key a_key) as (λ same. cond same (Some (component_of element_spec)) None ≡ Some part → part ≡ component_of element_spec) [
+      | true ↦ λ e. sym (same_Some _ _ e)
+      | false ↦ λ e. absurd cc
+    ] h
+
+one_is_idle : (part : Component) → part ≡ component_of element_spec → IsIdle part
+one_is_idle part e = subst IsIdle (sym e) (record { classes = refl; names = refl })
+
 one_element_gives : Gives (root_tree ∷ []) one_library
-one_element_gives = gives_alone root_tree one_doc one_library one_element_declares one_element_sound (record { ident = refl; start = refl; rising = refl; holds = one_element_held })
+one_element_gives =
+    gives_alone root_tree one_doc one_library one_element_declares one_element_sound (record { ident = refl; start = refl; rising = refl; holds = one_element_held })
+    (idle_unbroken one_library (λ key part h. one_is_idle part (one_is key part h)))
 
 a_is_held : (word : List ℕ) → StandsIn (codes "a" ∷ []) word → map.find key_cmp (element_key word) one_library.parts ≡ None → ⊥
 a_is_held word s = each_such (λ w. map.find key_cmp (element_key w) one_library.parts ≡ None → ⊥) (codes "a" ∷ []) word ((λ missing. cc), tt) s
@@ -469,6 +484,7 @@ no_element_declares =
 no_element_gives : Gives (root_of [] ∷ []) empty_library
 no_element_gives =
     gives_alone (root_of []) _ empty_library no_element_declares (λ place rule o. nothing_stands o.2.item o.2.stands) (record { ident = refl; start = refl; rising = refl; holds = λ key. refl })
+    (idle_unbroken empty_library (λ key part h. absurd cc))
 
 a_is_least : IsLeastMissing empty_library empty_library.start (codes "a")
 a_is_least = record {

@@ -1,0 +1,12 @@
+mod ArrowsFound
+mod CycleRules
+mod FirstBreaks
+mod Linked
+mod Looping
+mod MarkedElements
+mod MembersReached
+mod NamedParts
+mod OneMore
+mod Places
+mod PlacesPut
+mod WrongNames

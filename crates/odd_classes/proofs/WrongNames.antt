@@ -1,0 +1,96 @@
+-- Which keys a content may not name, and which entries of a library name them.
+use Rattle.std.proofs.Common.{◌≡◌, ◌≢◌, ◌↔◌, ◌⊎◌, ◌<◌, ◌≤◌, ◌+◌, ℕ, Some, None, length, is_some, inl, inr, sym, ap, subst, ◌∙◌, arith}
+use Rattle.std.specs.Prelude.{IsTrue}
+use Rattle.std.specs.Cmp.{tied_itself}
+use Rattle.std.specs.FinMap.{find, is_sorted}
+use Rattle.std.specs.declared.cmp.Ordering.TheVariants.{Equal, Greater, Less}
+use Rattle.std.proofs.lemmas.Bool.{cases_order, false≢true}
+use Rattle.std.proofs.lemmas.Option.{same_Some, slice_get_within}
+use Rattle.odd_base.specs.Key.{key_cmp}
+use Rattle.odd_base.specs.KeyOrder.{key_total}
+use Rattle.odd_base.specs.declared.key.Key.{Key}
+use Rattle.odd_base.specs.declared.key.Kind.TheVariants as kind
+use Rattle.odd_reader.proofs.InList.{StandsOnce}
+use Rattle.odd_decls.specs.declared.library.ClassPart.{ClassPart}
+use Rattle.odd_decls.specs.declared.library.Component.{Component}
+use Rattle.odd_decls.specs.declared.library.Component.TheVariants as component
+use Rattle.odd_decls.specs.declared.library.Library.{Library}
+use Rattle.odd_meaning.specs.Links.{named_by}
+use Rattle.odd_classes.specs.Placing.{IsEntryAt, IsFirstAmong, IsWrong, NamesWrongly}
+use Rattle.odd_classes.specs.declared.rules.Wrong.{Wrong}
+use Rattle.odd_classes.specs.declared.rules.Wrong.TheVariants as wrong
+use Rattle.odd_classes.proofs.Places.{entry_held, held_at, places_rise}
+
+-- a macro that is not held is wrong
+pub macro_wrong : (library : Library) (key : Key) → key.kind ≡ kind.Macro → find key_cmp key library.parts ≡ None → IsWrong library wrong.MacroNotHeld key
+macro_wrong library key is none = (key.ident, ap (λ k. record { kind = k; ident = key.ident }) is, λ h. absurd (false≢true (sym (ap is_some none) ∙ h)))
+
+-- a class that is held is wrong where it is of attributes
+pub class_wrong : (library : Library) (key : Key) (part : Component) → key.kind ≡ kind.Class → find key_cmp key library.parts ≡ Some part
+    → ((class : ClassPart) × (part ≡ component.Class class) × IsTrue class.gives) ↔ IsWrong library wrong.OfAttributes key
+class_wrong library key part is held = (
+  λ g. (key.ident, same, record { part = g.0; held = ap (λ k. find key_cmp k library.parts) (sym same) ∙ held ∙ ap Some g.1; gives = g.2 }),
+  λ w. (w.2.part, same_Some _ _ (sym held ∙ ap (λ k. find key_cmp k library.parts) w.1 ∙ w.2.held), w.2.gives),
+)
+  where
+    same : key ≡ record { kind = kind.Class; ident = key.ident }
+    same = ap (λ k. record { kind = k; ident = key.ident }) is
+
+-- the content of a component names such a key
+abbrev pub NamesOne : Library → Wrong → Component → Type 0
+NamesOne library w part = StandsOnce (IsWrong library w) (named_by part)
+
+-- no component before a place does
+abbrev pub NoneBefore : Library → Wrong → ℕ → Type 0
+NoneBefore library w at = (place : ℕ) (key : Key) (part : Component) → place < at → IsEntryAt library.parts place key part → NamesOne library w part → ⊥
+
+-- a place has one component
+one_part : (library : Library) (place : ℕ) (key other : Key) (part others : Component) → IsEntryAt library.parts place key part → IsEntryAt library.parts place other others
+    → ◌≡◌ {A = Key × Component} (key, part) (other, others)
+one_part library place key other part others a b = same_Some _ _ (sym a ∙ b)
+
+-- where the component at the next place does not either, none up to there does
+pub none_more : (library : Library) (w : Wrong) (at : ℕ) (key : Key) (part : Component) → NoneBefore library w at → IsEntryAt library.parts at key part
+    → (NamesOne library w part → ⊥) → NoneBefore library w (at + 1)
+none_more library w at key part before is not place other others less there names = by_order (cases_order place at)
+  where
+    by_order : (place ≡ at) ⊎ ((place < at) ⊎ (at < place)) → ⊥
+    by_order (inl same) =
+        let one : ◌≡◌ {A = Key × Component} (other, others) (key, part) = one_part library at other key others part (subst (λ p. IsEntryAt library.parts p other others) same there) is in
+        not (subst (λ (e : Key × Component). NamesOne library w e.1) one names)
+    by_order (inr (inl earlier)) = before place other others earlier there names
+    by_order (inr (inr later)) = absurd (omega arith)
+
+-- what names such a key has a place
+placed : (library : Library) (w : Wrong) (key : Key) → NamesWrongly library w key
+    → (place : ℕ) × (part : Component) × IsEntryAt library.parts place key part × NamesOne library w part
+placed library w key n =
+    let there = held_at library.parts key n.1.part n.1.held in
+    (there.0, n.1.part, there.1, (n.0, n.1.among, n.2))
+
+-- where none up to the end does, there is none
+pub none_of_all : (library : Library) (w : Wrong) (at : ℕ) → length library.parts ≤ at → NoneBefore library w at → (key : Key) → NamesWrongly library w key → ⊥
+none_of_all library w at end before key n =
+    let there = placed library w key n in
+    let within = slice_get_within library.parts there.0 (key, there.1) there.2 in
+    before there.0 key there.1 (omega arith) there.2 there.3
+
+-- where none before a place does and the one there does, that is the first
+pub first_at : (library : Library) (w : Wrong) (at : ℕ) (key : Key) (part : Component) → IsTrue (is_sorted key_cmp library.parts) → NoneBefore library w at
+    → IsEntryAt library.parts at key part → NamesOne library w part → IsFirstAmong (NamesWrongly library w) key
+first_at library w at key part up before is names = record {
+  is_one = (names.0, record { part = part; held = entry_held library.parts up at key part is; among = names.1 }, names.2);
+  first = λ other n. let there = placed library w other n in not_behind other there.0 there.1 there.2 there.3 (cases_order at there.0);
+}
+  where
+    not_behind : (other : Key) (place : ℕ) (others : Component) → IsEntryAt library.parts place other others → NamesOne library w others
+        → (at ≡ place) ⊎ ((at < place) ⊎ (place < at)) → key_cmp key other ≢ Greater
+    not_behind other place others there n (inl same) greater =
+        let one : ◌≡◌ {A = Key × Component} (key, part) (other, others) = one_part library place key other part others (subst (λ p. IsEntryAt library.parts p key part) same is) there in
+        let tied : key_cmp key key ≡ Equal = tied_itself key_total key in
+        let equal : key_cmp key other ≡ Equal = subst (λ (e : Key × Component). key_cmp key e.0 ≡ Equal) one tied in
+        cc
+    not_behind other place others there n (inr (inl later)) greater =
+        let less : key_cmp key other ≡ Less = places_rise library.parts up at place key other part others later is there in
+        cc
+    not_behind other place others there n (inr (inr earlier)) greater = before place other others earlier there n

@@ -1,0 +1,53 @@
+-- What the private functions of this crate keep: the places of keys among the entries of a library, and its graph by a link.
+use Rattle.std.specs.Prelude.{◌≡◌, ◌≢◌, ◌↔◌, ℕ, List, Some, length, slice_get}
+use Rattle.std.specs.FinMap.{find}
+use Rattle.std.specs.declared.cmp.Ordering.TheVariants.{Greater}
+use Rattle.odd_base.specs.Key.{key_cmp}
+use Rattle.odd_base.specs.declared.key.Key.{Key}
+use Rattle.odd_graph.specs.Graph.{Chained, HasArrow}
+use Rattle.odd_reader.specs.Elements.{StandsIn}
+use Rattle.odd_decls.specs.declared.library.Component.{Component}
+use Rattle.odd_decls.specs.declared.library.Library.{Library}
+use Rattle.odd_meaning.specs.Links.{IsHeld, IsLinked, class_key, classes_of, macro_key, macros_of}
+use Rattle.odd_meaning.specs.Rules.{IsOfAttributes, Names}
+use Rattle.odd_classes.specs.declared.links.Link.{Link}
+use Rattle.odd_classes.specs.declared.links.Link.TheVariants as link
+use Rattle.odd_classes.specs.declared.rules.Wrong.{Wrong}
+use Rattle.odd_classes.specs.declared.rules.Wrong.TheVariants as wrong
+
+-- the keys that a component names by a link
+abbrev pub keys_by : Link → Component → List Key
+keys_by link.Classes part = classes_of part
+keys_by link.Macros part = macros_of part
+
+-- the component at the key leads to itself by a link
+abbrev pub LeadsToItself : Link → Library → Key → Type 0
+LeadsToItself link library key = Chained (IsLinked (keys_by link) library) key key
+
+-- the entry at a place has the key and the component
+abbrev pub IsEntryAt : List (Key × Component) → ℕ → Key → Component → Type 0
+IsEntryAt entries place key part = slice_get entries place ≡ Some (key, part)
+
+-- the places of the keys of entries
+abbrev pub ArePlacesOf : List (Key × Component) → List (Key × ℕ) → Type 0
+ArePlacesOf entries places = (key : Key) (place : ℕ) → (find key_cmp key places ≡ Some place) ↔ ((part : Component) × IsEntryAt entries place key part)
+
+-- an arrow leads from an entry to each that it names by the link
+pub record IsGraphOf (keys_of : Component → List Key) (entries : List (Key × Component)) (arrows : List (List ℕ)) : Type 0 where
+  pub as_many : length arrows ≡ length entries
+  pub leads : (place next : ℕ) (key other : Key) (part otherpart : Component) → IsEntryAt entries place key part → IsEntryAt entries next other otherpart
+      → HasArrow arrows place next ↔ StandsIn (keys_of part) other
+
+-- a content may not name the key
+abbrev pub IsWrong : Library → Wrong → Key → Type 0
+IsWrong library wrong.MacroNotHeld key = (ident : List ℕ) × (key ≡ macro_key ident) × (IsHeld library key → ⊥)
+IsWrong library wrong.OfAttributes key = (ident : List ℕ) × (key ≡ class_key ident) × IsOfAttributes library ident
+
+-- the content of what is held at the key names such a key
+abbrev pub NamesWrongly : Library → Wrong → Key → Type 0
+NamesWrongly library w key = (other : Key) × Names library key other × IsWrong library w other
+
+-- of those that are such the first
+pub record IsFirstAmong (Is : Key → Type 0) (key : Key) : Type 0 where
+  pub is_one : Is key
+  pub first : (other : Key) → Is other → key_cmp key other ≢ Greater

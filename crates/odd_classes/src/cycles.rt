@@ -1,0 +1,65 @@
+ghost use Rattle.std.specs.Prelude.{◌≡◌, ◌≢◌, ℕ, Err, IsOk};
+ghost use Rattle.odd_base.specs.declared.key.Key.{Key as AKey};
+ghost use Rattle.odd_meaning.specs.Rules.{BreaksByCycle, IsFirstBreak};
+ghost use Rattle.odd_classes.specs.Placing.{IsFirstAmong, LeadsToItself};
+
+use crate::graph::graph_by;
+use crate::links::Link;
+use odd_base::{Key, NoMemory, TryCopy};
+use odd_decls::Library;
+use odd_graph::first_on_cycle;
+use std::alloc::Global;
+
+/// Why the cycles of a library are none.
+#[derive(Debug, Drop)]
+pub enum CycleRefusal {
+    /// The component at the key is on a cycle, and breaks the rule.
+    Loop { key: Key, rule: u8 },
+    NoMemory,
+}
+
+// A class is a member of itself.
+const OWN_MEMBER: u8 = 13;
+
+// A macro reaches itself.
+const REACHES_ITSELF: u8 = 14;
+
+/// Loop is answered for the first class of a library, by ident, that is a member of itself (rule 13), and where there is none
+/// for the first macro that reaches itself (rule 14). NoMemory is answered for want of memory.
+pub fn check_cycles(alloc: Global, library: &Library) -> Result<(), CycleRefusal>
+    ensures none { IsOk result → (key : AKey) (rule : ℕ) → BreaksByCycle library.now key rule → ⊥ }
+    ensures first { (key : AKey) (rule : ℕ) → result ≡ Err (CycleRefusal.Loop key rule) → IsFirstBreak (BreaksByCycle library.now) key rule }
+{
+    check_link(alloc, library, Link::Classes, OWN_MEMBER)?;
+    check_link(alloc, library, Link::Macros, REACHES_ITSELF)
+}
+
+// Whether a component leads to itself by a link.
+fn check_link(alloc: Global, library: &Library, link: Link, rule: u8) -> Result<(), CycleRefusal>
+    ensures none { IsOk result → (key : AKey) → LeadsToItself link library.now key → ⊥ }
+    ensures first { (key : AKey) (given : ℕ) → result ≡ Err (CycleRefusal.Loop key given) → IsFirstAmong (LeadsToItself link library.now) key }
+    ensures rule { (key : AKey) (given : ℕ) → result ≡ Err (CycleRefusal.Loop key given) → given ≡ rule }
+{
+    let entries = library.parts.entries();
+    let arrows = graph_by(alloc, link, entries)?;
+    let Some(place) = first_on_cycle(alloc, arrows.as_slice())? else {
+        return Ok(());
+    };
+    match library.parts.key(place) {
+        Some(key) => Err(CycleRefusal::Loop {
+            key: key.copy(alloc)?,
+            rule,
+        }),
+        None => Ok(()),
+    }
+}
+
+impl From<NoMemory> for CycleRefusal {
+    ghost use Rattle.odd_classes.specs.declared.cycles.CycleRefusal.TheVariants as refusal;
+
+    ghost from_gives = { λ _ error. error ≡ refusal.NoMemory };
+
+    fn from(_error: NoMemory) -> CycleRefusal {
+        CycleRefusal::NoMemory
+    }
+}

@@ -1,0 +1,110 @@
+ghost use Rattle.std.specs.Prelude.{◌≡◌, [], ◌∷◌, ◌++◌, IfOk, OnOk, flat_map, map};
+ghost use Rattle.odd_meaning.specs.Links.{class_key, classes_of, macros_of, named_by, named_in};
+ghost use Rattle.odd_classes.specs.Placing.{keys_by};
+
+use odd_base::{Key, Keys, Kind, NoMemory, Text, TryCopy, Words};
+use odd_content::{Content, Contents};
+use odd_decls::Component;
+use std::alloc::Global;
+
+/// By what a component leads on to others.
+#[derive(Clone, Copy, Drop)]
+pub enum Link {
+    /// The classes that it is said to be a member of.
+    Classes,
+    /// The macros that its content names.
+    Macros,
+}
+
+/// The keys that a component names by a link.
+pub fn linked(alloc: Global, link: Link, part: &Component) -> Result<Keys, NoMemory>
+    ensures { IfOk result (λ keys. keys ≡ keys_by link part.now) }
+{
+    match link {
+        Link::Classes => classes(alloc, part),
+        Link::Macros => macros(alloc, part),
+    }
+}
+
+// The keys of the classes that a component is said to be a member of.
+fn classes(alloc: Global, part: &Component) -> Result<Keys, NoMemory>
+    ensures { IfOk result (λ keys. keys ≡ classes_of part.now) }
+{
+    match part {
+        Component::Element(part) => class_keys(alloc, &part.classes),
+        Component::Class(part) => class_keys(alloc, &part.classes),
+        Component::Macro(_) | Component::Datatype(_) => Ok(Keys::new(alloc)),
+    }
+}
+
+// The keys of classes with these idents.
+fn class_keys(alloc: Global, words: &Words) -> Result<Keys, NoMemory>
+    ensures { IfOk result (λ keys. keys ≡ map class_key words.now) }
+{
+    let mut keys = Keys::new(alloc);
+    for word in words.as_slice() {
+        push_key(alloc, &mut keys, Kind::Class, word)?;
+    }
+    Ok(keys)
+}
+
+// The keys of the macros that the content of a component names.
+fn macros(alloc: Global, part: &Component) -> Result<Keys, NoMemory>
+    ensures { IfOk result (λ keys. keys ≡ macros_of part.now) }
+{
+    let mut keys = Keys::new(alloc);
+    for key in named(alloc, part)?.as_slice() {
+        if key.kind == Kind::Macro {
+            keys.push(key.copy(alloc)?)?;
+        }
+    }
+    Ok(keys)
+}
+
+/// The keys that the content of an element or a macro names, at any depth.
+pub fn named(alloc: Global, part: &Component) -> Result<Keys, NoMemory>
+    ensures { IfOk result (λ keys. keys ≡ named_by part.now) }
+{
+    let mut keys = Keys::new(alloc);
+    match part {
+        Component::Element(part) => push_named(alloc, &mut keys, &part.content)?,
+        Component::Macro(part) => push_named(alloc, &mut keys, &part.content)?,
+        Component::Class(_) | Component::Datatype(_) => {}
+    }
+    Ok(keys)
+}
+
+// Puts the keys that a content names at the end.
+#[cycle(push_named)]
+fn push_named(alloc: Global, keys: &mut Keys, content: &Content) -> Result<(), NoMemory>
+    ensures { OnOk result (keys.new ≡ keys.old ++ named_in content.now) }
+{
+    match content {
+        Content::Element { key, bounds: _ } => push_key(alloc, keys, Kind::Element, key),
+        Content::Class { key, .. } => push_key(alloc, keys, Kind::Class, key),
+        Content::Macro { key, bounds: _ } => push_key(alloc, keys, Kind::Macro, key),
+        Content::Sequence { parts, bounds: _ } => push_named_in(alloc, keys, parts),
+        Content::Alternate { parts, bounds: _ } => push_named_in(alloc, keys, parts),
+        Content::Empty | Content::Text | Content::Any { .. } => Ok(()),
+    }
+}
+
+// The same of each part.
+#[cycle(push_named)]
+fn push_named_in(alloc: Global, keys: &mut Keys, parts: &Contents) -> Result<(), NoMemory>
+    ensures { OnOk result (keys.new ≡ keys.old ++ flat_map named_in parts.now) }
+{
+    for part in parts.as_slice() {
+        push_named(alloc, keys, part)?;
+    }
+    Ok(())
+}
+
+// Puts the key of a kind and an ident at the end.
+fn push_key(alloc: Global, keys: &mut Keys, kind: Kind, ident: &Text) -> Result<(), NoMemory>
+    ensures { OnOk result (keys.new ≡ keys.old ++ record { kind = kind; ident = ident.now } ∷ []) }
+{
+    let ident = ident.copy(alloc)?;
+    keys.push(Key { kind, ident })?;
+    Ok(())
+}

@@ -1,0 +1,117 @@
+ghost use Rattle.std.specs.Prelude.{◌≡◌, ◌↔◌, ℕ, Err, IfOk, IsOk, IsTrue};
+ghost use Rattle.odd_base.specs.declared.key.Key.{Key as AKey};
+ghost use Rattle.odd_reader.specs.Elements.{StandsIn};
+ghost use Rattle.odd_decls.specs.declared.library.ClassPart.{ClassPart as AClassPart};
+ghost use Rattle.odd_decls.specs.declared.library.Component.TheVariants as the_component;
+ghost use Rattle.odd_meaning.specs.Links.{named_by};
+ghost use Rattle.odd_meaning.specs.Rules.{Breaks, IsFirstBreak};
+ghost use Rattle.odd_classes.specs.Placing.{IsFirstAmong, IsWrong, NamesWrongly};
+
+use crate::cycles::{CycleRefusal, check_cycles};
+use crate::links::named;
+use odd_base::{Key, Kind, NoMemory, TryCopy};
+use odd_decls::{Component, Library};
+use std::alloc::Global;
+
+/// Why a library breaks a rule.
+#[derive(Debug, Drop)]
+pub enum LibraryRefusal {
+    /// The component at the key breaks the rule.
+    Rule { key: Key, rule: u8 },
+    NoMemory,
+}
+
+// What a content may not name.
+#[derive(Clone, Copy, Drop)]
+pub enum Wrong {
+    /// A macro that is not held.
+    MacroNotHeld,
+    /// A class of type `atts`.
+    OfAttributes,
+}
+
+// A content names a macro that is not held.
+const MACRO_NOT_HELD: u8 = 11;
+
+// A content names a class of type `atts`.
+const OF_ATTRIBUTES: u8 = 17;
+
+/// Whether a library breaks one of the rules on classes and macros: 11, the content of an element or a macro names a macro that
+/// is not held; 13, a class is a member of itself; 14, a macro reaches itself; 17, such a content names a class of type
+/// `atts`. Rule is answered for the first offence by rule, then by kind (element, class, macro) and then by ident. NoMemory is
+/// answered for want of memory.
+pub fn check_library(alloc: Global, library: &Library) -> Result<(), LibraryRefusal>
+    ensures none { IsOk result → (key : AKey) (rule : ℕ) → Breaks library.now key rule → ⊥ }
+    ensures first { (key : AKey) (rule : ℕ) → result ≡ Err (LibraryRefusal.Rule key rule) → IsFirstBreak (Breaks library.now) key rule }
+{
+    check_names(alloc, library, Wrong::MacroNotHeld, MACRO_NOT_HELD)?;
+    match check_cycles(alloc, library) {
+        Ok(()) => {}
+        Err(CycleRefusal::Loop { key, rule }) => return Err(LibraryRefusal::Rule { key, rule }),
+        Err(CycleRefusal::NoMemory) => return Err(LibraryRefusal::NoMemory),
+    }
+    check_names(alloc, library, Wrong::OfAttributes, OF_ATTRIBUTES)
+}
+
+// Whether a content names what it may not.
+fn check_names(
+    alloc: Global,
+    library: &Library,
+    wrong: Wrong,
+    rule: u8,
+) -> Result<(), LibraryRefusal>
+    ensures none { IsOk result → (key : AKey) → NamesWrongly library.now wrong key → ⊥ }
+    ensures first { (key : AKey) (given : ℕ) → result ≡ Err (LibraryRefusal.Rule key given) → IsFirstAmong (NamesWrongly library.now wrong) key }
+    ensures rule { (key : AKey) (given : ℕ) → result ≡ Err (LibraryRefusal.Rule key given) → given ≡ rule }
+{
+    for (key, part) in library.parts.entries() {
+        if names(alloc, library, wrong, part)? {
+            let key = key.copy(alloc)?;
+            return Err(LibraryRefusal::Rule { key, rule });
+        }
+    }
+    Ok(())
+}
+
+// Whether the content of a component names what it may not.
+fn names(alloc: Global, library: &Library, wrong: Wrong, part: &Component) -> Result<bool, NoMemory>
+    ensures { IfOk result (λ names. IsTrue names ↔ ((key : AKey) × StandsIn (named_by part.now) key × IsWrong library.now wrong key)) }
+{
+    for key in named(alloc, part)?.as_slice() {
+        if is_wrong(library, wrong, key) {
+            return Ok(true);
+        }
+    }
+    Ok(false)
+}
+
+// Whether a content may not name a key.
+fn is_wrong(library: &Library, wrong: Wrong, key: &Key) -> bool
+    ensures { IsTrue result ↔ IsWrong library.now wrong key.now }
+{
+    match (wrong, key.kind, library.find(key)) {
+        (Wrong::MacroNotHeld, Kind::Macro, None) => true,
+        (Wrong::OfAttributes, Kind::Class, Some(part)) => is_of_attributes(part),
+        _ => false,
+    }
+}
+
+// Whether a component is a class of type `atts`.
+fn is_of_attributes(part: &Component) -> bool
+    ensures { IsTrue result ↔ ((class : AClassPart) × (part.now ≡ the_component.Class class) × IsTrue class.gives) }
+{
+    match part {
+        Component::Class(part) => part.gives,
+        Component::Element(_) | Component::Macro(_) | Component::Datatype(_) => false,
+    }
+}
+
+impl From<NoMemory> for LibraryRefusal {
+    ghost use Rattle.odd_classes.specs.declared.rules.LibraryRefusal.TheVariants as refusal;
+
+    ghost from_gives = { λ _ error. error ≡ refusal.NoMemory };
+
+    fn from(_error: NoMemory) -> LibraryRefusal {
+        LibraryRefusal::NoMemory
+    }
+}

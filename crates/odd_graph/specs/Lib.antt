@@ -1,0 +1,4 @@
+pub mod Adding
+pub mod Graph
+pub mod Marking
+pub mod Searching

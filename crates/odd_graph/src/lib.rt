@@ -1,0 +1,16 @@
+//! Graphs: which nodes one leads to, and the first node that leads to itself.
+#![tactic(auto)]
+
+mod cycles;
+mod search;
+mod trimming;
+mod turning;
+
+pub use cycles::first_on_cycle;
+use odd_base::Seq;
+pub use search::reached;
+pub use turning::turned;
+
+/// Nodes of a graph by their numbers, counted from 0. A graph is the nodes that the arrows of each node lead to, node by
+/// node; an arrow to a number that is no node leads nowhere.
+pub type Nodes = Seq<usize>;
