@@ -15,25 +15,35 @@ WHITE = " \t\r\n"
 SEED = 20261128
 DOCUMENTS = 20
 
-# A part of a content. What it is of: the key of an elementRef, the condition of an anyElement, the parts of a sequence
-# or an alternate. A high of None is unbounded. A condition has namespaces that it requires and excepts, and names that it
-# excepts, as pairs of a namespace and a local name.
+# A part of a content. What it is of: the key of an elementRef or a macroRef, the class of a classRef with what is picked of
+# its members, the condition of an anyElement, the parts of a sequence or an alternate. A high of None is unbounded. What is
+# picked: all ("all"), or those with one of some idents ("include") or with none of them ("except"). A condition has
+# namespaces that it requires and excepts, and names that it excepts, as pairs of a namespace and a local name.
 Part = collections.namedtuple("Part", "kind low high of", defaults=(1, 1, None))
 Condition = collections.namedtuple("Condition", "required namespaces names")
+Members = collections.namedtuple("Members", "key pick idents", defaults=("all", ()))
 
-# The start words, the ns of the schemaSpec, and for each ident the ns of its elementSpec and its content: a sequence of the
-# parts that stand in it, or None where there is no content. An ns that is absent is None.
-Library = collections.namedtuple("Library", "start ns elements")
-Spec = collections.namedtuple("Spec", "ns content")
+# The start words, the ns of the schemaSpec, and for each ident the ns of its elementSpec, its content and its classes; the
+# classes and the macros by their idents. A content is a sequence of the parts that stand in it, or None where there is none.
+# An ns that is absent is None.
+Library = collections.namedtuple("Library", "start ns elements classes macros", defaults=({}, {}))
+Spec = collections.namedtuple("Spec", "ns content classes", defaults=((),))
+Class = collections.namedtuple("Class", "type classes")
+
+# What a content may name.
+Names = collections.namedtuple("Names", "elements classes macros")
 
 # How a library is made.
 IDENTS = ["a", "b", "c", "d", "x", "e.a", "a-1", "_z", "\u00e9"]
 LOCALS = [*IDENTS, "k", "other"]
 NOT_HELD = ["absent", "other"]
+CLASSES = ["model.a", "model.b", "a", "c.k", "k-1"]
+ATTRIBUTE_CLASSES = ["att.a", "b"]
+MACROS = ["macro.a", "a", "m.x"]
 NAMESPACES = [TEI, "urn:x", "http://y/", "z"]
 EXCEPTED_NAMESPACES = ["http://y/", "z", TEI, "urn:", "http://none/"]
 PREFIXES = ["p", "q", "urn", "tei.1"]
-LEAVES = {"empty": 2, "textNode": 5, "elementRef": 16, "anyElement": 5}
+LEAVES = {"empty": 2, "textNode": 5, "elementRef": 16, "classRef": 10, "macroRef": 6, "anyElement": 5}
 BRANCHES = {"sequence": 8, "alternate": 8}
 BOUNDS = {
     **{(1, 1): 12, (0, 0): 1, (0, 1): 6, (0, None): 5, (1, None): 5, (2, 4): 2, (1, 2): 2, (2, None): 2},
@@ -65,12 +75,52 @@ def made_library(rng):
         idents = rng.sample(IDENTS, rng.randrange(1, 6))
         start = rng.choices(idents, k=rng.choice([1, 1, 1, 2, 3]))
         ns = rng.choice([None, None, None, "", *NAMESPACES])
-        elements = {ident: Spec(made_ns(rng), made_content(rng, idents)) for ident in idents}
-        library = Library(start, ns, elements)
+        classes = made_classes(rng)
+        macros = made_macros(rng, idents, classes)
+        names = Names(idents, classes, macros)
+        elements = {ident: Spec(made_ns(rng), made_content(rng, names), made_memberships(rng, list(classes))) for ident in idents}
+        library = Library(start, ns, elements, classes, macros)
         size = min(sizes(library)[word] for word in start)
-        plain = max(weight(elements[word].content or Part("empty")) for word in start) < 4
+        plain = max(weight(macros, elements[word].content or Part("empty")) for word in start) < 4
         if (size <= GREATEST_SIZE or size == NEVER and rng.random() < 0.1) and (not plain or rng.random() < 0.1):
             return library
+
+
+def made_classes(rng):
+    """Classes, of which none is a member of itself."""
+    idents, made = rng.sample(CLASSES, rng.choice([0, 1, 2, 2, 3, 4])) + rng.sample(ATTRIBUTE_CLASSES, rng.choice([0, 0, 1, 2])), {}
+    for ident in rng.sample(idents, len(idents)):
+        made[ident] = Class("atts" if ident in ATTRIBUTE_CLASSES else "model", made_memberships(rng, list(made)))
+    return made
+
+
+def made_memberships(rng, classes):
+    """The classes that something is said to be a member of: some of those that are there, and at times one that is not."""
+    words = rng.sample(classes, rng.randint(0, min(2, len(classes)))) if rng.random() < 0.8 else []
+    return tuple(words + (["absent"] if rng.random() < 0.05 else []))
+
+
+def made_macros(rng, idents, classes):
+    """Macros, of which none reaches itself: each may name those that are made before it."""
+    made = {}
+    for ident in rng.sample(MACROS, rng.choice([0, 1, 1, 2, 3])):
+        made[ident] = made_content(rng, Names(idents, classes, dict(made)))
+    return made
+
+
+def members(library, key):
+    """The idents of the elements that are members of a held class, by their own classes or through classes of classes."""
+    found, new = set(), set(library.classes) & {key}
+    while new:
+        found |= new
+        new = {ident for ident, each in library.classes.items() if set(each.classes) & new} - found
+    return sorted(ident for ident, spec in library.elements.items() if set(spec.classes) & found)
+
+
+def picked_members(library, reference):
+    """Those of the members of a class that a reference picks."""
+    tests = {"all": lambda ident: True, "include": lambda ident: ident in reference.idents, "except": lambda ident: ident not in reference.idents}
+    return [ident for ident in members(library, reference.key) if tests[reference.pick](ident)]
 
 
 def made_ns(rng):
@@ -78,30 +128,44 @@ def made_ns(rng):
     return rng.choice(["", *NAMESPACES]) if rng.random() < 0.35 else None
 
 
-def made_content(rng, idents):
-    """The content of an elementSpec, or None."""
+def made_content(rng, names):
+    """The content of an elementSpec or a macroSpec, or None."""
     if rng.random() < 0.05:
         return None
     while True:
         levels = rng.choice([0, 1, 1, 2, 2, 3, 4])
-        parts = [made_part(rng, idents, levels) for _ in range(rng.choice([0, 1, 1, 1, 1, 2, 2, 3, 4]))]
+        parts = [made_part(rng, names, levels) for _ in range(rng.choice([0, 1, 1, 1, 1, 2, 2, 3, 4]))]
         content = Part("sequence", of=parts)
-        if weight(content) <= GREATEST_WEIGHT:
+        if weight(names.macros, content) <= GREATEST_WEIGHT:
             return content
 
 
-def made_part(rng, idents, levels):
+def made_part(rng, names, levels):
     """A part with at most so many levels of sequence and alternate."""
-    kind = chosen(rng, {**LEAVES, **BRANCHES, **dict.fromkeys(BRANCHES, 12)} if levels else LEAVES)
+    leaves = {kind: much for kind, much in LEAVES.items() if (kind != "classRef" or names.classes) and (kind != "macroRef" or names.macros)}
+    kind = chosen(rng, {**leaves, **BRANCHES, **dict.fromkeys(BRANCHES, 12)} if levels else leaves)
     if kind in ("empty", "textNode"):
         return Part(kind)
     low, high = chosen(rng, BOUNDS)
     if kind == "elementRef":
-        return Part(kind, low, high, rng.choice(idents if rng.random() < 0.97 else NOT_HELD))
+        return Part(kind, low, high, rng.choice(names.elements if rng.random() < 0.97 else NOT_HELD))
+    if kind == "classRef":
+        return Part(kind, low, high, made_reference(rng, names))
+    if kind == "macroRef":
+        return Part(kind, low, high, rng.choice(list(names.macros)))
     if kind == "anyElement":
         return Part(kind, low, high, made_condition(rng))
     count = rng.choice([0, *[1] * 4, *[2] * 9, *[3] * 6, 4, 4, 4])
-    return Part(kind, low, high, [made_part(rng, idents, levels - 1) for _ in range(count)])
+    return Part(kind, low, high, [made_part(rng, names, levels - 1) for _ in range(count)])
+
+
+def made_reference(rng, names):
+    """What a classRef names: a class that is of type model where it is held, and perhaps some of its members."""
+    classes = [ident for ident, each in names.classes.items() if each.type == "model"]
+    key = rng.choice(classes) if classes and rng.random() < 0.97 else "absent"
+    pick = rng.choice(["all", "all", "all", "include", "except"])
+    words = rng.sample(names.elements, rng.randint(1, len(names.elements))) + (["absent"] if rng.random() < 0.1 else [])
+    return Members(key, pick, tuple(words)) if pick != "all" else Members(key)
 
 
 def made_condition(rng):
@@ -112,16 +176,20 @@ def made_condition(rng):
     return Condition(required, namespaces, sorted(names))
 
 
-def weight(part):
-    """How large a part becomes where its bounds are written out."""
-    inside = 1 + sum(map(weight, part.of)) if part.kind in BRANCHES else 1
+def weight(macros, part):
+    """How large a part becomes where its bounds are written out, and its macros too."""
+    inside = 1
+    if part.kind in BRANCHES:
+        inside += sum(weight(macros, each) for each in part.of)
+    if part.kind == "macroRef":
+        inside += weight(macros, macros[part.of] or Part("empty"))
     return inside * max(1, part.high or part.low + 1)
 
 
 def greatest_depth(library):
     """How deep a document may be before it gets no larger. Where a child can be taken in many ways, validators may take time
     that is a power of the depth: what they hold at once is bounded so."""
-    heaviest = max(weight(spec.content or Part("empty")) for spec in library.elements.values())
+    heaviest = max(weight(library.macros, spec.content or Part("empty")) for spec in library.elements.values())
     return next(depth for depth in (5, 4, 3, 2) if depth == 2 or heaviest**depth <= 20_000)
 
 
@@ -138,7 +206,10 @@ def namespace(library, ident):
 def odd_file(rng, library):
     """The ODD file of a library, in one of the many ways to write it."""
     scope = dict(zip(PREFIXES, rng.sample([*NAMESPACES, "http://hidden/"], len(PREFIXES))))
-    specs = "".join(written_spec(rng, ident, spec, scope) for ident, spec in library.elements.items())
+    items = [written_spec(rng, ident, spec, scope) for ident, spec in library.elements.items()]
+    items += [written_class(rng, ident, each) for ident, each in library.classes.items()]
+    items += [written_macro(rng, ident, content, scope) for ident, content in library.macros.items()]
+    specs = "".join(rng.sample(items, len(items)))
     words = rng.choice([" ", "\t ", "\n"]).join(library.start)
     ns = "" if library.ns is None else f" ns={quoteattr(library.ns)}"
     return f'<schemaSpec xmlns="{TEI}"{declarations(scope)} ident="s" start="{words}"{ns}>\n{specs}</schemaSpec>\n'
@@ -147,8 +218,30 @@ def odd_file(rng, library):
 def written_spec(rng, ident, spec, scope):
     """The elementSpec of an element."""
     ns = "" if spec.ns is None else f" ns={quoteattr(spec.ns)}"
-    inside = "" if spec.content is None else written_branch(rng, "content", "", spec.content.of, scope)
-    return f'<elementSpec ident="{ident}"{ns}>{inside}</elementSpec>\n'
+    inside = [written_memberships(rng, spec.classes), written_content(rng, spec.content, scope)]
+    return f'<elementSpec ident="{ident}"{ns}>{"".join(rng.sample(inside, 2))}</elementSpec>\n'
+
+
+def written_class(rng, ident, each):
+    """The classSpec of a class."""
+    return f'<classSpec ident="{ident}" type="{each.type}">{written_memberships(rng, each.classes)}</classSpec>\n'
+
+
+def written_macro(rng, ident, content, scope):
+    """The macroSpec of a macro."""
+    kind = rng.choice(["", "", ' type="pe"', ' type="dt"'])
+    return f'<macroSpec ident="{ident}"{kind}>{written_content(rng, content, scope)}</macroSpec>\n'
+
+
+def written_memberships(rng, classes):
+    """The classes of a component."""
+    keys = "".join(f'<memberOf key="{key}"/>' for key in rng.sample(classes, len(classes)))
+    return f"<classes>{keys}</classes>" if classes or rng.random() < 0.1 else ""
+
+
+def written_content(rng, content, scope):
+    """The content of a component, where it has one."""
+    return "" if content is None else written_branch(rng, "content", "", content.of, scope)
 
 
 def written_branch(rng, tag, attributes, parts, scope):
@@ -163,6 +256,11 @@ def written_part(rng, part, scope):
     bounds = written_bounds(rng, part)
     if part.kind == "elementRef":
         return f'<elementRef key="{part.of}"{bounds}/>'
+    if part.kind == "macroRef":
+        return f'<macroRef key="{part.of}"{bounds}/>'
+    if part.kind == "classRef":
+        words = written_words(rng, part.of.pick, part.of.idents) if part.of.pick != "all" else ""
+        return f'<classRef key="{part.of.key}"{words}{bounds}/>'
     if part.kind == "anyElement":
         return f"<anyElement{written_condition(rng, part.of, scope)}{bounds}/>"
     if part.kind in BRANCHES:
@@ -259,6 +357,8 @@ class Verdicts:
             return self.ends_in_order(part.of, items, begin)
         if part.kind == "alternate":
             return {end for each in part.of for end in self.ends(each, items, begin)}
+        if part.kind == "macroRef":
+            return self.ends(self.library.macros[part.of] or Part("empty"), items, begin)
         if part.kind == "textNode":
             end = next((at for at in range(begin, len(items)) if not isinstance(items[at], str)), len(items))
             return set(range(begin, end + 1))
@@ -272,11 +372,13 @@ class Verdicts:
         return reached
 
     def counts(self, item, part):
-        """Whether the item is an element that an elementRef or an anyElement admits."""
+        """Whether the item is an element that an elementRef, a classRef or an anyElement admits."""
         if isinstance(item, str):
             return False
         if part.kind == "elementRef":
             return self.is_valid(item, part.of)
+        if part.kind == "classRef":
+            return any(self.is_valid(item, ident) for ident in picked_members(self.library, part.of))
         return all(is_met(part.of, *split_name(element.tag)) for element in item.iter())
 
 
@@ -328,25 +430,29 @@ def sizes(library):
     found, before = dict.fromkeys(library.elements, NEVER), None
     while found != before:
         before = found
-        found = {ident: 1 + least(spec.content or Part("empty"), before) for ident, spec in library.elements.items()}
+        found = {ident: 1 + least(library, spec.content or Part("empty"), before) for ident, spec in library.elements.items()}
     return found
 
 
-def least(part, found):
+def least(library, part, found):
     """How many elements a part has at least."""
-    return part.low * least_once(part, found) if part.low else 0
+    return part.low * least_once(library, part, found) if part.low else 0
 
 
-def least_once(part, found):
+def least_once(library, part, found):
     """The same for one time."""
     if part.kind == "elementRef":
         return found.get(part.of, NEVER)
+    if part.kind == "classRef":
+        return min((found[ident] for ident in picked_members(library, part.of)), default=NEVER)
+    if part.kind == "macroRef":
+        return least(library, library.macros[part.of] or Part("empty"), found)
     if part.kind == "anyElement":
         return 1 if meeting_names(part.of) else NEVER
     if part.kind == "sequence":
-        return sum(least(each, found) for each in part.of)
+        return sum(least(library, each, found) for each in part.of)
     if part.kind == "alternate":
-        return min((least(each, found) for each in part.of), default=NEVER)
+        return min((least(library, each, found) for each in part.of), default=NEVER)
     return 0
 
 
@@ -383,7 +489,7 @@ class Grower:
 
     def part(self, part):
         """Children that the part admits. Where it admits nothing, none."""
-        each = least_once(part, self.sizes)
+        each = least_once(self.library, part, self.sizes)
         if each == NEVER:
             return []
         more = 0 if self.is_large() and each else self.rng.choice([0, 0, 1, 1, 2, 3])
@@ -398,15 +504,25 @@ class Grower:
             return self.part(self.alternative(part.of))
         if part.kind == "textNode":
             return [self.rng.choice(TEXTS)] if self.rng.random() < 0.6 else []
+        if part.kind == "macroRef":
+            return self.part(self.library.macros[part.of] or Part("empty"))
         if part.kind == "elementRef":
             return [self.element(part.of)]
+        if part.kind == "classRef":
+            return [self.element(self.member(picked_members(self.library, part.of)))]
         return [self.meeting(part.of, 0)] if part.kind == "anyElement" else []
+
+    def member(self, idents):
+        """One of the idents for which there is an element."""
+        if self.is_large():
+            return min(idents, key=self.sizes.get)
+        return self.rng.choice([ident for ident in idents if self.sizes[ident] != NEVER])
 
     def alternative(self, parts):
         """One of the parts that admit something."""
         if self.is_large():
-            return min(parts, key=lambda part: least(part, self.sizes))
-        return self.rng.choice([part for part in parts if least(part, self.sizes) != NEVER])
+            return min(parts, key=lambda part: least(self.library, part, self.sizes))
+        return self.rng.choice([part for part in parts if least(self.library, part, self.sizes) != NEVER])
 
     def meeting(self, condition, depth):
         """An element that meets a condition, with attributes and texts, and such elements inside."""

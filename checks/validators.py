@@ -153,7 +153,8 @@ def case_of(number):
 
 # The schemas that libxml2 misreads (2.9.14), each a fault of its own, found where jing and the standard say something else.
 # Its simplification of empty and notAllowed (xmlRelaxNGSimplify), and a choice of which it takes one branch alone
-# (xmlRelaxNGCheckChoiceDeterminism). Patterns are those of docs/schema.md.
+# (xmlRelaxNGCheckChoiceDeterminism). Patterns are those of docs/schema.md, with what the defines of classes and macros hold
+# in place of references to them.
 
 Pattern = collections.namedtuple("Pattern", "kind inside part", defaults=((), None))
 REPEATED = {(0, 1): "optional", (0, None): "zeroOrMore", (1, None): "oneOrMore"}
@@ -178,6 +179,11 @@ def pattern_once(library, part):
         return inside[0] if len(inside) == 1 else Pattern(kinds[0], inside) if inside else Pattern(kinds[1])
     if part.kind == "elementRef" and part.of not in library.elements:
         return Pattern("notAllowed")
+    if part.kind == "macroRef":
+        return pattern(library, library.macros[part.of] or Part("empty"))
+    if part.kind == "classRef":
+        inside = tuple(Pattern("ref", (), Part("elementRef", of=ident)) for ident in content_models.picked_members(library, part.of))
+        return inside[0] if len(inside) == 1 else Pattern("choice", inside) if inside else Pattern("notAllowed")
     return Pattern({"empty": "empty", "textNode": "text"}.get(part.kind, "ref"), (), part)
 
 

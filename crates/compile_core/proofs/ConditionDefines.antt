@@ -1,74 +1,56 @@
--- The name of a condition's define is defined with the body of that define, and with no other.
-use Rattle.std.proofs.Common.{◌≡◌, ◌++◌, ℕ, List, map, take, codes, ⊎_elim, refl, sym, ap, subst, ◌∙◌}
-use Rattle.std.proofs.lemmas.Bool.{false≢true}
-use Rattle.std.proofs.lemmas.Cmp.{nat_list_cmp_total}
-use Rattle.std.proofs.lemmas.Option.{same_Some}
-use Rattle.std.specs.FinMap.{find, slice_cmp-IsAntisymmetric, nat_cmp-IsAntisymmetric}
-use Rattle.odd_base.specs.Text.{text_cmp}
-use Rattle.odd_tokens.specs.Same.{is_same}
+-- A name of a grammar is defined with one body; that of a condition's define with the body of that define.
+use Rattle.std.proofs.Common.{◌≡◌, ℕ, List, [], ◌∷◌, inl, inr, refl, sym, ap, subst, ◌∙◌}
+use Rattle.std.proofs.lemmas.Cmp.{nat_list_cmp_total, on_total}
+use Rattle.std.specs.Cmp.{IsTotalOrder, tied_itself}
+use Rattle.std.specs.declared.cmp.Ordering.{Ordering}
+use Rattle.std.specs.declared.cmp.Ordering.TheVariants.{Less, Equal}
 use Rattle.odd_reader.specs.Elements.{StandsIn}
+use Rattle.odd_reader.proofs.InList.{first_or_later, nothing_stands}
+use Rattle.odd_forms.specs.Sorted.{AreRising}
+use Rattle.odd_forms.proofs.OneSet.{first_below, rest_rising, turned}
 use Rattle.odd_content.specs.declared.content.Condition.{Condition}
-use Rattle.odd_base.specs.declared.key.Key.{Key}
-use Rattle.odd_decls.specs.declared.library.Component.{Component}
-use Rattle.odd_decls.specs.declared.library.Component.TheVariants as component
 use Rattle.odd_decls.specs.declared.library.Library.{Library}
-use Rattle.rng_patterns.specs.Denoting.{entry_of}
 use Rattle.rng_patterns.specs.Patterns.{IsDefined}
 use Rattle.rng_patterns.specs.declared.grammar.Body.{Body}
 use Rattle.rng_patterns.specs.declared.grammar.Define.{Define}
 use Rattle.rng_patterns.specs.declared.grammar.Grammar.{Grammar}
-use Rattle.compile_core.specs.Compiled.{IsGrammarOf, condition_body, condition_define, define_cmp, component_define}
-use Rattle.compile_core.specs.Contents.{condition_name, define_name}
-use Rattle.compile_core.proofs.PlainOrder.{rising_sorted}
-use Rattle.compile_core.proofs.Standing.{found, map_stands, stands_either, stands_left, stands_map}
-use Rattle.odd_forms.specs.Sorted.{AreRising}
+use Rattle.compile_core.specs.Compiled.{IsGrammarOf, condition_body, condition_define, define_cmp}
+use Rattle.compile_core.specs.Compiled as compiled
+use Rattle.compile_core.specs.Contents.{condition_name}
 
--- defines that rise have one body for a name
-one_body : (ds : List Define) (d e : Define) → AreRising define_cmp ds → StandsIn ds d → StandsIn ds e → d.name ≡ e.name → d.body ≡ e.body
-one_body ds d e r s t same =
-    let exact = slice_cmp-IsAntisymmetric nat_cmp-IsAntisymmetric in
-    let held = λ (x : Define) (h : StandsIn ds x).
-    found text_cmp nat_list_cmp_total exact x.name x.body (map entry_of ds) (rising_sorted ds r) (map_stands entry_of ds x h) in
-    same_Some d.body e.body (sym (held d s) ∙ ap (λ name. find text_cmp name (map entry_of ds)) same ∙ held e t)
-
--- no condition's define has the name of an element's
-pub no_ident : (conditions : List Condition) (c : Condition) (ident : List ℕ) → condition_name conditions c ≡ define_name ident → ⊥
-no_ident conditions c ident e = false≢true (ap (λ name. is_same (take 1 name) (codes "e")) e)
-
--- nor is it that of another component's
-no_component : (library : Library) (conditions : List Condition) (c : Condition) (entry : Key × Component) → condition_name conditions c ≡ (component_define library conditions entry).name → ⊥
-no_component library conditions c (key, component.Element part) e = no_ident conditions c key.ident e
-no_component library conditions c (key, component.Class part) e = false≢true (ap (λ name. is_same (take 1 name) (codes "c")) e)
-no_component library conditions c (key, component.Macro part) e = false≢true (ap (λ name. is_same (take 1 name) (codes "m")) e)
-no_component library conditions c (key, component.Datatype part) e = false≢true (ap (λ name. is_same (take 1 name) (codes "d")) e)
+-- of items that rise those that tie are one
+tied_same : {A : Type 0} (order : A → A → Ordering) → IsTotalOrder order → (xs : List A) → AreRising order xs → (a b : A) → StandsIn xs a → StandsIn xs b → order a b ≡ Equal → a ≡ b
+tied_same order total [] r a b s t e = absurd (nothing_stands a s)
+tied_same order total (x ∷ xs) r a b s t e = elim (first_or_later x a xs s) [
+  | inl here ↦ elim (first_or_later x b xs t) [
+    | inl there ↦ here ∙ sym there
+    | inr later ↦
+        let less : order x b ≡ Less = first_below order total x xs r b later in
+        let tied : order x b ≡ Equal = subst (λ y. order y b ≡ Equal) here e in
+        cc
+  ]
+  | inr late ↦ elim (first_or_later x b xs t) [
+    | inl there ↦
+        let more = turned order total a x Less (first_below order total x xs r a late) in
+        let tied : order a x ≡ Equal = subst (λ y. order a y ≡ Equal) there e in
+        cc
+    | inr later ↦ tied_same order total xs (rest_rising order total x xs r) a b late later e
+  ]
+]
 
 module _ (library : Library) (start : List (List ℕ)) (g : Grammar) (is : IsGrammarOf library start g) where
-  -- the defines of the held elements
-  abbrev pub element_defines : List Define
-  element_defines = map (component_define library is.conditions) library.parts
+  -- a name is defined with one body
+  pub one_body : (name : List ℕ) (a b : Body) → IsDefined g name a → IsDefined g name b → a ≡ b
+  one_body name a b s t =
+      let d : Define = record { name = name; body = a } in
+      let e : Define = record { name = name; body = b } in
+      ap (λ (x : Define). x.body)
+      (tied_same define_cmp (on_total (λ (x : Define). x.name) nat_list_cmp_total) g.defines is.are_defines.rising d e s t (tied_itself nat_list_cmp_total name))
 
-  -- the name of a condition's define
-  abbrev pub name_in : Condition → List ℕ
-  name_in c = condition_name is.conditions c
+  -- the name of a condition's define is defined with the body of that
+  pub condition_defined : (c : Condition) → StandsIn is.conditions c → IsDefined g (condition_name is.conditions c) (condition_body (condition_name is.conditions c) c)
+  condition_defined c s = is.are_defines.each (condition_define is.conditions c) (compiled.of_condition c s refl)
 
-  -- the grammar's defines are those of the conditions and these
-  pub defines_are : g.defines ≡ is.before ++ element_defines
-  defines_are = ap (λ (x : Grammar). x.defines) is.grammar_is
-
-  -- the define of a condition is the grammar's
-  own_define : (c : Condition) → StandsIn is.conditions c → StandsIn is.before (condition_define is.conditions c)
-  own_define c s = is.are_before.each (condition_define is.conditions c) (c, s, refl)
-
-  pub condition_defined : (c : Condition) → StandsIn is.conditions c → IsDefined g (name_in c) (condition_body (name_in c) c)
-  condition_defined c s =
-      subst (λ ds. StandsIn ds (condition_define is.conditions c)) (sym defines_are) (stands_left is.before element_defines (condition_define is.conditions c) (own_define c s))
-
-  -- and no other define has its name
-  pub condition_bodied : (c : Condition) → StandsIn is.conditions c → (b : Body) → IsDefined g (name_in c) b → b ≡ condition_body (name_in c) c
-  condition_bodied c s b d =
-      let define : Define = record { name = name_in c; body = b } in
-      ⊎_elim (λ early. one_body is.before define (condition_define is.conditions c) is.are_before.rising early (own_define c s) refl)
-      (λ late.
-      let h = stands_map (component_define library is.conditions) library.parts define late in
-      absurd (no_component library is.conditions c h.0 (ap (λ (x : Define). x.name) h.2)))
-      (stands_either is.before element_defines define (subst (λ ds. StandsIn ds define) defines_are d))
+  -- and with no other
+  pub condition_bodied : (c : Condition) → StandsIn is.conditions c → (b : Body) → IsDefined g (condition_name is.conditions c) b → b ≡ condition_body (condition_name is.conditions c) c
+  condition_bodied c s b d = one_body (condition_name is.conditions c) b (condition_body (condition_name is.conditions c) c) d (condition_defined c s)

@@ -1,23 +1,27 @@
 -- The content law: a content admits the lists of children that its pattern matches.
--- What is asked is that the leaves are kept (`AreLeavesKept`): one element that counts for a label is what the pattern of that label matches.
--- This is asked of both kinds of label, idents of elements and conditions, and of lists alone of which each child is such as Q says.
+-- What is asked is that the leaves are kept (`AreLeavesKept`): what an element, a class or a condition admits is what its pattern matches,
+-- in lists of which each child is such as Q says. And of what the content names (`AreNamesKept`): each macro is kept too, each class is none of
+-- attributes, which is compiled to nothing, and each condition is one of those that are numbered, since its number is in the name of its define.
 -- The law goes up from the leaves by induction on the content. What stands several times is `repeated_law`, the parts of a sequence are `group_law`
--- and those of an alternate `choice_law` (Repetition.antt), and Pieces.antt shows which splits of a list hold the same lists.
+-- (Repetition.antt) and those of an alternate `choice_law` (ChoiceLaw.antt), and Pieces.antt shows which splits of a list hold the same lists.
 -- The bounds must be in order: of a minimum above its maximum no number is allowed, and yet the pattern matches as many as the minimum.
--- Each condition in the content must be one of those that are numbered, since its number is in the name of its define.
--- The law holds of any two markings and speaks of no depth, so it needs no induction on documents.
--- Joining.antt cites it for the content of a held element, with the leaves of Leaves.antt.
-use Rattle.std.proofs.Common.{◌↔◌, ℕ, List, [], ◌++◌}
-use Rattle.std.specs.Prelude.{All}
+-- The law holds of any two markings and of any meaning of macros, and speaks of no depth, so it needs no induction on documents.
+-- MacroLaw.antt cites it for the contents of macros, and Joining.antt for that of a held element, with the leaves of Leaves.antt.
+use Rattle.std.proofs.Common.{ℕ, List, [], ◌++◌}
+use Rattle.odd_base.specs.declared.key.Key.{Key}
 use Rattle.odd_reader.proofs.InList.{stands_first}
 use Rattle.odd_reader.specs.Elements.{StandsIn}
 use Rattle.odd_reader.specs.Significant.{Marking}
 use Rattle.odd_reader.specs.declared.tree.Node.{Node}
 use Rattle.odd_content.specs.declared.content.Condition.{Condition}
 use Rattle.odd_content.specs.declared.content.Content.{Content, Empty, Text, Element, Class, Macro, Any, Sequence', Alternate', Row_of-Content, end_of-Content, more_of-Content}
+use Rattle.odd_content.specs.declared.content.Pick.{Pick}
 use Rattle.odd_decls.specs.declared.library.Library.{Library}
-use Rattle.odd_meaning.specs.Contents.{Admits, ByOne, InOrder, IsOfNone, IsOne}
+use Rattle.odd_meaning.specs.Classes.{Members}
+use Rattle.odd_meaning.specs.Contents.{AdmitsBy, ByOne, InOrder, IsOne, IsOneMember, Macros}
 use Rattle.odd_meaning.specs.Labels.{Label, element, condition}
+use Rattle.odd_meaning.specs.Links.{class_key, macro_key, named_in, named_in_parts}
+use Rattle.odd_meaning.specs.Rules.{IsOfAttributes}
 use Rattle.rng_patterns.proofs.Told.{text_shown, told}
 use Rattle.rng_patterns.specs.Patterns as patterns
 use Rattle.rng_patterns.specs.Patterns.{IsMatched}
@@ -25,66 +29,74 @@ use Rattle.rng_patterns.specs.declared.grammar.Expr.TheOpen as shape
 use Rattle.rng_patterns.specs.declared.grammar.Expr.TheVariants as expr
 use Rattle.rng_patterns.specs.declared.grammar.Grammar.{Grammar}
 use Rattle.compile_core.specs.Conditions.{conditions_in, conditions_in_parts}
-use Rattle.compile_core.specs.Contents.{condition_pattern, content_pattern, element_pattern, part_patterns}
+use Rattle.compile_core.specs.Contents.{condition_pattern, content_pattern, element_pattern, macro_pattern, members_pattern, part_patterns}
 use Rattle.compile_core.specs.Repeating.{choice_pattern, group_pattern}
 use Rattle.compile_core.specs.OrderedBounds.{AreAllOrdered, AreBoundsOrdered}
+use Rattle.compile_core.proofs.ChoiceLaw.{InChoice, choice_law}
 use Rattle.compile_core.proofs.Pieces.{Same, or_same, same, then_same, trans}
-use Rattle.compile_core.proofs.Repetition.{InChoice, InGroup, choice_law, group_law, repeated_law}
+use Rattle.compile_core.proofs.Repetition.{InGroup, group_law, repeated_law}
 use Rattle.compile_core.proofs.Standing.{stands_left, stands_right}
 
-module _ (library : Library) (numbered : List Condition) (g : Grammar) (counts : Marking Label) (marks : Marking (List ℕ)) (Q : Node → Type 0) where
-  -- one element that counts for a label is what the label's pattern matches, of children of which each is such
+module _ (library : Library) (numbered : List Condition) (members : Members) (g : Grammar) (counts : Marking Label) (marks : Marking (List ℕ)) (Q : Node → Type 0) where
+  -- what an element, a class and a condition admit is what their patterns match, of children of which each is such
   pub record AreLeavesKept : Type 0 where
-    pub elements : (key : List ℕ) (children : List Node) → All Q children → IsOne counts (element key) children ↔ IsMatched g marks (element_pattern library key) children
-    pub conditions : (c : Condition) → StandsIn numbered c → (children : List Node) → All Q children
-        → IsOne counts (condition c) children ↔ IsMatched g marks (condition_pattern numbered c) children
+    pub elements : (key : List ℕ) → Same Q (IsOne counts (element key)) (IsMatched g marks (element_pattern library key))
+    pub classes : (key : List ℕ) (p : Pick) → (IsOfAttributes library key → ⊥) → Same Q (IsOneMember library counts key p) (IsMatched g marks (members_pattern key p (members key)))
+    pub conditions : (c : Condition) → StandsIn numbered c → Same Q (IsOne counts (condition c)) (IsMatched g marks (condition_pattern numbered c))
 
-  -- each of the conditions is numbered
-  abbrev AreNumbered : List Condition → Type 0
-  AreNumbered cs = (c : Condition) → StandsIn cs c → StandsIn numbered c
+  -- so what macros of these admit, no class among these is of attributes, and each of the conditions is numbered
+  pub record AreNamesKept (of_macro : Macros) (named : List Key) (cs : List Condition) : Type 0 where
+    pub macros : (key : List ℕ) → StandsIn named (macro_key key) → Same Q (of_macro key) (IsMatched g marks (macro_pattern library key))
+    pub classes : (key : List ℕ) → StandsIn named (class_key key) → IsOfAttributes library key → ⊥
+    pub conditions : (c : Condition) → StandsIn cs c → StandsIn numbered c
 
-  -- those of a first part are, where those of all parts are
-  first_numbered : (cs ds : List Condition) → AreNumbered (cs ++ ds) → AreNumbered cs
-  first_numbered cs ds a c s = a c (stands_left cs ds c s)
+  module _ (kept : AreLeavesKept) (macros : Macros) where
+    -- of the names of all parts those of a first part are kept
+    first_kept : (names others : List Key) (cs ds : List Condition) → AreNamesKept macros (names ++ others) (cs ++ ds) → AreNamesKept macros names cs
+    first_kept names others cs ds a = record {
+      macros = λ key s. a.macros key (stands_left names others (macro_key key) s);
+      classes = λ key s. a.classes key (stands_left names others (class_key key) s);
+      conditions = λ c s. a.conditions c (stands_left cs ds c s);
+    }
 
-  -- and so are those of the further parts
-  rest_numbered : (cs ds : List Condition) → AreNumbered (cs ++ ds) → AreNumbered ds
-  rest_numbered cs ds a c s = a c (stands_right cs ds c s)
+    -- and so are those of the further parts
+    rest_kept : (names others : List Key) (cs ds : List Condition) → AreNamesKept macros (names ++ others) (cs ++ ds) → AreNamesKept macros others ds
+    rest_kept names others cs ds a = record {
+      macros = λ key s. a.macros key (stands_right names others (macro_key key) s);
+      classes = λ key s. a.classes key (stands_right names others (class_key key) s);
+      conditions = λ c s. a.conditions c (stands_right cs ds c s);
+    }
 
-  module _ (kept : AreLeavesKept) where
     mutual
-      -- one content
-      law : (k : Content) → AreBoundsOrdered k → AreNumbered (conditions_in k) → Same Q (Admits counts k) (IsMatched g marks (content_pattern library numbered k))
-      law Empty o a = group_law Q g marks []
-      law Text o a = λ w q. (patterns.text, told g marks expr.Text shape.Text w text_shown)
-      law (Element key b) o a = repeated_law Q g marks (IsOne counts (element key)) (element_pattern library key) b o (kept.elements key)
-      law (Class key p b) o a = repeated_law Q g marks IsOfNone (choice_pattern []) b o (choice_law Q g marks [])
-      law (Macro key b) o a = repeated_law Q g marks IsOfNone (choice_pattern []) b o (choice_law Q g marks [])
-      law (Any c b) o a = repeated_law Q g marks (IsOne counts (condition c)) (condition_pattern numbered c) b o (kept.conditions c (a c (stands_first c [])))
-      law (Sequence' shape parts b) o a =
-          let ps = part_patterns library numbered parts in
-          repeated_law Q g marks (InOrder counts parts) (group_pattern ps) b o.0 (trans Q (in_order parts o.1 a) (group_law Q g marks ps))
-      law (Alternate' shape parts b) o a =
-          let ps = part_patterns library numbered parts in
-          repeated_law Q g marks (ByOne counts parts) (choice_pattern ps) b o.0 (trans Q (by_one parts o.1 a) (choice_law Q g marks ps))
+      -- each content whose bounds are in order, and whose names are kept, admits what its pattern matches
+      pub content_law : (k : Content) → AreBoundsOrdered k → AreNamesKept macros (named_in k) (conditions_in k)
+          → Same Q (AdmitsBy macros library counts k) (IsMatched g marks (content_pattern library numbered members k))
+      content_law Empty o a = group_law Q g marks []
+      content_law Text o a = λ w q. (patterns.text, told g marks expr.Text shape.Text w text_shown)
+      content_law (Element key b) o a = repeated_law Q g marks (IsOne counts (element key)) (element_pattern library key) b o (kept.elements key)
+      content_law (Class key p b) o a =
+          repeated_law Q g marks (IsOneMember library counts key p) (members_pattern key p (members key)) b o (kept.classes key p (a.classes key (stands_first (class_key key) [])))
+      content_law (Macro key b) o a = repeated_law Q g marks (macros key) (macro_pattern library key) b o (a.macros key (stands_first (macro_key key) []))
+      content_law (Any c b) o a = repeated_law Q g marks (IsOne counts (condition c)) (condition_pattern numbered c) b o (kept.conditions c (a.conditions c (stands_first c [])))
+      content_law (Sequence' shape parts b) o a =
+          let ps = part_patterns library numbered members parts in
+          repeated_law Q g marks (InOrder macros library counts parts) (group_pattern ps) b o.0 (trans Q (in_order parts o.1 a) (group_law Q g marks ps))
+      content_law (Alternate' shape parts b) o a =
+          let ps = part_patterns library numbered members parts in
+          repeated_law Q g marks (ByOne macros library counts parts) (choice_pattern ps) b o.0 (trans Q (by_one parts o.1 a) (choice_law g marks Q ps))
 
       -- the parts of a sequence
-      in_order : {n : _} (parts : Row_of-Content n) → AreAllOrdered parts → AreNumbered (conditions_in_parts parts)
-          → Same Q (InOrder counts parts) (InGroup Q g marks (part_patterns library numbered parts))
+      in_order : {n : _} (parts : Row_of-Content n) → AreAllOrdered parts → AreNamesKept macros (named_in_parts parts) (conditions_in_parts parts)
+          → Same Q (InOrder macros library counts parts) (InGroup Q g marks (part_patterns library numbered members parts))
       in_order end_of-Content o a = same Q _
       in_order (more_of-Content part parts) o a =
-          then_same Q (law part o.0 (first_numbered (conditions_in part) (conditions_in_parts parts) a))
-          (in_order parts o.1 (rest_numbered (conditions_in part) (conditions_in_parts parts) a))
+          then_same Q (content_law part o.0 (first_kept (named_in part) (named_in_parts parts) (conditions_in part) (conditions_in_parts parts) a))
+          (in_order parts o.1 (rest_kept (named_in part) (named_in_parts parts) (conditions_in part) (conditions_in_parts parts) a))
 
       -- the parts of an alternate
-      by_one : {n : _} (parts : Row_of-Content n) → AreAllOrdered parts → AreNumbered (conditions_in_parts parts)
-          → Same Q (ByOne counts parts) (InChoice Q g marks (part_patterns library numbered parts))
+      by_one : {n : _} (parts : Row_of-Content n) → AreAllOrdered parts → AreNamesKept macros (named_in_parts parts) (conditions_in_parts parts)
+          → Same Q (ByOne macros library counts parts) (InChoice g marks (part_patterns library numbered members parts))
       by_one end_of-Content o a = same Q _
       by_one (more_of-Content part parts) o a =
-          or_same Q (law part o.0 (first_numbered (conditions_in part) (conditions_in_parts parts) a))
-          (by_one parts o.1 (rest_numbered (conditions_in part) (conditions_in_parts parts) a))
-
-  -- each content whose bounds are in order, and whose conditions are numbered, admits what its pattern matches
-  pub content_law : AreLeavesKept → (k : Content) → AreBoundsOrdered k → ((c : Condition) → StandsIn (conditions_in k) c → StandsIn numbered c)
-      → (children : List Node) → All Q children → Admits counts k children ↔ IsMatched g marks (content_pattern library numbered k) children
-  content_law kept k o a = law kept k o a
+          or_same Q (content_law part o.0 (first_kept (named_in part) (named_in_parts parts) (conditions_in part) (conditions_in_parts parts) a))
+          (by_one parts o.1 (rest_kept (named_in part) (named_in_parts parts) (conditions_in part) (conditions_in_parts parts) a))

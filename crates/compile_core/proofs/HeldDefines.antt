@@ -1,90 +1,94 @@
--- The defines of held elements: each held element has its define, and what is defined by the name of such a define is the body of one.
-use Rattle.std.proofs.Common.{◌≡◌, ℕ, List, Some, ⊎_elim, sym, ap, subst}
-use Rattle.std.specs.FinMap.{find}
-use Rattle.odd_base.specs.Key.{key_cmp}
-use Rattle.odd_base.specs.KeyOrder.{key_total, key_exact}
-use Rattle.odd_base.specs.declared.key.Key.{Key}
-use Rattle.odd_reader.specs.Elements.{StandsIn}
+-- The defines of elements, classes and macros: each has its define, and what is defined by the name of an element's define is the body of one.
+use Rattle.std.proofs.Common.{◌≡◌, ◌↔◌, ℕ, false, List, Some, take, codes, inl, inr, refl, sym, ap, subst, ◌∙◌}
+use Rattle.std.proofs.lemmas.Bool.{false≢true}
+use Rattle.odd_tokens.specs.Same.{is_same}
+use Rattle.odd_reader.specs.Significant.{Marking}
+use Rattle.odd_reader.specs.declared.tree.Node.{Node}
 use Rattle.odd_content.specs.declared.content.Condition.{Condition}
-use Rattle.odd_decls.specs.Odd.{element_key}
-use Rattle.odd_decls.specs.declared.library.Component.{Component}
-use Rattle.odd_decls.specs.declared.library.Component.TheVariants as component
 use Rattle.odd_decls.specs.declared.library.ElementPart.{ElementPart}
 use Rattle.odd_decls.specs.declared.library.Library.{Library}
-use Rattle.rng_patterns.specs.Patterns.{IsDefined}
+use Rattle.odd_decls.specs.declared.library.OtherPart.{OtherPart}
+use Rattle.odd_meaning.specs.Classes.{Members}
+use Rattle.rng_patterns.proofs.Told.{ref_shown, told}
+use Rattle.rng_patterns.specs.Patterns as patterns
+use Rattle.rng_patterns.specs.Patterns.{IsDefined, IsMatched}
 use Rattle.rng_patterns.specs.declared.grammar.Body.{Body}
 use Rattle.rng_patterns.specs.declared.grammar.Body.TheVariants as body
 use Rattle.rng_patterns.specs.declared.grammar.Define.{Define}
+use Rattle.rng_patterns.specs.declared.grammar.Expr.TheOpen as shape
+use Rattle.rng_patterns.specs.declared.grammar.Expr.TheVariants as expr
+use Rattle.rng_patterns.specs.declared.grammar.Expr.{Expr}
 use Rattle.rng_patterns.specs.declared.grammar.Grammar.{Grammar}
-use Rattle.compile_core.specs.Compiled.{IsGrammarOf, element_body, component_define}
-use Rattle.compile_core.specs.Conditions.{conditions_in}
-use Rattle.compile_core.specs.Contents.{define_name}
-use Rattle.compile_core.specs.Schema.{IsFormed}
-use Rattle.compile_core.proofs.ConditionDefines.{defines_are, element_defines, no_ident}
-use Rattle.compile_core.proofs.Standing.{found, held_stands, map_stands, stands_either, stands_map, stands_right}
+use Rattle.compile_core.specs.Compiled as compiled
+use Rattle.compile_core.specs.Compiled.{IsDefineOf, IsGrammarOf, class_define, element_body, element_define, macro_define, references_pattern}
+use Rattle.compile_core.specs.Contents.{class_name, condition_name, content_pattern, define_name, macro_name}
+use Rattle.compile_core.proofs.ConditionDefines.{one_body}
+use Rattle.compile_core.proofs.Holds.{IsElementAt, IsMacroAt}
 use Rattle.compile_core.proofs.StartLaw.{HoldElements}
 
--- defines of two idents have two names
+-- defines of two elements have two names
 one_name : (a b : List ℕ) → define_name a ≡ define_name b → a ≡ b
 one_name a b e = cc
 
--- the library holds the element at its key
-abbrev pub IsHeld : Library → List ℕ → ElementPart → Type 0
-IsHeld library ident part = find key_cmp (element_key ident) library.parts ≡ Some (component.Element part)
+-- and a name that begins with another letter is not that of an element's
+other_name : (name ident : List ℕ) → is_same (take 1 name) (codes "e") ≡ false → define_name ident ≡ name → ⊥
+other_name name ident other e = false≢true (sym other ∙ ap (λ n. is_same (take 1 n) (codes "e")) (sym e))
 
 -- the body of a held element's define
-pub record IsBodyOf (library : Library) (conditions : List Condition) (ident : List ℕ) (b : Body) : Type 0 where
+pub record IsBodyOf (library : Library) (conditions : List Condition) (members : Members) (ident : List ℕ) (b : Body) : Type 0 where
   pub part : ElementPart
-  pub held : IsHeld library ident part
-  pub is : b ≡ element_body library conditions ident part
+  pub held : IsElementAt library ident part
+  pub is : b ≡ element_body library conditions members ident part
 
--- a held element is an entry
-held_entry : (library : Library) (ident : List ℕ) (part : ElementPart) → IsHeld library ident part → StandsIn library.parts (element_key ident, component.Element part)
-held_entry library ident part held = held_stands key_cmp key_total key_exact (element_key ident) _ library.parts held
+-- what a define of the name of an element's is
+element_bodied : (library : Library) (conditions : List Condition) (members : Members) (ident : List ℕ) (b : Body)
+    → IsDefineOf library conditions members (record { name = define_name ident; body = b }) → IsBodyOf library conditions members ident b
+element_bodied library conditions members ident b (compiled.of_condition c s e) = absurd (other_name (condition_name conditions c) ident refl (ap (λ (d : Define). d.name) e))
+element_bodied library conditions members ident b (compiled.of_class class idents s e) = absurd (other_name (class_name class) ident refl (ap (λ (d : Define). d.name) e))
+element_bodied library conditions members ident b (compiled.of_macro key part s e) = absurd (other_name (macro_name key) ident refl (ap (λ (d : Define). d.name) e))
+element_bodied library conditions members ident b (compiled.of_element key part held e) =
+    let same : key ≡ ident = sym (one_name ident key (ap (λ (d : Define). d.name) e)) in
+    record {
+      part = part;
+      held = subst (λ x. IsElementAt library x part) same held;
+      is = subst (λ x. b ≡ element_body library conditions members x part) same (ap (λ (d : Define). d.body) e);
+    }
 
 module _ (library : Library) (start : List (List ℕ)) (g : Grammar) (is : IsGrammarOf library start g) where
   -- each held element has its define
-  pub held_defined : (ident : List ℕ) (part : ElementPart) → IsHeld library ident part → IsDefined g (define_name ident) (element_body library is.conditions ident part)
-  held_defined ident part held =
-      let entry : Key × Component = (element_key ident, component.Element part) in
-      let d : Define = component_define library is.conditions entry in
-      let among : StandsIn (element_defines library start g is) d = map_stands (component_define library is.conditions) library.parts entry (held_entry library ident part held) in
-      subst (λ ds. StandsIn ds d) (sym (defines_are library start g is)) (stands_right is.before (element_defines library start g is) d among)
+  pub held_defined : (ident : List ℕ) (part : ElementPart) → IsElementAt library ident part → IsDefined g (define_name ident) (element_body library is.conditions is.members ident part)
+  held_defined ident part held = is.are_defines.each (element_define library is.conditions is.members ident part) (compiled.of_element ident part held refl)
 
-  -- and the conditions in its content are the grammar's
-  pub held_conditions : (ident : List ℕ) (part : ElementPart) → IsHeld library ident part → (c : Condition) → StandsIn (conditions_in part.content) c → StandsIn is.conditions c
-  held_conditions ident part held c s =
-      is.are_conditions.each c (record { entry = (element_key ident, component.Element part); among = held_entry library ident part held; holds = s })
+  -- what is defined by the name of an element's define is the body of that define
+  pub defined_held : (ident : List ℕ) (b : Body) → IsDefined g (define_name ident) b → IsBodyOf library is.conditions is.members ident b
+  defined_held ident b s = element_bodied library is.conditions is.members ident b (is.are_defines.none_else (record { name = define_name ident; body = b }) s)
 
-  module _ (f : IsFormed library) where
-    -- the define of an entry is that of the held element there
-    entry_held : (ident : List ℕ) (b : Body) (entry : Key × Component) → StandsIn library.parts entry
-        → record { name = define_name ident; body = b } ≡ component_define library is.conditions entry → IsBodyOf library is.conditions ident b
-    entry_held ident b (key, component.Class part) s e =
-        absurd (f.formed key (component.Class part) (found key_cmp key_total key_exact key (component.Class part) library.parts f.rising s)).2
-    entry_held ident b (key, component.Macro part) s e =
-        absurd (f.formed key (component.Macro part) (found key_cmp key_total key_exact key (component.Macro part) library.parts f.rising s)).2
-    entry_held ident b (key, component.Datatype part) s e =
-        absurd (f.formed key (component.Datatype part) (found key_cmp key_total key_exact key (component.Datatype part) library.parts f.rising s)).2
-    entry_held ident b (key, component.Element part) s e =
-        let there : find key_cmp key library.parts ≡ Some (component.Element part) = found key_cmp key_total key_exact key (component.Element part) library.parts f.rising s in
-        let idents : key.ident ≡ ident = one_name key.ident ident (sym (ap (λ (d : Define). d.name) e)) in
-        let same : key ≡ element_key ident = λ i. record { kind = (f.formed key (component.Element part) there).0 i; ident = idents i } in
-        record {
-          part = part;
-          held = subst (λ k. find key_cmp k library.parts ≡ Some (component.Element part)) same there;
-          is = subst (λ x. b ≡ element_body library is.conditions x part) idents (ap (λ (d : Define). d.body) e);
-        }
+  -- so it is an `element`
+  pub hold_elements : HoldElements g
+  hold_elements ident p s = let h = defined_held ident (body.Part p) s in let e = h.is in cc
 
-    -- what is defined by the name of an element's define is the body of that define
-    pub defined_held : (ident : List ℕ) (b : Body) → IsDefined g (define_name ident) b → IsBodyOf library is.conditions ident b
-    defined_held ident b s =
-        let d : Define = record { name = define_name ident; body = b } in
-        ⊎_elim
-        (λ early. let c = is.are_before.none_else d early in absurd (no_ident is.conditions c.0 ident (sym (ap (λ (x : Define). x.name) c.2))))
-        (λ late. let h = stands_map (component_define library is.conditions) library.parts d late in entry_held ident b h.0 h.1 h.2)
-        (stands_either is.before (element_defines library start g is) d (subst (λ ds. StandsIn ds d) (defines_are library start g is) s))
+  module _ (marks : Marking (List ℕ)) where
+    -- a reference to a define without an `element` matches what that holds
+    part_law : (name : List ℕ) (p : Expr) → IsDefined g name (body.Part p) → (w : List Node) → IsMatched g marks p w ↔ IsMatched g marks (expr.Ref name) w
+    part_law name p d w = (
+      λ m. patterns.part d m,
+      λ m. elim (told g marks (expr.Ref name) (shape.Ref name) w (ref_shown name) m) [
+        | inl one ↦ let other = one.1 in let e = one_body library start g is name _ _ d other.defined in cc
+        | inr part ↦
+            let e = one_body library start g is name (body.Part part.0) (body.Part p) part.1 d in
+            let same : part.0 ≡ p = cc in
+            subst (λ q. IsMatched g marks q w) same part.2
+      ],
+    )
 
-    -- so it is an `element`
-    pub hold_elements : HoldElements g
-    hold_elements ident p s = let h = defined_held ident (body.Part p) s in let e = h.is in cc
+    -- one to a class matches what the references to its members match
+    pub class_law : (class : List ℕ) (idents : List (List ℕ)) → is.members class ≡ Some idents
+        → (w : List Node) → IsMatched g marks (references_pattern idents) w ↔ IsMatched g marks (expr.Ref (class_name class)) w
+    class_law class idents listed = part_law (class_name class) (references_pattern idents) (is.are_defines.each (class_define class idents) (compiled.of_class class idents listed refl))
+
+    -- one to a macro what the pattern of its content matches
+    pub macro_law : (ident : List ℕ) (part : OtherPart) → IsMacroAt library ident part
+        → (w : List Node) → IsMatched g marks (content_pattern library is.conditions is.members part.content) w ↔ IsMatched g marks (expr.Ref (macro_name ident)) w
+    macro_law ident part held =
+        part_law (macro_name ident) (content_pattern library is.conditions is.members part.content)
+        (is.are_defines.each (macro_define library is.conditions is.members ident part) (compiled.of_macro ident part held refl))

@@ -13,7 +13,7 @@ use Rattle.odd_meaning.specs.Labels.{Label, condition, element}
 use Rattle.odd_reader.proofs.InList.{first_or_later, nothing_stands}
 use Rattle.rng_patterns.specs.Acceptance.{IsAcceptedWithin}
 use Rattle.rng_patterns.specs.declared.grammar.Grammar.{Grammar}
-use Rattle.compile_core.proofs.SameMarkings.{content_same, matched_on}
+use Rattle.compile_core.proofs.SameMarkings.{admits_same, matched_on}
 use Rattle.compile_core.proofs.Standing.{each_stands, filter_stands, map_stands}
 
 -- the greatest of some numbers is none less
@@ -94,7 +94,7 @@ valid_on a b library t ident agree v = record {
   attributed = v.attributed;
   children = v.children;
   significant = v.significant;
-  admitted = (content_same (StandsIn (out-Tree t).children) a b agree v.part.content v.children (all_kept t v.children v.significant)).0 v.admitted;
+  admitted = (admits_same (StandsIn (out-Tree t).children) library a b agree v.part.content v.children (all_kept t v.children v.significant)).0 v.admitted;
 }
 
 -- so within levels enough for a tree more of them change nothing here either

@@ -1,6 +1,5 @@
 -- The least of the words that are missing, one word after another.
-use Rattle.std.proofs.Common.{◌≡◌, ℕ, List, [], ◌∷◌, ◌++◌, true, false, Bor, Option, Some, None, cond, inl, inr, refl, sym, subst}
-use Rattle.std.specs.Option.{option_copied, is_some}
+use Rattle.std.proofs.Common.{◌≡◌, ℕ, List, [], ◌∷◌, ◌++◌, Option, Some, None, cond, inl, inr, refl, sym, subst}
 use Rattle.std.proofs.lemmas.Cmp.{nat_list_cmp_total}
 use Rattle.std.specs.Ordering.{is_gt}
 use Rattle.std.specs.declared.cmp.Ordering.TheVariants.{Less, Equal, Greater}
@@ -59,13 +58,3 @@ module _ (library : Library) (words : List (List ℕ)) (v : List ℕ) where
           | inr e ↦ above (subst (λ x. text_cmp x other ≡ Less) (sym e) less)
         ];
       }
-
--- a search that finds nothing shows that the word is missing
-pub nothing_found : {T : Type 0} (found : Option (Bor T)) → is_some found ≡ false → option_copied found ≡ None
-nothing_found None e = refl
-nothing_found (Some x) e = cc
-
--- and one that finds something shows that it is held
-pub something_found : {T : Type 0} (found : Option (Bor T)) → is_some found ≡ true → option_copied found ≡ None → ⊥
-something_found None e h = cc
-something_found (Some x) e h = cc

@@ -1,5 +1,5 @@
 -- The defines of conditions that rise have distinct names, and so they rise once they are sorted by name.
-use Rattle.std.proofs.Common.{◌≡◌, ◌<◌, ◌≤◌, ◌+◌, ◌^◌, ℕ, suc, Bool, true, false, cond, List, [], ◌∷◌, ◌++◌, get_or, length, map, inl, inr, refl, sym, ap, subst, ◌∙◌, arith}
+use Rattle.std.proofs.Common.{◌≡◌, ◌<◌, ◌≤◌, ◌+◌, ◌^◌, ℕ, suc, Bool, true, false, cond, List, [], ◌∷◌, ◌++◌, get_or, length, map, refl, sym, ap, subst, ◌∙◌, arith}
 use Rattle.std.specs.Prelude.{codes, sum_by}
 use Rattle.std.proofs.lemmas.Cmp.{eq_by_cmp_equiv, nat_list_cmp_total, on_total}
 use Rattle.std.proofs.lemmas.Fmt.{decimal_injective}
@@ -16,10 +16,12 @@ use Rattle.std.specs.declared.cmp.Ordering.{Ordering}
 use Rattle.std.specs.declared.cmp.Ordering.TheVariants.{Less, Equal, Greater}
 use Rattle.odd_content.specs.declared.content.Condition.{Condition}
 use Rattle.odd_reader.specs.Elements.{StandsIn}
-use Rattle.odd_reader.proofs.InList.{contained, first_or_later, nothing_stands, standing, stands_first, stands_later}
+use Rattle.odd_reader.proofs.InList.{contained, standing, stands_first, stands_later}
+use Rattle.odd_forms.proofs.OneSet.{first_below, rest_rising}
 use Rattle.odd_forms.specs.Sorted.{AreRising, IsSet}
 use Rattle.rng_patterns.specs.declared.grammar.Define.{Define}
-use Rattle.compile_core.specs.Compiled.{IsConditionDefine, condition_define, define_cmp}
+use Rattle.compile_core.specs.Blocks.{IsConditionDefine}
+use Rattle.compile_core.specs.Compiled.{condition_define, define_cmp}
 use Rattle.compile_core.specs.ConditionOrder.{condition_total}
 use Rattle.compile_core.specs.Conditions.{condition_cmp}
 use Rattle.compile_core.specs.Contents.{condition_name, number_of}
@@ -32,18 +34,6 @@ less_left Equal h e = cc
 less_left Greater h e = cc
 
 module _ {A : Type 0} {order : A → A → Ordering} (total : IsTotalOrder order) where
-  -- the rest of items that rise rises
-  rest_rising : (x : A) (xs : List A) → AreRising order (x ∷ xs) → AreRising order xs
-  rest_rising x xs h before after item next e = h (x ∷ before) after item next (ap (λ ys. x ∷ ys) e)
-
-  -- the first of items that rise is below the others
-  first_below : (x : A) (xs : List A) → AreRising order (x ∷ xs) → (y : A) → StandsIn xs y → order x y ≡ Less
-  first_below x [] h y s = absurd (nothing_stands y s)
-  first_below x (z ∷ xs) h y s = elim (first_or_later z y xs s) [
-    | inl e ↦ ap (order x) e ∙ h [] xs x z refl
-    | inr later ↦ total.trans x z y (h [] xs x z refl) (first_below z xs (rest_rising x (z ∷ xs) h) y later)
-  ]
-
   -- sorted items of which no two tie rise
   next_less : (before after : List A) (item next : A) → IsSorted order (before ++ item ∷ (next ∷ after)) → IsDistinct (eq_by_cmp order) (before ++ item ∷ (next ∷ after)) → order item next ≡ Less
   unfolding IsDistinct
@@ -78,7 +68,7 @@ pub lower_ranks : IsStrictWeakOrder is_lower
 lower_ranks = ranks_by nat_list_cmp_total (λ (d : Define). d.name)
 
 -- and totally
-define_total : IsTotalOrder define_cmp
+pub define_total : IsTotalOrder define_cmp
 define_total = on_total (λ (d : Define). d.name) nat_list_cmp_total
 
 module _ (conditions : List Condition) (rising : AreRising condition_cmp conditions) (small : length conditions + 1 < 2 ^ 64) where
@@ -122,8 +112,8 @@ module _ (conditions : List Condition) (rising : AreRising condition_cmp conditi
   defines_apart [] among up = tt
   defines_apart (x ∷ xs) among up = (
     images_all (λ d. eq_by_cmp define_cmp (define x) d ≡ false) define xs (λ y s. not_true _ (λ e.
-        names_apart x y (among x (stands_first x xs)) (first_below condition_total x xs up y s) (same_text _ _ (sym e ∙ sym (texts_ties (define x).name (define y).name))))),
-    defines_apart xs (λ c s. among c (stands_later x c xs s)) (rest_rising condition_total x xs up),
+        names_apart x y (among x (stands_first x xs)) (first_below condition_cmp condition_total x xs up y s) (same_text _ _ (sym e ∙ sym (texts_ties (define x).name (define y).name))))),
+    defines_apart xs (λ c s. among c (stands_later x c xs s)) (rest_rising condition_cmp condition_total x xs up),
   )
 
   -- the defines of the conditions, sorted by name, are the set of them

@@ -1,118 +1,87 @@
--- The defines of a formed library's grammar, and its start, are plain, and each name that they refer to is defined.
-use Rattle.std.proofs.Common.{◌≡◌, ℕ, List, [], ◌++◌, map, Option, Some, None, refl, sym, subst}
-use Rattle.std.specs.Prelude.{All}
-use Rattle.std.specs.FinMap.{find}
-use Rattle.std.specs.List.{Contains}
-use Rattle.std.proofs.lemmas.List.Elements.{All-append, All-contains, All-map, Contains-append_left, Contains-append_right}
-use Rattle.odd_base.specs.Key.{key_cmp}
-use Rattle.odd_base.specs.KeyOrder.{key_total, key_exact}
+-- What holds of references to the defines of a formed library, and of what is made of patterns of which it holds, holds of the pattern of each define, and
+-- of the start.
+use Rattle.std.proofs.Common.{◌≡◌, ℕ, Bool, true, false, List, Some, refl, sym, subst}
 use Rattle.odd_base.specs.declared.key.Key.{Key}
-use Rattle.odd_base.specs.declared.name.Name.{Name}
 use Rattle.odd_reader.specs.Elements.{StandsIn}
-use Rattle.odd_reader.proofs.InList.{contained, standing}
 use Rattle.odd_forms.specs.Sorted.{IsSet}
 use Rattle.odd_content.specs.declared.content.Condition.{Condition}
+use Rattle.odd_content.specs.declared.content.Content.{Content}
 use Rattle.odd_decls.specs.Library.{content_of}
 use Rattle.odd_decls.specs.Odd.{element_key}
 use Rattle.odd_decls.specs.declared.library.Component.{Component}
 use Rattle.odd_decls.specs.declared.library.Component.TheVariants as component
 use Rattle.odd_decls.specs.declared.library.Library.{Library}
-use Rattle.rng_patterns.specs.Linked.{names_of}
-use Rattle.rng_patterns.specs.declared.grammar.AttrPart.TheVariants as attributes
+use Rattle.odd_meaning.specs.Classes.{AreMembers, Members}
+use Rattle.odd_meaning.specs.Links.{macro_key, named_in}
+use Rattle.rng_patterns.specs.Linked.{pattern_of}
+use Rattle.rng_patterns.specs.declared.grammar.Body.{Body}
 use Rattle.rng_patterns.specs.declared.grammar.Define.{Define}
-use Rattle.rng_patterns.specs.declared.grammar.NameClass.TheVariants as class
-use Rattle.rng_emit.specs.Plain.{IsPlainName}
-use Rattle.compile_core.specs.Compiled.{IsConditionDefine, condition_define, define_cmp, component_define, reference, start_pattern}
+use Rattle.rng_patterns.specs.declared.grammar.Expr.{Expr}
+use Rattle.rng_patterns.specs.declared.grammar.Expr.TheVariants as expr
+use Rattle.compile_core.specs.Compiled as compiled
+use Rattle.compile_core.specs.Compiled.{IsDefineOf, class_define, condition_body, condition_define, element_define, macro_define, references_pattern}
 use Rattle.compile_core.specs.Conditions.{IsConditionOf, condition_cmp, conditions_in, conditions_of}
-use Rattle.compile_core.specs.Contents.{condition_name, content_pattern}
-use Rattle.compile_core.specs.Schema.{HoldsStart, IsFormed, IsFormedCondition, IsFormedPart}
-use Rattle.compile_core.proofs.PlainContents.{IsHeldAmong, content_known, held_known}
-use Rattle.compile_core.proofs.PlainDefines.{IsDefineAmong, condition_define_known, element_body_known}
-use Rattle.compile_core.proofs.PlainNames.{define_ncname}
-use Rattle.compile_core.proofs.PlainOrder.{IsElementEntry, entry_formed, name_of}
-use Rattle.compile_core.proofs.PlainPatterns.{IsAmong, choice_known}
-use Rattle.compile_core.proofs.Standing.{each_stands, held_stands, map_stands}
+use Rattle.compile_core.specs.Contents.{condition_name, content_pattern, holds_element, reference}
+use Rattle.compile_core.specs.Schema.{HoldsStart, IsFormed}
+use Rattle.compile_core.proofs.ClosedContents.{IsGoodFor, content_good}
+use Rattle.compile_core.proofs.ClosedPatterns.{IsClosed, references_good}
+use Rattle.compile_core.proofs.HeldParts.{ElementAt, element_held, entry_stands, listed_is, macro_held}
+use Rattle.compile_core.proofs.PlainDefines.{IsBodyOf, condition_body_is, element, nothing, throughout_good}
 
--- a condition in a formed component is formed
-condition_formed : (part : Component) (c : Condition) → IsFormedPart part → StandsIn (conditions_of (content_of part)) c → IsFormedCondition c
-condition_formed (component.Class part) c f s = absurd f
-condition_formed (component.Macro part) c f s = absurd f
-condition_formed (component.Datatype part) c f s = absurd f
-condition_formed (component.Element part) c f s = All-contains IsFormedCondition (conditions_in part.content) c f.conditions (contained (conditions_in part.content) c s)
+module _ (library : Library) (conditions : List Condition) (members : Members) (are_conditions : IsSet condition_cmp (IsConditionOf library) conditions) (are_members : AreMembers library members)
+    (f : IsFormed library) (Good : Expr → Type 0) (closed : IsClosed Good) (defined : (d : Define) → IsDefineOf library conditions members d → Good (expr.Ref d.name)) where
+  -- a reference to a held element
+  held_good : (ident : List ℕ) → ElementAt library ident → Good (reference ident)
+  held_good ident at = defined (element_define library conditions members ident at.0) (compiled.of_element ident at.0 at.1 refl)
 
-module _ (library : Library) (conditions : List Condition) (before : List Define) (f : IsFormed library) where
-  -- the defines of the elements, and the names of all defines
+  -- a reference to a member of a class
+  member_good : (class : List ℕ) (idents : List (List ℕ)) (ident : List ℕ) → members class ≡ Some idents → StandsIn idents ident → Good (reference ident)
+  member_good class idents ident e s = let m = (listed_is library members class idents are_members e).1.none_else ident s in held_good ident (m.part, m.held)
 
-  abbrev elements : List Define
-  elements = map (component_define library conditions) library.parts
+  -- all references in a content whose conditions are the library's
+  references_in : (named : List Key) (inside : List Condition) → ((c : Condition) → StandsIn inside c → StandsIn conditions c) → IsGoodFor Good library conditions members named inside
+  references_in named inside among = record {
+    elements = λ key h. held_good key (element_held library key h);
+    classes = λ key idents e. defined (class_define key idents) (compiled.of_class key idents e refl);
+    each_member = member_good;
+    macros = λ key s h. let at = macro_held library key h in defined (macro_define library conditions members key at.0) (compiled.of_macro key at.0 at.1 refl);
+    each_condition = λ c s. defined (condition_define conditions c) (compiled.of_condition c (among c s) refl);
+  }
 
-  abbrev defined : List (List ℕ)
-  defined = names_of (before ++ elements)
+  -- the content of an entry
+  entry_good : (entry : Key × Component) (content : Content) → StandsIn library.parts entry → content_of entry.1 ≡ Some content → Good (content_pattern library conditions members content)
+  entry_good entry content s e =
+      content_good Good closed library conditions members content
+      (references_in (named_in content) (conditions_in content) (λ c t. are_conditions.each c (record { entry = entry; among = s; holds = subst (λ o. StandsIn (conditions_of o) c) (sym e) t })))
 
-  -- the name of a define is one of these
-  name_stands : (d : Define) → Contains (before ++ elements) d → StandsIn defined d.name
-  name_stands d s = map_stands (λ (x : Define). x.name) (before ++ elements) d (standing (before ++ elements) d s)
+  -- the body of a condition's define
+  condition_good : (c : Condition) → StandsIn conditions c → (b : Body) → IsBodyOf (condition_name conditions c) c b → Good (pattern_of b)
+  condition_good c s b (nothing e) = subst (λ x. Good (pattern_of x)) (sym e) closed.not_allowed
+  condition_good c s b (element which p e) =
+      subst (λ x. Good (pattern_of x)) (sym e) (throughout_good Good closed (condition_name conditions c) (defined (condition_define conditions c) (compiled.of_condition c s refl)))
 
-  -- a held element has a define
-  held : (ident : List ℕ) (part : Component) → find key_cmp (element_key ident) library.parts ≡ Some part → IsHeldAmong defined ident
-  held ident part e =
-      let entry : Key × Component = (element_key ident, part) in
-      let stands = map_stands (component_define library conditions) library.parts entry (held_stands key_cmp key_total key_exact (element_key ident) part library.parts e) in
-      let d = component_define library conditions entry in
-      let there = name_stands d (Contains-append_right before elements d (contained elements d stands)) in
-      let at = f.formed (element_key ident) part e in
-      let is : IsElementEntry entry = record { kind = at.0; ident = at.1; part = at.2 } in
-      record { named = at.1; known = subst (StandsIn defined) (name_of library conditions entry is) there }
+  -- each define
+  pub pattern_good : (d : Define) → IsDefineOf library conditions members d → Good (pattern_of d.body)
+  pattern_good d (compiled.of_condition c s e) =
+      let name = condition_name conditions c in
+      subst (λ (x : Define). Good (pattern_of x.body)) (sym e) (condition_good c s (condition_body name c) (condition_body_is name c))
+  pattern_good d (compiled.of_class ident idents listed e) =
+      subst (λ (x : Define). Good (pattern_of x.body)) (sym e) (references_good Good closed idents (λ member s. member_good ident idents member listed s))
+  pattern_good d (compiled.of_element ident part held e) =
+      let whole = component.Element part in
+      subst (λ (x : Define). Good (pattern_of x.body)) (sym e) (entry_good (element_key ident, whole) part.content (entry_stands library (element_key ident) whole held) refl)
+  pattern_good d (compiled.of_macro ident part held e) =
+      let whole = component.Macro part in
+      subst (λ (x : Define). Good (pattern_of x.body)) (sym e) (entry_good (macro_key ident, whole) part.content (entry_stands library (macro_key ident) whole held) refl)
 
-  -- so each start word refers to one
-  word_known : (start : List (List ℕ)) → HoldsStart library start → (word : List ℕ) → StandsIn start word → IsAmong defined (reference word)
-  word_known start h word s = by (find key_cmp (element_key word) library.parts) refl
+  -- a start word
+  word_good : (start : List (List ℕ)) → HoldsStart library start → (word : List ℕ) → StandsIn start word → Good (reference word)
+  word_good start h word s = by (holds_element library word) refl
     where
-      by : (o : Option Component) → find key_cmp (element_key word) library.parts ≡ o → IsAmong defined (reference word)
-      by None e = absurd (h word s e)
-      by (Some part) e = held_known defined word (held word part e)
+      by : (b : Bool) → holds_element library word ≡ b → Good (reference word)
+      by true e = held_good word (element_held library word e)
+      by false e = absurd (h word s e)
 
-  -- and the start refers to these alone
-  pub start_known : (start : List (List ℕ)) → HoldsStart library start → IsAmong (names_of (before ++ map (component_define library conditions) library.parts)) (start_pattern start)
-  start_known start h =
-      choice_known defined (map reference start) (All-map (IsAmong defined) reference start (each_stands (λ word. IsAmong defined (reference word)) start (word_known start h)))
-
-  module _ (are_conditions : IsSet condition_cmp (IsConditionOf library) conditions) (are_before : IsSet define_cmp (IsConditionDefine conditions) before) where
-    -- each condition has a define
-    condition_named : (c : Condition) → StandsIn conditions c → StandsIn defined (condition_name conditions c)
-    condition_named c s =
-        let d = condition_define conditions c in
-        name_stands d (Contains-append_left before elements d (contained before d (are_before.each d (c, s, refl))))
-
-    -- the define of a condition, of the library and so formed
-    condition_known : (d : Define) → IsConditionDefine conditions d → IsDefineAmong defined d
-    condition_known d h =
-        let at = are_conditions.none_else h.0 h.1 in
-        let formed = condition_formed at.entry.1 h.0 (entry_formed library f at.entry at.among).part at.holds in
-        subst (IsDefineAmong defined) (sym h.2) (condition_define_known defined conditions h.0 formed (condition_named h.0 h.1))
-
-    -- the define of an element
-    element_known : (e : Key × Component) → StandsIn library.parts e → IsElementEntry e → IsDefineAmong defined (component_define library conditions e)
-    element_known (key, component.Class part) s h = absurd h.part
-    element_known (key, component.Macro part) s h = absurd h.part
-    element_known (key, component.Datatype part) s h = absurd h.part
-    element_known (key, component.Element part) s h =
-        let entry : Key × Component = (key, component.Element part) in
-        let inside : (c : Condition) → Contains (conditions_in part.content) c → StandsIn defined (condition_name conditions c) =
-        λ c k. condition_named c (are_conditions.each c (record { entry = entry; among = s; holds = standing (conditions_in part.content) c k })) in
-        let content = content_known library conditions defined held part.content inside in
-        let name : Name = record { ns = part.ns; local = key.ident } in
-        let named : IsPlainName name = record { named = h.ident; legal = h.part.legal } in
-        record {
-          named = define_ncname key.ident h.ident;
-          body = element_body_known defined (class.One name) (attributes.Listed []) (content_pattern library conditions part.content) named refl content;
-        }
-
-    -- all defines
-    pub defines_known :
-        All (IsDefineAmong (names_of (before ++ map (component_define library conditions) library.parts))) (before ++ map (component_define library conditions) library.parts)
-    defines_known =
-        All-append (IsDefineAmong defined) before elements
-        (each_stands (IsDefineAmong defined) before (λ d s. condition_known d (are_before.none_else d s)))
-        (All-map (IsDefineAmong defined) (component_define library conditions) library.parts
-        (each_stands (λ e. IsDefineAmong defined (component_define library conditions e)) library.parts (λ e s. element_known e s (entry_formed library f e s))))
+  -- the start
+  pub start_good : (start : List (List ℕ)) → HoldsStart library start → Good (references_pattern start)
+  start_good start h = references_good Good closed start (word_good start h)

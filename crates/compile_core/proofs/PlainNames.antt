@@ -8,19 +8,40 @@ use Rattle.std.proofs.lemmas.Bool.Decides.{nat_tests}
 use Rattle.std.proofs.lemmas.Nat.{mod_below}
 use Rattle.std.proofs.lemmas.Str.{encodes-append}
 use Rattle.odd_tokens.specs.Characters.{IsNCName, is_name_char, is_name_start, is_ncname}
-use Rattle.odd_tokens.proofs.Ascii.{ascii_codes, ascii_name, ascii_ncname, is_ascii_name}
+use Rattle.odd_tokens.proofs.Ascii.{ascii_name, ascii_ncname, is_ascii_name}
 use Rattle.odd_tokens.proofs.NamesLexed.{ncname_chars}
 use Rattle.odd_content.specs.declared.content.Condition.{Condition}
-use Rattle.compile_core.specs.Contents.{condition_name, define_name, number_of}
+use Rattle.compile_core.specs.Contents.{class_name, condition_name, define_name, macro_name, number_of}
 
--- an ident makes a name
-front_chars : (cs : List ℕ) → list_all is_name_char cs ≡ true → is_ncname (codes "e." ++ cs) ≡ true
+-- an ident after a letter and a point makes a name
+module _ (prefix : List ℕ) (named : is_ascii_name prefix ≡ true) (front : (cs : List ℕ) → list_all is_name_char cs ≡ true → is_ncname (prefix ++ cs) ≡ true) where
+  prefixed_ncname : (ident : List ℕ) → IsNCName ident → IsNCName (prefix ++ ident)
+  prefixed_ncname ident n = (prefix ++ n.0, encodes-append prefix n.0 ∙ (λ k. ascii_name prefix named k ++ n.1 k), front n.0 (ncname_chars n.0 n.2))
+
+-- the front of a define's name, of each kind
+
+element_front : (cs : List ℕ) → list_all is_name_char cs ≡ true → is_ncname (codes "e." ++ cs) ≡ true
 unfolding is_name_start is_name_char
-front_chars cs h = h
+element_front cs h = h
 
--- so the name of an element's define is one
+class_front : (cs : List ℕ) → list_all is_name_char cs ≡ true → is_ncname (codes "c." ++ cs) ≡ true
+unfolding is_name_start is_name_char
+class_front cs h = h
+
+macro_front : (cs : List ℕ) → list_all is_name_char cs ≡ true → is_ncname (codes "m." ++ cs) ≡ true
+unfolding is_name_start is_name_char
+macro_front cs h = h
+
+-- so the names of the defines of an element, a class and a macro are names
+
 pub define_ncname : (ident : List ℕ) → IsNCName ident → IsNCName (define_name ident)
-define_ncname ident n = (codes "e." ++ n.0, encodes-append (codes "e.") n.0 ∙ (λ k. ascii_codes (codes "e.") refl k ++ n.1 k), front_chars n.0 (ncname_chars n.0 n.2))
+define_ncname = prefixed_ncname (codes "e.") refl element_front
+
+pub class_ncname : (ident : List ℕ) → IsNCName ident → IsNCName (class_name ident)
+class_ncname = prefixed_ncname (codes "c.") refl class_front
+
+pub macro_ncname : (ident : List ℕ) → IsNCName ident → IsNCName (macro_name ident)
+macro_ncname = prefixed_ncname (codes "m.") refl macro_front
 
 -- a digit may stand in a name
 digit_name : (d : ℕ) → d < 10 → is_ascii_name (codes "a." ++ digit_glyph false d ∷ []) ≡ true

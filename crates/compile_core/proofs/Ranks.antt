@@ -6,18 +6,12 @@ use Rattle.std.specs.Cmp.{IsTotalOrder}
 use Rattle.std.specs.List.Sorted.{IsPartitionedBy, IsPartitionPoint}
 use Rattle.std.specs.Ordering.{is_lt}
 use Rattle.std.specs.declared.cmp.Ordering.{Ordering}
-use Rattle.std.specs.declared.cmp.Ordering.TheVariants.{Less, Equal, Greater}
+use Rattle.std.specs.declared.cmp.Ordering.TheVariants.{Less}
+use Rattle.odd_forms.proofs.OneSet.{rest_rising}
 use Rattle.odd_forms.specs.Sorted.{AreRising}
-
-is_less : (r : Ordering) → is_lt r ≡ true → r ≡ Less
-is_less Less h = refl
-is_less Equal h = cc
-is_less Greater h = cc
+use Rattle.compile_core.proofs.Standing.{is_less}
 
 module _ {A : Type 0} {order : A → A → Ordering} (total : IsTotalOrder order) (bound : A) where
-  rest_rising : (x : A) (xs : List A) → AreRising order (x ∷ xs) → AreRising order xs
-  rest_rising x xs h = λ before after item next e. h (x ∷ before) after item next (ap (λ ys. x ∷ ys) e)
-
   -- what is below an item that is below the bound
   lower : (x y : A) → order x y ≡ Less → is_lt (order y bound) ≡ true → is_lt (order x bound) ≡ true
   lower x y h b = ap is_lt (total.trans x y bound h (is_less (order y bound) b))
@@ -25,14 +19,14 @@ module _ {A : Type 0} {order : A → A → Ordering} (total : IsTotalOrder order
   first_below : (x : A) (xs : List A) → AreRising order (x ∷ xs) → (j : ℕ) (d : A) → j < length (x ∷ xs) → is_lt (order (get_or (x ∷ xs) j d) bound) ≡ true → is_lt (order x bound) ≡ true
   first_below x xs h zero d lt e = e
   first_below x [] h (suc j) d lt e = let no : ⊥ = omega arith in absurd no
-  first_below x (y ∷ xs) h (suc j) d lt e = lower x y (h [] xs x y refl) (first_below y xs (rest_rising x (y ∷ xs) h) j d (omega arith) e)
+  first_below x (y ∷ xs) h (suc j) d lt e = lower x y (h [] xs x y refl) (first_below y xs (rest_rising order total x (y ∷ xs) h) j d (omega arith) e)
 
   -- no item that is below the bound comes after one that is not
   pub rising_parted : (xs : List A) → AreRising order xs → IsPartitionedBy (λ x. is_lt (order x bound)) xs
   rising_parted [] h i j d le lt e = let no : ⊥ = omega arith in absurd no
   rising_parted (x ∷ xs) h zero j d le lt e = first_below x xs h j d lt e
   rising_parted (x ∷ xs) h (suc i) zero d le lt e = let no : ⊥ = omega arith in absurd no
-  rising_parted (x ∷ xs) h (suc i) (suc j) d le lt e = rising_parted xs (rest_rising x xs h) i j d (omega arith) (omega arith) e
+  rising_parted (x ∷ xs) h (suc i) (suc j) d le lt e = rising_parted xs (rest_rising order total x xs h) i j d (omega arith) (omega arith) e
 
 module _ {A : Type 0} (p : A → Bool) where
   none_counted : (xs : List A) → ((k : ℕ) (d : A) → k < length xs → p (get_or xs k d) ≡ false) → count_by p xs ≡ 0

@@ -1,39 +1,27 @@
 -- The pattern of a repetition matches the lists that split into a number of pieces within its bounds.
-use Rattle.std.proofs.Common.{◌≡◌, ◌↔◌, ◌⊎◌, inl, inr, ℕ, zero, suc, ◌+◌, ◌-◌, ◌≤◌, Option, Some, None, List, [], ◌∷◌, ◌++◌, replicate, refl, sym, subst, rules, arith}
+use Rattle.std.proofs.Common.{◌≡◌, ◌↔◌, ◌⊎◌, inl, inr, ℕ, zero, suc, ◌+◌, ◌-◌, ◌≤◌, Option, Some, None, List, [], ◌∷◌, ◌++◌, replicate, refl, sym, subst, arith}
 use Rattle.std.specs.Prelude.{All}
-use Rattle.odd_reader.proofs.InList.{first_or_later, nothing_stands, stands_first, stands_later}
-use Rattle.odd_reader.specs.Elements.{StandsIn}
 use Rattle.odd_reader.specs.Significant.{Marking}
 use Rattle.odd_reader.specs.Splits.{Counted, Pieces, Then}
 use Rattle.odd_reader.specs.declared.tree.Node.{Node}
 use Rattle.rng_values.specs.declared.bounds.Bounds.{Bounds}
 use Rattle.odd_meaning.specs.Contents.{IsUpTo, IsWithin}
-use Rattle.rng_patterns.proofs.Told.{choice_shown, empty_shown, group_shown, one_or_more_shown, optional_shown, told, zero_or_more_shown}
+use Rattle.rng_patterns.proofs.Told.{empty_shown, group_shown, one_or_more_shown, optional_shown, told, zero_or_more_shown}
 use Rattle.rng_patterns.specs.Patterns as patterns
 use Rattle.rng_patterns.specs.Patterns.{AreMatched, IsMatched, IsRepeated}
-use Rattle.rng_patterns.specs.declared.grammar.Expr as E
 use Rattle.rng_patterns.specs.declared.grammar.Expr.TheOpen as shape
 use Rattle.rng_patterns.specs.declared.grammar.Expr.TheVariants as expr
-use Rattle.rng_patterns.specs.declared.grammar.Expr.{Expr, out-Expr}
+use Rattle.rng_patterns.specs.declared.grammar.Expr.{Expr}
 use Rattle.rng_patterns.specs.declared.grammar.Grammar.{Grammar}
-use Rattle.compile_core.specs.Repeating.{choice_pattern, further, group_pattern, repeated, repeated_within}
+use Rattle.compile_core.specs.Repeating.{further, group_pattern, repeated, repeated_within}
 use Rattle.compile_core.specs.OrderedBounds.{IsOrdered}
 use Rattle.compile_core.proofs.Pieces.{Same, at_most_more, counted_same, counts_same, none_same, one_more, swap, then_end, then_same, trans}
-
--- the kind of a pattern that matches nothing
-not_allowed_shown : out-Expr expr.NotAllowed ≡ shape.NotAllowed
-not_allowed_shown = search (rules, E.the_lemmas)
 
 module _ (Q : Node → Type 0) (g : Grammar) (marks : Marking (List ℕ)) where
   -- one piece a pattern, in order
   abbrev pub InGroup : List Expr → List Node → Type 0
   InGroup [] w = w ≡ []
   InGroup (p ∷ ps) w = Then (IsMatched g marks p) (InGroup ps) w
-
-  -- what one pattern matches
-  abbrev pub InChoice : List Expr → List Node → Type 0
-  InChoice [] w = ⊥
-  InChoice (p ∷ ps) w = IsMatched g marks p w ⊎ InChoice ps w
 
   -- what splits so, each piece by its pattern
   are_matched : (ps : List Expr) (w : List Node) → InGroup ps w → AreMatched g marks ps w
@@ -52,29 +40,6 @@ module _ (Q : Node → Type 0) (g : Grammar) (marks : Marking (List ℕ)) where
   group_law (p ∷ r ∷ ps) w q = (
     λ h. patterns.group refl (are_matched (p ∷ r ∷ ps) w h),
     λ m. in_group (p ∷ r ∷ ps) w (told g marks _ (shape.Group (p ∷ r ∷ ps)) w (group_shown (p ∷ r ∷ ps)) m),
-  )
-
-  -- the pattern that matches, of those of a choice
-  choosing : (ps : List Expr) (w : List Node) → InChoice ps w → (p : Expr) × StandsIn ps p × IsMatched g marks p w
-  choosing [] w h = absurd h
-  choosing (p ∷ ps) w (inl m) = (p, stands_first p ps, m)
-  choosing (p ∷ ps) w (inr h) = let c = choosing ps w h in (c.0, stands_later p c.0 ps c.1, c.2)
-
-  -- and the other way round
-  chosen : (ps : List Expr) (w : List Node) (p : Expr) → StandsIn ps p → IsMatched g marks p w → InChoice ps w
-  chosen [] w p s m = absurd (nothing_stands p s)
-  chosen (r ∷ ps) w p s m = elim (first_or_later r p ps s) [
-    | inl e ↦ inl (subst (λ x. IsMatched g marks x w) e m)
-    | inr later ↦ inr (chosen ps w p later m)
-  ]
-
-  -- a choice of any patterns matches what one of them does
-  pub choice_law : (ps : List Expr) → Same Q (InChoice ps) (IsMatched g marks (choice_pattern ps))
-  choice_law [] w q = (λ h. absurd h, told g marks expr.NotAllowed shape.NotAllowed w not_allowed_shown)
-  choice_law (p ∷ []) w q = (λ h. elim h [ inl m ↦ m | inr n ↦ absurd n ], λ m. inl m)
-  choice_law (p ∷ r ∷ ps) w q = (
-    λ h. let c = choosing (p ∷ r ∷ ps) w h in patterns.choice refl c.1 c.2,
-    λ m. let c = told g marks _ (shape.Choice (p ∷ r ∷ ps)) w (choice_shown (p ∷ r ∷ ps)) m in chosen (p ∷ r ∷ ps) w c.0 c.1 c.2,
   )
 
   module _ (p : Expr) where

@@ -1,5 +1,5 @@
 -- A content admits, and a pattern matches, the same lists under two markings for which the same children count.
-use Rattle.std.proofs.Common.{◌≡◌, ◌↔◌, ℕ, suc, List, [], ◌∷◌, ◌++◌, sym, subst}
+use Rattle.std.proofs.Common.{◌≡◌, ◌↔◌, ℕ, zero, suc, List, [], ◌∷◌, ◌++◌, length, sym, subst}
 use Rattle.std.specs.Prelude.{All}
 use Rattle.std.proofs.lemmas.List.Elements.{All-head}
 use Rattle.odd_reader.proofs.InList.{stands_first}
@@ -8,7 +8,9 @@ use Rattle.odd_reader.specs.Significant.{Marking}
 use Rattle.odd_reader.specs.declared.tree.Node.{Node, Element as AnElement}
 use Rattle.odd_reader.specs.declared.tree.Tree.{Tree}
 use Rattle.odd_content.specs.declared.content.Content.{Content, Empty, Text, Element, Class, Macro, Any, Sequence', Alternate', Row_of-Content, end_of-Content, more_of-Content}
-use Rattle.odd_meaning.specs.Contents.{Admits, ByOne, InOrder, IsOne}
+use Rattle.odd_content.specs.declared.content.Pick.{Pick}
+use Rattle.odd_decls.specs.declared.library.Library.{Library}
+use Rattle.odd_meaning.specs.Contents.{Admits, AdmitsBy, ByOne, InOrder, IsOfMacro, IsOne, IsOneMember, MacroAdmits, Macros}
 use Rattle.odd_meaning.specs.Labels.{Label, element, condition}
 use Rattle.rng_patterns.specs.Patterns as patterns
 use Rattle.rng_patterns.specs.Patterns.{AreMatched, IsMatched, IsRepeated}
@@ -21,7 +23,7 @@ use Rattle.compile_core.proofs.Standing.{stands_left, stands_right}
 pub alone_is : (Q : Node → Type 0) (t : Tree) (children : List Node) → children ≡ AnElement t ∷ [] → All Q children → Q (AnElement t)
 alone_is Q t children e q = All-head Q (AnElement t) [] (subst (All Q) e q)
 
-module _ (Q : Node → Type 0) (a b : Marking Label) (agree : (t : Tree) (l : Label) → Q (AnElement t) → a t l ↔ b t l) where
+module _ (Q : Node → Type 0) (library : Library) (a b : Marking Label) (agree : (t : Tree) (l : Label) → Q (AnElement t) → a t l ↔ b t l) where
   -- one element that counts for a label
   one_same : (l : Label) → Same Q (IsOne a l) (IsOne b l)
   one_same l w q = (
@@ -29,27 +31,47 @@ module _ (Q : Node → Type 0) (a b : Marking Label) (agree : (t : Tree) (l : La
     λ o. record { tree = o.tree; alone = o.alone; counted = (agree o.tree l (alone_is Q o.tree w o.alone q)).1 o.counted },
   )
 
-  mutual
-    -- one content
-    pub content_same : (k : Content) → Same Q (Admits a k) (Admits b k)
-    content_same Empty = same Q _
-    content_same Text = same Q _
-    content_same (Element key bounds) = counted_same Q (one_same (element key))
-    content_same (Class key p bounds) = same Q _
-    content_same (Macro key bounds) = same Q _
-    content_same (Any c bounds) = counted_same Q (one_same (condition c))
-    content_same (Sequence' shape parts bounds) = counted_same Q (in_order_same parts)
-    content_same (Alternate' shape parts bounds) = counted_same Q (by_one_same parts)
+  -- one that counts for a member of a class
+  member_same : (key : List ℕ) (p : Pick) → Same Q (IsOneMember library a key p) (IsOneMember library b key p)
+  member_same key p w q = (
+    λ o. record { ident = o.ident; member = o.member; picked = o.picked; one = (one_same (element o.ident) w q).0 o.one },
+    λ o. record { ident = o.ident; member = o.member; picked = o.picked; one = (one_same (element o.ident) w q).1 o.one },
+  )
 
-    -- the parts of a sequence
-    in_order_same : {n : _} (parts : Row_of-Content n) → Same Q (InOrder a parts) (InOrder b parts)
-    in_order_same end_of-Content = same Q _
-    in_order_same (more_of-Content part parts) = then_same Q (content_same part) (in_order_same parts)
+  module _ (some others : Macros) (macros_agree : (key : List ℕ) → Same Q (some key) (others key)) where
+    mutual
+      -- one content, where macros agree
+      content_same : (k : Content) → Same Q (AdmitsBy some library a k) (AdmitsBy others library b k)
+      content_same Empty = same Q _
+      content_same Text = same Q _
+      content_same (Element key bounds) = counted_same Q (one_same (element key))
+      content_same (Class key p bounds) = counted_same Q (member_same key p)
+      content_same (Macro key bounds) = counted_same Q (macros_agree key)
+      content_same (Any c bounds) = counted_same Q (one_same (condition c))
+      content_same (Sequence' shape parts bounds) = counted_same Q (in_order_same parts)
+      content_same (Alternate' shape parts bounds) = counted_same Q (by_one_same parts)
 
-    -- the parts of an alternate
-    by_one_same : {n : _} (parts : Row_of-Content n) → Same Q (ByOne a parts) (ByOne b parts)
-    by_one_same end_of-Content = same Q _
-    by_one_same (more_of-Content part parts) = or_same Q (content_same part) (by_one_same parts)
+      -- the parts of a sequence
+      in_order_same : {n : _} (parts : Row_of-Content n) → Same Q (InOrder some library a parts) (InOrder others library b parts)
+      in_order_same end_of-Content = same Q _
+      in_order_same (more_of-Content part parts) = then_same Q (content_same part) (in_order_same parts)
+
+      -- the parts of an alternate
+      by_one_same : {n : _} (parts : Row_of-Content n) → Same Q (ByOne some library a parts) (ByOne others library b parts)
+      by_one_same end_of-Content = same Q _
+      by_one_same (more_of-Content part parts) = or_same Q (content_same part) (by_one_same parts)
+
+  -- one macro, down to so many in one another
+  macro_same : (levels : ℕ) (key : List ℕ) → Same Q (MacroAdmits levels library a key) (MacroAdmits levels library b key)
+  macro_same zero key w q = (λ h. h, λ h. h)
+  macro_same (suc levels) key w q = (
+    λ h. (h.0, h.1, (content_same (MacroAdmits levels library a) (MacroAdmits levels library b) (macro_same levels) h.0.content w q).0 h.2),
+    λ h. (h.0, h.1, (content_same (MacroAdmits levels library a) (MacroAdmits levels library b) (macro_same levels) h.0.content w q).1 h.2),
+  )
+
+  -- so one content
+  pub admits_same : (k : Content) → Same Q (Admits library a k) (Admits library b k)
+  admits_same = content_same (IsOfMacro library a) (IsOfMacro library b) (macro_same (length library.parts))
 
 -- what matches looks at the children alone
 module _ (g : Grammar) (a b : Marking (List ℕ)) where

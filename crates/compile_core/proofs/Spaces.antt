@@ -1,4 +1,4 @@
--- The namespaces of names that were sorted by them, and a namespace that is looked for among sorted ones.
+-- The namespaces of names that were sorted by them, and a word that is looked for among sorted ones.
 use Rattle.std.proofs.Common.{◌≡◌, ℕ, Bool, not, ◌&&◌, List, [], filter, length, get_or, Ok, Err, inl, inr, refl, sym, ap, ◌∙◌, arith}
 use Rattle.std.proofs.lemmas.Bool.{cases_lt}
 use Rattle.std.proofs.lemmas.Cmp.{nat_list_cmp_total}

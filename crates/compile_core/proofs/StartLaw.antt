@@ -1,23 +1,20 @@
 -- The start of a grammar matches the root where a start word names an element that the root counts for.
-use Rattle.std.proofs.Common.{◌≡◌, ◌↔◌, ℕ, List, [], ◌∷◌, map, inl, inr, refl, sym, subst, ◌∙◌, rules}
+use Rattle.std.proofs.Common.{◌≡◌, ◌↔◌, ℕ, List, [], ◌∷◌, inl, inr, refl, sym, subst, ◌∙◌}
 use Rattle.odd_reader.specs.declared.tree.Tree.{Tree}
 use Rattle.odd_reader.specs.declared.tree.Node.{Node, Element}
 use Rattle.odd_reader.specs.Elements.{StandsIn}
 use Rattle.odd_reader.specs.Significant.{Marking}
 use Rattle.odd_reader.proofs.AmongChildren.{element_shown}
-use Rattle.odd_reader.proofs.InList.{first_or_later, nothing_stands, stands_first}
-use Rattle.rng_patterns.proofs.Told.{choice_shown, ref_shown, told}
+use Rattle.rng_patterns.proofs.Told.{ref_shown, told}
 use Rattle.rng_patterns.specs.Patterns as patterns
 use Rattle.rng_patterns.specs.Patterns.{DefinesElement, IsDefined, IsMatched}
 use Rattle.rng_patterns.specs.declared.grammar.Body.TheVariants as body
-use Rattle.rng_patterns.specs.declared.grammar.Expr as E
 use Rattle.rng_patterns.specs.declared.grammar.Expr.TheOpen as shape
-use Rattle.rng_patterns.specs.declared.grammar.Expr.TheVariants as expr
 use Rattle.rng_patterns.specs.declared.grammar.Expr.{Expr}
 use Rattle.rng_patterns.specs.declared.grammar.Grammar.{Grammar}
-use Rattle.compile_core.specs.Compiled.{reference, start_pattern}
-use Rattle.compile_core.specs.Contents.{define_name}
-use Rattle.compile_core.proofs.Standing.{map_stands, stands_map}
+use Rattle.compile_core.specs.Compiled.{references_pattern}
+use Rattle.compile_core.specs.Contents.{define_name, reference}
+use Rattle.compile_core.proofs.ChoiceLaw.{references_law}
 
 -- equal nodes hold equal elements
 same_element : (t u : Tree) → Element t ∷ [] ≡ Element u ∷ [] → t ≡ u
@@ -59,25 +56,9 @@ module _ (g : Grammar) (hold : HoldElements g) (counts : Marking (List ℕ)) whe
   abbrev Starts : List (List ℕ) → Tree → Type 0
   Starts start t = (word : List ℕ) × StandsIn start word × DefinesElement g (define_name word) × counts t (define_name word)
 
-  -- what the start matches counts for a start word
-  matched_starts : (start : List (List ℕ)) (t : Tree) → IsMatched g counts (start_pattern start) (Element t ∷ []) → Starts start t
-  matched_starts [] t m = absurd (told g counts expr.NotAllowed shape.NotAllowed _ (search (rules, E.the_lemmas)) m)
-  matched_starts (w ∷ []) t m = let o = reference_one w t m in (w, stands_first w [], o.0, o.1)
-  matched_starts (w ∷ v ∷ ws) t m =
-      let h = told g counts _ (shape.Choice (map reference (w ∷ v ∷ ws))) _ (choice_shown (map reference (w ∷ v ∷ ws))) m in
-      let s = stands_map reference (w ∷ v ∷ ws) h.0 h.1 in
-      let o = reference_one s.0 t (subst (λ p. IsMatched g counts p (Element t ∷ [])) s.2 h.2) in
-      (s.0, s.1, o.0, o.1)
-
-  -- and the other way round
-  starts_matched : (start : List (List ℕ)) (t : Tree) → Starts start t → IsMatched g counts (start_pattern start) (Element t ∷ [])
-  starts_matched [] t s = absurd (nothing_stands s.0 s.1)
-  starts_matched (w ∷ []) t s = elim (first_or_later w s.0 [] s.1) [
-    | inl e ↦ subst (λ x. IsMatched g counts (reference x) (Element t ∷ [])) e (patterns.element s.2 refl s.3)
-    | inr later ↦ absurd (nothing_stands s.0 later)
-  ]
-  starts_matched (w ∷ v ∷ ws) t s = patterns.choice refl (map_stands reference (w ∷ v ∷ ws) s.0 s.1) (patterns.element s.2 refl s.3)
-
   -- so the start matches an element that counts for a start word
-  pub start_law : (start : List (List ℕ)) (t : Tree) → IsMatched g counts (start_pattern start) (Element t ∷ []) ↔ Starts start t
-  start_law start t = (matched_starts start t, starts_matched start t)
+  pub start_law : (start : List (List ℕ)) (t : Tree) → IsMatched g counts (references_pattern start) (Element t ∷ []) ↔ Starts start t
+  start_law start t = (
+    λ m. let h = (references_law g counts start (Element t ∷ [])).0 m in let o = reference_one h.0 t h.2 in (h.0, h.1, o.0, o.1),
+    λ s. (references_law g counts start (Element t ∷ [])).1 (s.0, s.1, patterns.element s.2 refl s.3),
+  )

@@ -1,16 +1,20 @@
--- The grammar of a library and a list of start words: its defines are those of the conditions, in order of name, and then those of the elements.
-use Rattle.std.specs.Prelude.{◌≡◌, ◌++◌, ℕ, not, List, [], ◌∷◌, map, filter, codes}
+-- The grammar of a library and a list of start words: a define for each condition, class of type `model`, element and macro, in order of name.
+use Rattle.std.specs.Prelude.{◌≡◌, ℕ, not, List, [], ◌∷◌, Some, map, filter}
+use Rattle.std.specs.FinMap.{find}
 use Rattle.std.specs.List.{list_any}
+use Rattle.odd_base.specs.Key.{key_cmp}
 use Rattle.odd_base.specs.Text.{text_cmp}
-use Rattle.odd_base.specs.declared.key.Key.{Key}
 use Rattle.odd_tokens.specs.Same.{is_same}
 use Rattle.odd_reader.specs.Elements.{StandsIn}
 use Rattle.odd_forms.specs.Sorted.{IsSet}
 use Rattle.odd_content.specs.declared.content.Condition.{Condition}
-use Rattle.odd_decls.specs.declared.library.Component.{Component}
+use Rattle.odd_decls.specs.Odd.{element_key}
 use Rattle.odd_decls.specs.declared.library.Component.TheVariants as component
 use Rattle.odd_decls.specs.declared.library.ElementPart.{ElementPart}
 use Rattle.odd_decls.specs.declared.library.Library.{Library}
+use Rattle.odd_decls.specs.declared.library.OtherPart.{OtherPart}
+use Rattle.odd_meaning.specs.Classes.{AreMembers, Members}
+use Rattle.odd_meaning.specs.Links.{macro_key}
 use Rattle.rng_patterns.specs.declared.grammar.AttrPart.TheVariants as attributes
 use Rattle.rng_patterns.specs.declared.grammar.Body.{Body}
 use Rattle.rng_patterns.specs.declared.grammar.Body.TheVariants as body
@@ -22,30 +26,28 @@ use Rattle.rng_patterns.specs.declared.grammar.NameClass.TheVariants as class
 use Rattle.rng_patterns.specs.declared.grammar.NsPart.{NsPart}
 use Rattle.std.specs.declared.cmp.Ordering.{Ordering}
 use Rattle.compile_core.specs.Conditions.{IsConditionOf, condition_cmp}
-use Rattle.compile_core.specs.Contents.{condition_name, content_pattern, define_name}
+use Rattle.compile_core.specs.Contents.{class_name, condition_name, content_pattern, define_name, macro_name, reference}
 use Rattle.compile_core.specs.Repeating.{choice_pattern}
 
-abbrev pub reference : List ℕ → Expr
-reference ident = expr.Ref (define_name ident)
-
--- references to the start words, in their order
-abbrev pub start_pattern : List (List ℕ) → Expr
-start_pattern start = choice_pattern (map reference start)
+-- a choice of references to elements, in their order
+abbrev pub references_pattern : List (List ℕ) → Expr
+references_pattern idents = choice_pattern (map reference idents)
 
 -- no attribute is offered so far
-abbrev pub element_body : Library → List Condition → List ℕ → ElementPart → Body
-element_body library conditions ident part =
-    body.Element (class.One (record { ns = part.ns; local = ident })) (attributes.Listed []) (content_pattern library conditions part.content)
+abbrev pub element_body : Library → List Condition → Members → List ℕ → ElementPart → Body
+element_body library conditions members ident part =
+    body.Element (class.One (record { ns = part.ns; local = ident })) (attributes.Listed []) (content_pattern library conditions members part.content)
 
--- one that nothing matches, of a component that no library holds so far
-abbrev pub none_define : List ℕ → List ℕ → Define
-none_define prefix ident = record { name = prefix ++ ident; body = body.Part expr.NotAllowed }
+abbrev pub element_define : Library → List Condition → Members → List ℕ → ElementPart → Define
+element_define library conditions members ident part = record { name = define_name ident; body = element_body library conditions members ident part }
 
-abbrev pub component_define : Library → List Condition → Key × Component → Define
-component_define library conditions (key, component.Element part) = record { name = define_name key.ident; body = element_body library conditions key.ident part }
-component_define library conditions (key, component.Class part) = none_define (codes "c.") key.ident
-component_define library conditions (key, component.Macro part) = none_define (codes "m.") key.ident
-component_define library conditions (key, component.Datatype part) = none_define (codes "d.") key.ident
+-- references to the members of a class
+abbrev pub class_define : List ℕ → List (List ℕ) → Define
+class_define ident idents = record { name = class_name ident; body = body.Part (references_pattern idents) }
+
+-- what the content of a macro says
+abbrev pub macro_define : Library → List Condition → Members → List ℕ → OtherPart → Define
+macro_define library conditions members ident part = record { name = macro_name ident; body = body.Part (content_pattern library conditions members part.content) }
 
 -- any number of texts, and of elements that the define itself takes
 abbrev pub content_throughout : List ℕ → Expr
@@ -77,13 +79,19 @@ condition_define conditions c = record { name = condition_name conditions c; bod
 abbrev pub define_cmp : Define → Define → Ordering
 define_cmp d e = text_cmp d.name e.name
 
--- the define of one of the conditions
-abbrev pub IsConditionDefine : List Condition → Define → Type 0
-IsConditionDefine conditions d = (c : Condition) × StandsIn conditions c × (d ≡ condition_define conditions c)
+-- the define is that of one of the conditions, or of a class of type `model`, an element or a macro that is held
+pub data IsDefineOf (library : Library) (conditions : List Condition) (members : Members) (d : Define) : Type 0 where
+  of_condition : (c : Condition) → StandsIn conditions c → d ≡ condition_define conditions c → IsDefineOf library conditions members d
+  of_class : (ident : List ℕ) (idents : List (List ℕ)) → members ident ≡ Some idents → d ≡ class_define ident idents → IsDefineOf library conditions members d
+  of_element : (ident : List ℕ) (part : ElementPart) → find key_cmp (element_key ident) library.parts ≡ Some (component.Element part)
+      → d ≡ element_define library conditions members ident part → IsDefineOf library conditions members d
+  of_macro : (ident : List ℕ) (part : OtherPart) → find key_cmp (macro_key ident) library.parts ≡ Some (component.Macro part)
+      → d ≡ macro_define library conditions members ident part → IsDefineOf library conditions members d
 
 pub record IsGrammarOf (library : Library) (start : List (List ℕ)) (g : Grammar) : Type 0 where
   pub conditions : List Condition
   pub are_conditions : IsSet condition_cmp (IsConditionOf library) conditions
-  pub before : List Define
-  pub are_before : IsSet define_cmp (IsConditionDefine conditions) before
-  pub grammar_is : g ≡ record { start = start_pattern start; defines = before ++ map (component_define library conditions) library.parts }
+  pub members : Members
+  pub are_members : AreMembers library members
+  pub start_is : g.start ≡ references_pattern start
+  pub are_defines : IsSet define_cmp (IsDefineOf library conditions members) g.defines

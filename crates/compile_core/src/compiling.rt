@@ -1,21 +1,32 @@
-ghost use Rattle.std.specs.Prelude.{◌≡◌, ◌↔◌, map, IfOk, Some, Err, IsOk};
+ghost use Rattle.std.specs.Prelude.{◌≡◌, ◌↔◌, ◌<◌, ℕ, List, IfErr, IfOk, Some, Err, IsOk, IsTrue};
+ghost use Rattle.std.specs.FinMap.{is_sorted};
 ghost use Rattle.std.specs.Option.{option_copied};
 ghost use Rattle.odd_reader.specs.declared.tree.Tree.{Tree as ATree};
+ghost use Rattle.odd_base.specs.Key.{key_cmp};
+ghost use Rattle.odd_base.specs.declared.key.Key.{Key as AKey};
 ghost use Rattle.odd_base.specs.declared.offence.Offence.{Offence as AnOffence};
+ghost use Rattle.odd_content.specs.declared.content.Condition.{Condition as ACondition};
+ghost use Rattle.odd_forms.specs.Sorted.{IsSet};
 ghost use Rattle.odd_meaning.specs.Admission.{Admits};
+ghost use Rattle.odd_meaning.specs.Classes.{AreMembers, Members, members_count};
+ghost use Rattle.odd_meaning.specs.Rules.{Breaks};
 ghost use Rattle.rng_patterns.specs.Acceptance.{Accepts};
 ghost use Rattle.rng_emit.specs.Plain.{IsPlain};
-ghost use Rattle.compile_core.specs.Compiled.{IsGrammarOf, reference, start_pattern as the_start_pattern};
-ghost use Rattle.compile_core.specs.Schema.{HasLargeSchema, HoldsStart, IsFormed, IsLeast, IsStartOffence, IsTooLarge, lesser_of};
+ghost use Rattle.compile_core.specs.Blocks.{IsConditionDefine, grammar_with};
+ghost use Rattle.compile_core.specs.Compiled.{IsGrammarOf, define_cmp};
+ghost use Rattle.compile_core.specs.Conditions.{IsConditionOf, condition_cmp};
+ghost use Rattle.compile_core.specs.Contents.{listed_in};
+ghost use Rattle.compile_core.specs.Schema.{HasLargeSchema, HoldsStart, IsFormed, IsLeast, IsOfMembers, IsStartOffence, IsTooLarge, lesser_of};
 
 use crate::conditions::conditions_of;
-use crate::contents::define_name;
+use crate::contents::{holds_element, references_pattern};
 use crate::counting::text_nodes;
-use crate::defines::{add_elements, condition_defines};
-use crate::repeating::choice_pattern;
-use odd_base::{Key, Kind, NoMemory, Offence, Text, TryCopy, Who, Words};
+use crate::defines::{condition_defines, library_defines};
+use crate::linking::linked_nodes;
+use odd_base::{NoMemory, Offence, Text, TryCopy, Who, Words};
+use odd_classes::{MemberTable, TableRefusal, members_by_class};
 use odd_decls::Library;
-use rng_patterns::{Expr, Exprs, Grammar};
+use rng_patterns::{Defines, Grammar};
 use std::alloc::Global;
 
 /// Why a library has no schema.
@@ -41,19 +52,23 @@ impl From<NoMemory> for CompileRefusal {
 // The rule that each start word is a held element.
 const START_RULE: u8 = 20;
 
-// How many elements the text of a schema may have. What is counted after linking is less as long as each reference counts
-// one, so that its own limit of four million is never passed alone.
-const MOST_NODES: u64 = 1_000_000;
+// How many elements the text of a schema may have.
+const MOST_ELEMENTS: u64 = 1_000_000;
+
+// How many nodes it may have after linking.
+const MOST_NODES: u64 = 4_000_000;
 
 /// The grammar of a library and a list of start words: a define for each condition of `anyElement` by its number, one for
-/// each element by its ident, and a start that refers to the start words (docs/schema.md). It accepts the documents that
-/// the library admits, and no other (docs/admission.md; ISO/IEC 19757-2, section 9).
+/// each class of type `model`, one for each element and one for each macro by its ident, and a start that refers to the start
+/// words (docs/schema.md). It accepts the documents that the library admits, and no other (docs/admission.md; ISO/IEC 19757-2,
+/// section 9). The library must break none of the rules on classes and macros.
 ///
 /// Offence comes where a start word is no held element, and only there. It names the least of these words in the order
 /// of bytes, and its file is 0. TooLarge comes where each is one and the schema's text has more than 1,000,000 elements or
 /// the grammar more than 4,000,000 nodes after linking; these are counted before a pattern is made of any content.
 /// NoMemory is answered for want of memory.
 pub fn compile(alloc: Global, library: &Library, start: &Words) -> Result<Grammar, CompileRefusal>
+    requires { (key : AKey) (rule : ℕ) → Breaks library.now key rule → ⊥ }
     ensures grammar { IfOk result (IsGrammarOf library.now start.now) }
     ensures plain { IfOk result (λ grammar. IsFormed library.now → IsPlain grammar) }
     ensures accepts { IfOk result (λ grammar. IsFormed library.now → (t : ATree) → Accepts grammar t ↔ Admits library.now start.now t) }
@@ -72,12 +87,43 @@ pub fn compile(alloc: Global, library: &Library, start: &Words) -> Result<Gramma
     }
     let conditions = conditions_of(alloc, library)?;
     let before = condition_defines(alloc, &conditions)?;
-    if text_nodes(library, start, &before) > MOST_NODES {
+    let members = listed_members(alloc, library)?;
+    if is_too_large(alloc, library, start, &before, &members)? {
         return Err(CompileRefusal::TooLarge);
     }
-    let start = start_pattern(alloc, start)?;
-    let defines = add_elements(alloc, before, library, &conditions)?;
+    let start = references_pattern(alloc, start)?;
+    let defines = library_defines(alloc, before, library, &conditions, &members)?;
     Ok(Grammar { start, defines })
+}
+
+// The members of the classes of a library. Where they are more than a schema may have elements, the schema is too large.
+fn listed_members(alloc: Global, library: &Library) -> Result<MemberTable, CompileRefusal>
+    ensures members { IfOk result (λ table. AreMembers library.now (listed_in table)) }
+    ensures more { result ≡ Err CompileRefusal.TooLarge → (members : Members) → AreMembers library.now members → 1000000 < members_count members library.now }
+    ensures err { IfErr result IsOfMembers }
+{
+    match members_by_class(alloc, library, MOST_ELEMENTS as usize) {
+        Ok(members) => Ok(members),
+        Err(TableRefusal::More) => Err(CompileRefusal::TooLarge),
+        Err(TableRefusal::NoMemory) => Err(CompileRefusal::NoMemory),
+    }
+}
+
+// Whether the schema passes a limit.
+fn is_too_large(
+    alloc: Global,
+    library: &Library,
+    start: &Words,
+    before: &Defines,
+    members: &MemberTable,
+) -> Result<bool, NoMemory>
+    requires { (key : AKey) (rule : ℕ) → Breaks library.now key rule → ⊥ }
+    ensures { IfOk result (λ large. (conditions : List ACondition) → IsTrue (is_sorted key_cmp library.now.parts) → HoldsStart library.now start.now → AreMembers library.now (listed_in members.now) → IsSet condition_cmp (IsConditionOf library.now) conditions → IsSet define_cmp (IsConditionDefine conditions) before.now → IsTrue large ↔ IsTooLarge (grammar_with library.now start.now conditions (listed_in members.now) before.now)) }
+{
+    if text_nodes(alloc, library, start, before, members)? > MOST_ELEMENTS {
+        return Ok(true);
+    }
+    Ok(linked_nodes(alloc, library, start, before, members)? > MOST_NODES)
 }
 
 // The least of the start words that are no held element.
@@ -90,12 +136,7 @@ fn least_missing<'a>(
 {
     let mut least = None;
     for word in start.as_slice() {
-        let ident = word.copy(alloc)?;
-        let key = Key {
-            kind: Kind::Element,
-            ident,
-        };
-        if library.find(&key).is_none() {
+        if !holds_element(alloc, library, word)? {
             least = lesser(least, word);
         }
     }
@@ -110,21 +151,4 @@ fn lesser<'a>(least: Option<&'a Text>, word: &'a Text) -> Option<&'a Text>
         Some(other) if *other <= *word => Some(other),
         _ => Some(word),
     }
-}
-
-// A choice of references to the start words.
-fn start_pattern(alloc: Global, start: &Words) -> Result<Expr, NoMemory>
-    ensures { IfOk result (λ pattern. pattern ≡ the_start_pattern start.now) }
-{
-    Ok(choice_pattern(references(alloc, start.as_slice())?))
-}
-
-fn references(alloc: Global, words: &[Text]) -> Result<Exprs, NoMemory>
-    ensures { IfOk result (λ refs. refs ≡ map reference words.now) }
-{
-    let mut refs = Exprs::new(alloc);
-    for word in words {
-        refs.push(Expr::Ref(define_name(alloc, word)?))?;
-    }
-    Ok(refs)
 }

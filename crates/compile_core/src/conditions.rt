@@ -1,4 +1,6 @@
-ghost use Rattle.std.specs.Prelude.{◌≡◌, ◌++◌, IfOk, OnOk, flat_map};
+ghost use Rattle.std.specs.Prelude.{◌≡◌, ◌++◌, IfOk, IsOk, IsTrue, OnOk, flat_map};
+ghost use Rattle.std.specs.FinMap.{is_sorted};
+ghost use Rattle.odd_base.specs.Key.{key_cmp};
 ghost use Rattle.odd_forms.specs.Sorted.{IsSet};
 ghost use Rattle.compile_core.specs.Conditions.{IsConditionOf, condition_cmp, conditions_in};
 
@@ -105,9 +107,10 @@ impl ExactOrd for Ordered {
     ghost exact = { condition_exact };
 }
 
-/// The conditions in the contents of a library's elements, in rising order, each once.
+/// The conditions in the contents of a library's components, whose keys rise, in rising order, each once.
 pub fn conditions_of(alloc: Global, library: &Library) -> Result<Conditions, NoMemory>
-    ensures { IfOk result (IsSet condition_cmp (IsConditionOf library.now)) }
+    ensures set { IfOk result (IsSet condition_cmp (IsConditionOf library.now)) }
+    ensures rising { IsOk result → IsTrue (is_sorted key_cmp library.now.parts) }
 {
     let mut held = Seq::new(alloc);
     for entry in library.parts.entries() {

@@ -1,20 +1,24 @@
-ghost use Rattle.std.specs.Prelude.{◌≡◌, ◌++◌, ℕ, List, map, filter, IfOk};
-ghost use Rattle.std.specs.List.{list_any};
+ghost use Rattle.std.specs.Prelude.{◌≡◌, ◌++◌, ℕ, List, map, filter, flat_map, IfOk, OnOk};
 ghost use Rattle.std.specs.List.Sorted.{IsPermutation, IsSorted, IsSortedByKey};
 ghost use Rattle.odd_base.specs.Text.{text_cmp};
 ghost use Rattle.odd_forms.specs.Sorted.{AreRising, IsSet};
 ghost use Rattle.odd_tokens.specs.Same.{is_same};
-ghost use Rattle.compile_core.specs.Compiled.{IsConditionDefine, condition_body as the_condition_body, condition_define as the_condition_define, content_throughout as the_content_throughout, define_cmp, element_body as the_element_body, component_define as the_component_define, none_define as the_none_define, space_part as the_space_part, spaces_left as the_spaces_left};
+ghost use Rattle.compile_core.specs.Blocks.{IsConditionDefine, class_defines, component_defines, element_defines, macro_defines};
+ghost use Rattle.compile_core.specs.Compiled.{class_define as the_class_define, condition_body as the_condition_body, condition_define as the_condition_define, content_throughout as the_content_throughout, define_cmp, element_define as the_element_define, macro_define as the_macro_define, space_part as the_space_part, spaces_left as the_spaces_left};
 ghost use Rattle.compile_core.specs.Conditions.{condition_cmp};
-ghost use Rattle.compile_core.specs.Contents.{define_name as the_define_name};
+ghost use Rattle.compile_core.specs.Contents.{listed_in};
 ghost use Rattle.rng_patterns.specs.declared.grammar.AttrPart.TheVariants as attributes;
 ghost use Rattle.rng_patterns.specs.declared.grammar.Body.TheVariants as body;
 
 use crate::conditions::Conditions;
-use crate::contents::{condition_name, content_pattern, define_name};
-use odd_base::{Key, Name, Names, NoMemory, Text, TryCopy, Words};
+use crate::contents::{
+    class_name, condition_name, content_pattern, define_name, macro_name, references_pattern,
+};
+use crate::words::those_among;
+use odd_base::{Key, Kind, Name, Names, NoMemory, Text, TryCopy, Words};
+use odd_classes::MemberTable;
 use odd_content::Condition;
-use odd_decls::{Component, ElementPart, Library};
+use odd_decls::{Component, ElementPart, Library, OtherPart};
 use rng_patterns::{
     AttrPart, Body, Define, Defines, Expr, Exprs, NameClass, NsPart, NsParts, Rules,
 };
@@ -109,32 +113,7 @@ fn space_parts(alloc: Global, condition: &Condition) -> Result<NsParts, NoMemory
 fn spaces_left(alloc: Global, condition: &Condition) -> Result<Words, NoMemory>
     ensures { IfOk result (λ left. left ≡ the_spaces_left condition.now) }
 {
-    let excepted = sorted_words(alloc, &condition.spaces)?;
-    let mut left = Words::new(alloc);
-    for space in condition.require.as_slice() {
-        if !is_among(&excepted, space) {
-            left.push(space.copy(alloc)?)?;
-        }
-    }
-    Ok(left)
-}
-
-// The words in their order.
-fn sorted_words(alloc: Global, words: &Words) -> Result<Vec<Text>, NoMemory>
-    ensures rising { IfOk result (λ sorted. IsSorted text_cmp sorted.items) }
-    ensures same { IfOk result (λ sorted. (word : List ℕ) → list_any (is_same word) sorted.items ≡ list_any (is_same word) words.now) }
-{
-    let mut sorted = words.copy(alloc)?.into_items();
-    sorted.sort_unstable();
-    Ok(sorted)
-}
-
-// Whether a word is one of some sorted words.
-fn is_among(sorted: &[Text], word: &Text) -> bool
-    requires { IsSorted text_cmp sorted.now }
-    ensures { result ≡ list_any (is_same word.now) sorted.now }
-{
-    sorted.binary_search(word).is_ok()
+    those_among(alloc, &condition.require, &condition.spaces, false)
 }
 
 // The names by their namespaces, and in each as they stand.
@@ -169,52 +148,92 @@ fn run_of<'a>(by_space: &'a [Name], space: &Text) -> &'a [Name]
     &by_space[first..end]
 }
 
-/// The elements' defines after those of the conditions.
-pub fn add_elements(
+/// The defines of a library in order of name, after those of its conditions: of its classes of type `model`, whose members
+/// these are, of its elements and of its macros.
+pub fn library_defines(
     alloc: Global,
     before: Defines,
     library: &Library,
     conditions: &Conditions,
+    members: &MemberTable,
 ) -> Result<Defines, NoMemory>
     requires { AreRising condition_cmp conditions.now }
-    ensures { IfOk result (λ defines. defines ≡ before ++ map (the_component_define library.now conditions.now) library.now.parts) }
+    ensures { IfOk result (λ defines. defines ≡ before ++ component_defines library.now conditions.now (listed_in members.now)) }
 {
     let mut defines = before;
-    for entry in library.parts.entries() {
-        defines.push(component_define(alloc, library, conditions, entry)?)?;
-    }
+    add_classes(alloc, &mut defines, library, members)?;
+    add_elements(alloc, &mut defines, library, conditions, members)?;
+    add_macros(alloc, &mut defines, library, conditions, members)?;
     Ok(defines)
 }
 
-// The define of a component.
-fn component_define(
+// Puts the defines of the classes at the end.
+fn add_classes(
     alloc: Global,
+    defines: &mut Defines,
     library: &Library,
-    conditions: &Conditions,
-    entry: &(Key, Component),
-) -> Result<Define, NoMemory>
-    requires { AreRising condition_cmp conditions.now }
-    ensures { IfOk result (λ define. define ≡ the_component_define library.now conditions.now entry.now) }
+    members: &MemberTable,
+) -> Result<(), NoMemory>
+    ensures { OnOk result (defines.new ≡ defines.old ++ flat_map (class_defines (listed_in members.now)) library.now.parts) }
 {
-    let ident = &entry.0.ident;
-    match &entry.1 {
-        Component::Element(part) => element_define(alloc, library, conditions, ident, part),
-        Component::Class(_) => none_define(alloc, "c.", ident),
-        Component::Macro(_) => none_define(alloc, "m.", ident),
-        Component::Datatype(_) => none_define(alloc, "d.", ident),
+    for (key, _) in library.parts.entries() {
+        if key.kind != Kind::Class {
+            continue;
+        }
+        if let Some(idents) = members.find(&key.ident) {
+            defines.push(class_define(alloc, &key.ident, idents)?)?;
+        }
     }
+    Ok(())
 }
 
-// A define that nothing matches, of a component that no library holds so far.
-fn none_define(alloc: Global, prefix: &str, ident: &Text) -> Result<Define, NoMemory>
-    ensures { IfOk result (λ define. define ≡ the_none_define prefix.now ident.now) }
+// Puts the defines of the elements at the end.
+fn add_elements(
+    alloc: Global,
+    defines: &mut Defines,
+    library: &Library,
+    conditions: &Conditions,
+    members: &MemberTable,
+) -> Result<(), NoMemory>
+    requires { AreRising condition_cmp conditions.now }
+    ensures { OnOk result (defines.new ≡ defines.old ++ flat_map (element_defines library.now conditions.now (listed_in members.now)) library.now.parts) }
 {
-    let mut name = Text::from_str(alloc, prefix)?;
-    name.push_str(ident.as_str())?;
-    Ok(Define {
-        name,
-        body: Body::Part(Expr::NotAllowed),
-    })
+    for (key, part) in library.parts.entries() {
+        if let (Kind::Element, Component::Element(part)) = (key.kind, part) {
+            let ident = &key.ident;
+            defines.push(element_define(alloc, library, conditions, members, ident, part)?)?;
+        }
+    }
+    Ok(())
+}
+
+// Puts the defines of the macros at the end.
+fn add_macros(
+    alloc: Global,
+    defines: &mut Defines,
+    library: &Library,
+    conditions: &Conditions,
+    members: &MemberTable,
+) -> Result<(), NoMemory>
+    requires { AreRising condition_cmp conditions.now }
+    ensures { OnOk result (defines.new ≡ defines.old ++ flat_map (macro_defines library.now conditions.now (listed_in members.now)) library.now.parts) }
+{
+    for (key, part) in library.parts.entries() {
+        if let (Kind::Macro, Component::Macro(part)) = (key.kind, part) {
+            let ident = &key.ident;
+            defines.push(macro_define(alloc, library, conditions, members, ident, part)?)?;
+        }
+    }
+    Ok(())
+}
+
+// The define of a class with these members.
+fn class_define(alloc: Global, ident: &Text, members: &Words) -> Result<Define, NoMemory>
+    ensures { IfOk result (λ define. define ≡ the_class_define ident.now members.now) }
+{
+    let name = class_name(alloc, ident)?;
+    let body = Body::Part(references_pattern(alloc, members)?);
+    Ok(Define { name, body })
 }
 
 // The define of an element.
@@ -222,19 +241,19 @@ fn element_define(
     alloc: Global,
     library: &Library,
     conditions: &Conditions,
+    members: &MemberTable,
     ident: &Text,
     part: &ElementPart,
 ) -> Result<Define, NoMemory>
     requires { AreRising condition_cmp conditions.now }
-    ensures name { IfOk result (λ define. define.name ≡ the_define_name ident.now) }
-    ensures body { IfOk result (λ define. define.body ≡ the_element_body library.now conditions.now ident.now part.now) }
+    ensures { IfOk result (λ define. define ≡ the_element_define library.now conditions.now (listed_in members.now) ident.now part.now) }
 {
     let name = define_name(alloc, ident)?;
     let ns = part.ns.copy(alloc)?;
     let local = ident.copy(alloc)?;
     let names = NameClass::One(Name { ns, local });
     let attrs = AttrPart::Listed(Rules::new(alloc));
-    let content = content_pattern(alloc, library, conditions, &part.content)?;
+    let content = content_pattern(alloc, library, conditions, members, &part.content)?;
     Ok(Define {
         name,
         body: Body::Element {
@@ -243,4 +262,21 @@ fn element_define(
             content,
         },
     })
+}
+
+// The define of a macro.
+fn macro_define(
+    alloc: Global,
+    library: &Library,
+    conditions: &Conditions,
+    members: &MemberTable,
+    ident: &Text,
+    part: &OtherPart,
+) -> Result<Define, NoMemory>
+    requires { AreRising condition_cmp conditions.now }
+    ensures { IfOk result (λ define. define ≡ the_macro_define library.now conditions.now (listed_in members.now) ident.now part.now) }
+{
+    let name = macro_name(alloc, ident)?;
+    let body = Body::Part(content_pattern(alloc, library, conditions, members, &part.content)?);
+    Ok(Define { name, body })
 }

@@ -1,5 +1,7 @@
 ghost use Rattle.std.specs.Prelude.{◌≡◌, ◌≢◌, ◌<◌, ◌^◌, ℕ, suc, List, [], ◌∷◌, ◌++◌, length, Err, IfOk, IsOk};
+ghost use Rattle.odd_base.specs.declared.key.Key.{Key as AKey};
 ghost use Rattle.odd_base.specs.declared.offence.Offence.{Offence as AnOffence};
+ghost use Rattle.odd_meaning.specs.Rules.{Breaks};
 ghost use Rattle.odd_modes.specs.After.{IsLibraryAfter};
 ghost use Rattle.odd_chain.specs.Files.{AreAllRead, AreDeclared, Gives, IsChainRefusal, IsFirstPending};
 ghost use Rattle.odd_chain.specs.Offences.{OffendsIn};
@@ -67,6 +69,7 @@ impl Chain {
         ensures not_yet { (file : ℕ) → result ≡ Err (ChainRefusal.NotYet file) → (trees : List ATree) → IsChainOf self trees → IsFirstPending trees file }
         ensures all_read { (offence : AnOffence) → result ≡ Err (ChainRefusal.Offence offence) → (trees : List ATree) → IsChainOf self trees → AreAllRead trees }
         ensures offence { (offence : AnOffence) → result ≡ Err (ChainRefusal.Offence offence) → (trees : List ATree) → IsChainOf self trees → IsChainRefusal trees offence }
+        ensures unbroken { IfOk result (λ library. (key : AKey) (rule : ℕ) → Breaks library key rule → ⊥) }
     {
         match self {
             Chain::Whole { docs } => merged(alloc, &docs),
@@ -119,6 +122,7 @@ fn merged(alloc: Global, docs: &OddDocs) -> Result<Library, ChainRefusal>
     ensures sound { IsOk result → (file : ℕ) (at : Position) → OffendsIn docs.now file at → ⊥ }
     ensures offence { (offence : AnOffence) → result ≡ Err (ChainRefusal.Offence offence) → IsFirst (OffendsIn docs.now) offence }
     ensures read { (file : ℕ) → result ≢ Err (ChainRefusal.NotYet file) }
+    ensures unbroken { IfOk result (λ library. (key : AKey) (rule : ℕ) → Breaks library key rule → ⊥) }
 {
     match merge(alloc, docs) {
         Ok(library) => Ok(library),

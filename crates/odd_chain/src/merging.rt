@@ -26,6 +26,7 @@ pub fn merge(alloc: Global, docs: &OddDocs) -> Result<Library, OddRefusal>
     ensures sound { IsOk result → (file : ℕ) (at : Position) → OffendsIn docs.now file at → ⊥ }
     ensures offence { (offence : AnOffence) → result ≡ Err (OddRefusal.Offence offence) → IsFirst (OffendsIn docs.now) offence }
     ensures read { result ≢ Err OddRefusal.NotYet }
+    ensures unbroken { IfOk result (λ library. (key : AKey) (rule : ℕ) → Breaks library key rule → ⊥) }
 {
     let mut library = Library::empty(alloc)?;
     let mut file = 0u32;

@@ -20,7 +20,7 @@ class_among words key s =
     All-contains is (map class_key words) key (All-map is class_key words (All-from_get_or (λ w. is (class_key w)) words [] (λ i h. refl))) (contained (map class_key words) key s)
 
 -- and what stands among those that are macros is one
-macro_among : (keys : List Key) (key : Key) → StandsIn (filter (λ k. is_macro k.kind) keys) key → key ≡ macro_key key.ident
+pub macro_among : (keys : List Key) (key : Key) → StandsIn (filter (λ k. is_macro k.kind) keys) key → key ≡ macro_key key.ident
 macro_among keys key s =
     let test = λ (k : Key). is_macro k.kind in
     let passed = All-contains (λ k. test k ≡ true) (filter test keys) key (filter_passes test keys) (contained (filter test keys) key s) in

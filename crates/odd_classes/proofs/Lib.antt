@@ -1,12 +1,16 @@
 mod ArrowsFound
+mod ClassListed
 mod CycleRules
 mod FirstBreaks
 mod Linked
 mod Looping
+mod MacroRanks
+mod MacrosOrdered
 mod MarkedElements
 mod MembersReached
-mod NamedParts
+pub mod NamedParts
 mod OneMore
 mod Places
 mod PlacesPut
+mod TableSoFar
 mod WrongNames

@@ -48,7 +48,7 @@ module _ (keys_of : Component → List Key) (library : Library) (up : IsTrue (is
       )
 
   -- and a link is an arrow of their places
-  link_arrow : (key other : Key) (place : ℕ) → IsPlaceOf place key → IsLinked keys_of library key other → (next : ℕ) × IsPlaceOf next other × HasArrow arrows place next
+  pub link_arrow : (key other : Key) (place : ℕ) → IsPlaceOf place key → IsLinked keys_of library key other → (next : ℕ) × IsPlaceOf next other × HasArrow arrows place next
   link_arrow key other place (part, at) l =
       let found = held other library l.other_held in
       let there = held_at library.parts other found.0 found.1 in

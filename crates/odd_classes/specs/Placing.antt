@@ -4,9 +4,12 @@ use Rattle.std.specs.FinMap.{find}
 use Rattle.std.specs.declared.cmp.Ordering.TheVariants.{Greater}
 use Rattle.odd_base.specs.Key.{key_cmp}
 use Rattle.odd_base.specs.declared.key.Key.{Key}
-use Rattle.odd_graph.specs.Graph.{Chained, HasArrow}
+use Rattle.odd_graph.specs.Graph.{Chained, HasArrow, Leads}
 use Rattle.odd_reader.specs.Elements.{StandsIn}
+use Rattle.odd_decls.specs.Odd.{element_key}
 use Rattle.odd_decls.specs.declared.library.Component.{Component}
+use Rattle.odd_decls.specs.declared.library.Component.TheVariants as component
+use Rattle.odd_decls.specs.declared.library.ElementPart.{ElementPart}
 use Rattle.odd_decls.specs.declared.library.Library.{Library}
 use Rattle.odd_meaning.specs.Links.{IsHeld, IsLinked, class_key, classes_of, macro_key, macros_of}
 use Rattle.odd_meaning.specs.Rules.{IsOfAttributes, Names}
@@ -37,6 +40,16 @@ pub record IsGraphOf (keys_of : Component → List Key) (entries : List (Key × 
   pub as_many : length arrows ≡ length entries
   pub leads : (place next : ℕ) (key other : Key) (part otherpart : Component) → IsEntryAt entries place key part → IsEntryAt entries next other otherpart
       → HasArrow arrows place next ↔ StandsIn (keys_of part) other
+
+-- the same with its arrows turned round
+pub record IsTurnedGraphOf (keys_of : Component → List Key) (entries : List (Key × Component)) (back : List (List ℕ)) : Type 0 where
+  pub arrows : List (List ℕ)
+  pub graph : IsGraphOf keys_of entries arrows
+  pub turned : (node next : ℕ) → HasArrow back next node ↔ HasArrow arrows node next
+
+-- the element has a place that this one leads to
+abbrev pub IsReachedFrom : List (Key × Component) → List (List ℕ) → ℕ → List ℕ → Type 0
+IsReachedFrom entries arrows place ident = (from : ℕ) × (part : ElementPart) × IsEntryAt entries from (element_key ident) (component.Element part) × Leads arrows place from
 
 -- a content may not name the key
 abbrev pub IsWrong : Library → Wrong → Key → Type 0

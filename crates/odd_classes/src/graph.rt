@@ -4,12 +4,12 @@ ghost use Rattle.std.specs.List.{Contains};
 ghost use Rattle.odd_base.specs.Key.{key_cmp};
 ghost use Rattle.odd_base.specs.declared.key.Key.{Key as AKey};
 ghost use Rattle.odd_reader.specs.Elements.{StandsIn};
-ghost use Rattle.odd_classes.specs.Placing.{ArePlacesOf, IsGraphOf, keys_by};
+ghost use Rattle.odd_classes.specs.Placing.{ArePlacesOf, IsGraphOf, IsTurnedGraphOf, keys_by};
 
 use crate::links::{Link, linked};
 use odd_base::{Key, Map, NoMemory, TryCopy};
 use odd_decls::Component;
-use odd_graph::Nodes;
+use odd_graph::{Nodes, turned};
 use std::alloc::Global;
 
 /// For each key its place among the entries of a library, counted from 0.
@@ -30,6 +30,19 @@ pub fn graph_by(
         arrows.push(arrows_of(alloc, link, part, &places)?)?;
     }
     Ok(arrows)
+}
+
+/// The same with its arrows turned round.
+pub fn turned_by(
+    alloc: Global,
+    link: Link,
+    entries: &[(Key, Component)],
+) -> Result<Vec<Nodes>, NoMemory>
+    requires { IsTrue (is_sorted key_cmp entries.now) }
+    ensures { IfOk result (λ back. IsTurnedGraphOf (keys_by link) entries.now back.items) }
+{
+    let arrows = graph_by(alloc, link, entries)?;
+    turned(alloc, arrows.as_slice())
 }
 
 /// The places of the keys of entries.

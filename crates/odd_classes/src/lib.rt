@@ -1,13 +1,17 @@
-//! Which elements are members of a class, and which libraries have a class that is a member of itself, or a macro that reaches
-//! itself.
+//! Which elements are members of a class, in which order macros stand in one another, and which libraries have a class that is
+//! a member of itself, or a macro that reaches itself.
 #![tactic(auto)]
 
 mod class_members;
 mod cycles;
 mod graph;
 mod links;
+mod macro_order;
+mod member_table;
 mod rules;
 
 pub use class_members::members;
 pub use cycles::{CycleRefusal, check_cycles};
+pub use macro_order::in_macro_order;
+pub use member_table::{MemberTable, TableRefusal, members_by_class};
 pub use rules::{LibraryRefusal, check_library};

@@ -1,3 +1,4 @@
 pub mod Breaking
 pub mod Excepting
 pub mod Giving
+pub mod Picking

@@ -171,36 +171,34 @@ att_list_in_desc = IsPending.form (in_child outermost _ _ (elements_are (part (c
 other_ident : IsPending (element 0 (codes "schemaSpec") [] (part (codes "altIdent") ∷ []))
 other_ident = IsPending.form (in_child outermost _ _ (elements_are (part (codes "altIdent") ∷ [])) (pending.here (pending.attributes refl)))
 
--- references outside a `content` are read, also to what is no element, and so are the parts of a `content`
+-- references outside a `content` are read, also to a datatype, and so are the parts of a `content`
 abbrev referring : List Tree
-referring = part (codes "moduleRef") ∷ part (codes "elementRef") ∷ part (codes "classRef") ∷ []
+referring = part (codes "moduleRef") ∷ part (codes "elementRef") ∷ part (codes "dataRef") ∷ []
 
 references_read : HoldsNone outermost (p_with referring)
-references_read = none_held _ _ referring (elements_are referring) (plain _ _ refl) (leaf (plain _ _ refl), (leaf (plain _ _ refl), (leaf class_outside, tt)))
+references_read = none_held _ _ referring (elements_are referring) (plain _ _ refl) (leaf (plain _ _ refl), (leaf (plain _ _ refl), (leaf data_outside, tt)))
   where
     leaf : {local : List ℕ} → (IsForm outermost (part local) → ⊥) → HoldsNone outermost (part local)
     leaf none = none_held _ _ [] refl none tt
 
-    class_outside : IsForm outermost (part (codes "classRef")) → ⊥
-    class_outside (pending.classes is) = false≢true is
-    class_outside (pending.members inside is) = false≢true inside
-    class_outside (pending.attributes is) = false≢true is
-    class_outside (pending.datatypes is) = false≢true is
-    class_outside (pending.data_in_content inside is) = false≢true inside
-    class_outside (pending.groups is) = false≢true is
+    data_outside : IsForm outermost (part (codes "dataRef")) → ⊥
+    data_outside (pending.attributes is) = false≢true is
+    data_outside (pending.datatypes is) = false≢true is
+    data_outside (pending.data_in_content inside is) = false≢true inside
+    data_outside (pending.groups is) = false≢true is
 
 parts_in_content : HoldsNone outermost (content_with (part (codes "sequence") ∷ []))
 parts_in_content =
     none_held _ _ (part (codes "sequence") ∷ []) (elements_are (part (codes "sequence") ∷ [])) (plain _ _ refl) (none_held _ _ [] refl (plain _ _ refl) tt, tt)
 
--- a `classRef` in a `p` in a `content`, by the row of members
-abbrev class_in_p : Tree
-class_in_p = p_with (part (codes "classRef") ∷ [])
+-- a `dataRef` in a `p` in a `content`
+abbrev data_in_p : Tree
+data_in_p = p_with (part (codes "dataRef") ∷ [])
 
-class_in_content : IsPending (content_with (class_in_p ∷ []))
-class_in_content =
-    IsPending.form (in_child outermost _ _ (elements_are (class_in_p ∷ []))
-    (in_child _ _ _ (elements_are (part (codes "classRef") ∷ [])) (pending.here (pending.members refl refl))))
+data_in_content : IsPending (content_with (data_in_p ∷ []))
+data_in_content =
+    IsPending.form (in_child outermost _ _ (elements_are (data_in_p ∷ []))
+    (in_child _ _ _ (elements_are (part (codes "dataRef") ∷ [])) (pending.here (pending.data_in_content refl refl))))
 
 -- a file without a `schemaSpec`
 no_schema_pending : IsPending (element 0 (codes "TEI") [] [])

@@ -18,9 +18,7 @@ Row = Bool × List (List ℕ)
 -- the rows of what is not read yet
 abbrev rows : Bool → List Row
 rows in_content =
-    (true, codes "classSpec" ∷ codes "macroSpec" ∷ codes "classes" ∷ [])
-    ∷ (in_content, codes "classRef" ∷ codes "macroRef" ∷ [])
-    ∷ (true, codes "attList" ∷ codes "altIdent" ∷ [])
+    (true, codes "attList" ∷ codes "altIdent" ∷ [])
     ∷ (true, codes "dataSpec" ∷ codes "datatype" ∷ codes "valList" ∷ [])
     ∷ (in_content, codes "dataRef" ∷ [])
     ∷ (true, codes "specGrp" ∷ codes "specGrpRef" ∷ [])
@@ -47,18 +45,15 @@ row_from in_content t place h =
 -- an element of a row is such a form
 pub row_form : (in_content : Bool) (t : Tree) → in_row in_content t ≡ true → IsForm in_content t
 row_form in_content t =
-    (λ h. pending.classes h)
-    or_else (λ h. let p = and_parts _ _ h in pending.members p.0 p.1) or_else (λ h. pending.attributes h) or_else (λ h. pending.datatypes h)
+    (λ h. pending.attributes h) or_else (λ h. pending.datatypes h)
     or_else (λ h. let p = and_parts _ _ h in pending.data_in_content p.0 p.1) or_else (λ h. pending.groups h) or_else (λ none. absurd (false≢true none))
 
 -- and such a form is of a row
 pub form_row : (in_content : Bool) (t : Tree) → IsForm in_content t → in_row in_content t ≡ true
-form_row in_content t (pending.classes h) = row_from in_content t 0 (or_left _ _ h)
-form_row in_content t (pending.members c h) = row_from in_content t 1 (or_left _ _ (and_from _ _ c h))
-form_row in_content t (pending.attributes h) = row_from in_content t 2 (or_left _ _ h)
-form_row in_content t (pending.datatypes h) = row_from in_content t 3 (or_left _ _ h)
-form_row in_content t (pending.data_in_content c h) = row_from in_content t 4 (or_left _ _ (and_from _ _ c h))
-form_row in_content t (pending.groups h) = row_from in_content t 5 (or_left _ _ h)
+form_row in_content t (pending.attributes h) = row_from in_content t 0 (or_left _ _ h)
+form_row in_content t (pending.datatypes h) = row_from in_content t 1 (or_left _ _ h)
+form_row in_content t (pending.data_in_content c h) = row_from in_content t 2 (or_left _ _ (and_from _ _ c h))
+form_row in_content t (pending.groups h) = row_from in_content t 3 (or_left _ _ h)
 
 -- some of the elements holds such a form
 abbrev pub SomeHolds : Bool → List Tree → Type 0

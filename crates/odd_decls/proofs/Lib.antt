@@ -2,7 +2,6 @@ pub mod Examples
 pub mod Finding
 pub mod FirstFaults
 pub mod FoundFormed
-pub mod HeldForms
 pub mod Holding
 pub mod ItemEntries
 pub mod ItemFaults

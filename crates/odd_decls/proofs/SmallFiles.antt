@@ -143,13 +143,10 @@ none_of words more t all not is =
 
 -- the names of the rows
 abbrev row_names : List (List ℕ)
-row_names = codes "classRef" ∷ codes "macroRef" ∷ codes "dataRef" ∷ codes "classSpec" ∷ codes "macroSpec" ∷ codes "classes" ∷ codes "attList"
-    ∷ codes "altIdent" ∷ codes "dataSpec" ∷ codes "datatype" ∷ codes "valList" ∷ codes "specGrp" ∷ codes "specGrpRef" ∷ []
+row_names = codes "dataRef" ∷ codes "attList" ∷ codes "altIdent" ∷ codes "dataSpec" ∷ codes "datatype" ∷ codes "valList" ∷ codes "specGrp" ∷ codes "specGrpRef" ∷ []
 
 -- an element of none of them is no form
 pub plain : (a : Bool) (t : Tree) → is_one_of row_names t ≡ false → IsForm a t → ⊥
-plain a t not (IsForm.classes is) = none_of (codes "classSpec" ∷ codes "macroSpec" ∷ codes "classes" ∷ []) row_names t refl not is
-plain a t not (IsForm.members c is) = none_of (codes "classRef" ∷ codes "macroRef" ∷ []) row_names t refl not is
 plain a t not (IsForm.attributes is) = none_of (codes "attList" ∷ codes "altIdent" ∷ []) row_names t refl not is
 plain a t not (IsForm.datatypes is) = none_of (codes "dataSpec" ∷ codes "datatype" ∷ codes "valList" ∷ []) row_names t refl not is
 plain a t not (IsForm.data_in_content c is) = none_of (codes "dataRef" ∷ []) row_names t refl not is

@@ -15,9 +15,6 @@ outermost = false
 
 -- An element that is not read yet, one sentence for each row.
 pub data IsForm (in_content : Bool) (t : Tree) : Type 0 where
-  -- classes and macros
-  classes : IsTrue (is_one_of (codes "classSpec" ∷ codes "macroSpec" ∷ codes "classes" ∷ []) t) → IsForm in_content t
-  members : in_content ≡ true → IsTrue (is_one_of (codes "classRef" ∷ codes "macroRef" ∷ []) t) → IsForm in_content t
   -- attributes
   attributes : IsTrue (is_one_of (codes "attList" ∷ codes "altIdent" ∷ []) t) → IsForm in_content t
   -- datatypes and values

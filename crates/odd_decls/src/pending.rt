@@ -37,9 +37,7 @@ fn is_form(tree: &Tree, in_content: bool) -> bool
     ensures { IsTrue result ↔ IsForm in_content tree.now }
 {
     // whether a row speaks of an element that stands here, and its names
-    let rows: [(bool, &[&str]); 6] = [
-        (true, &["classSpec", "macroSpec", "classes"]),
-        (in_content, &["classRef", "macroRef"]),
+    let rows: [(bool, &[&str]); 4] = [
         (true, &["attList", "altIdent"]),
         (true, &["dataSpec", "datatype", "valList"]),
         (in_content, &["dataRef"]),

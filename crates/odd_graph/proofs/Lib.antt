@@ -1,3 +1,4 @@
+mod AllPlaced
 mod ArrowsTurned
 pub mod Chains
 mod Leads
@@ -5,4 +6,6 @@ mod NodeAdded
 mod NodesMarked
 mod NodesReached
 mod OneMore
+mod Placed
+pub mod Ranked
 mod Trimmed

@@ -1,4 +1,6 @@
 pub mod Adding
 pub mod Graph
 pub mod Marking
+pub mod Ordering
+pub mod Placing
 pub mod Searching

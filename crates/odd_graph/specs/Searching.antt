@@ -1,5 +1,5 @@
 -- What the private functions of this crate keep of the nodes of a graph.
-use Rattle.std.specs.Prelude.{◌↔◌, ◌<◌, ◌+◌, ℕ, Bool, false, not, List, [], length, count_by, get_or, IsTrue}
+use Rattle.std.specs.Prelude.{◌≡◌, ◌↔◌, ◌<◌, ◌+◌, ℕ, Bool, false, not, List, [], length, count_by, get_or, IsTrue}
 use Rattle.odd_graph.specs.Graph.{HasArrow, Leads}
 use Rattle.odd_graph.specs.declared.trimming.Trimming.{Trimming}
 
@@ -18,6 +18,14 @@ AreOnNone arrows left = (node : ℕ) → Leads arrows node node → IsMarked lef
 -- no arrow of the node leads to one that is left
 abbrev pub IsFree : List (List ℕ) → List Bool → ℕ → Type 0
 IsFree arrows left node = (next : ℕ) → HasArrow arrows node next → IsMarked left next → ⊥
+
+-- an arrow of the node leads to one that is left
+abbrev pub IsHeld : List (List ℕ) → List Bool → ℕ → Type 0
+IsHeld arrows left node = (next : ℕ) × HasArrow arrows node next × IsMarked left next
+
+-- each node has a place that was passed, and a mark
+abbrev pub AreOfAll : List (List ℕ) → List ℕ → List Bool → Type 0
+AreOfAll arrows passed left = (length passed ≡ length arrows) × (length left ≡ length arrows)
 
 -- of each node the arrows before the place that was passed lead to none that is left
 abbrev pub ArePassed : List (List ℕ) → List ℕ → List Bool → Type 0

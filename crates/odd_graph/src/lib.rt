@@ -1,13 +1,15 @@
-//! Graphs: which nodes one leads to, and the first node that leads to itself.
+//! Graphs: which nodes one leads to, the first node that leads to itself, and an order of those that lead to no cycle.
 #![tactic(auto)]
 
 mod cycles;
+mod ordering;
 mod search;
 mod trimming;
 mod turning;
 
 pub use cycles::first_on_cycle;
 use odd_base::Seq;
+pub use ordering::ordered;
 pub use search::reached;
 pub use turning::turned;
 

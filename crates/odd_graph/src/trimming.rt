@@ -1,6 +1,6 @@
-ghost use Rattle.std.specs.Prelude.{◌≡◌, ◌↔◌, ℕ, Bool, List, IfOk, IsTrue};
+ghost use Rattle.std.specs.Prelude.{◌≡◌, ◌↔◌, ℕ, Bool, false, List, length, IfOk, IsTrue};
 ghost use Rattle.odd_graph.specs.Graph.{HasArrow, Leads};
-ghost use Rattle.odd_graph.specs.Searching.{ArePassed, IsFree, IsMarked, Trims};
+ghost use Rattle.odd_graph.specs.Searching.{AreOfAll, ArePassed, IsFree, IsHeld, IsMarked, Trims};
 
 use crate::Nodes;
 use odd_base::NoMemory;
@@ -15,20 +15,23 @@ pub struct Side<'a> {
 }
 
 impl<'a> Side<'a> {
-    // A side of which no arrow is passed.
-    fn new(alloc: Global, arrows: &'a [Nodes]) -> Result<Side<'a>, NoMemory>
+    /// A side of which no arrow is passed.
+    pub fn new(alloc: Global, arrows: &'a [Nodes]) -> Result<Side<'a>, NoMemory>
         ensures arrows { IfOk result (λ side. side.arrows.now ≡ arrows.now) }
         ensures passed { IfOk result (λ side. (left : List Bool) → ArePassed side.arrows.now side.passed.items left) }
+        ensures length { IfOk result (λ side. length side.passed.items ≡ length arrows.now) }
     {
         let passed = vec![in alloc; 0; arrows.len()]?;
         Ok(Side { arrows, passed })
     }
 
-    // Whether no arrow of a node leads to one that is left. It goes on from where it was asked last.
-    fn is_free(&mut self, left: &[bool], node: usize) -> bool
+    /// Whether no arrow of a node leads to one that is left. It goes on from where it was asked last.
+    pub fn is_free(&mut self, left: &[bool], node: usize) -> bool
         requires { ArePassed self.old.arrows.now self.old.passed.items left.now }
         ensures free { IsTrue result → IsFree self.old.arrows.now left.now node }
+        ensures held { result ≡ false → AreOfAll self.old.arrows.now self.old.passed.items left.now → IsMarked left.now node → IsHeld self.old.arrows.now left.now node }
         ensures passed { ArePassed self.new.arrows.now self.new.passed.items left.now }
+        ensures length { length self.new.passed.items ≡ length self.old.passed.items }
         ensures same { self.new.arrows ≡ self.old.arrows }
     {
         let (Some(nexts), Some(passed)) = (self.arrows.get(node), self.passed.get_mut(node)) else {
@@ -45,8 +48,8 @@ impl<'a> Side<'a> {
     }
 }
 
-// Whether a node has a mark.
-fn is_marked(marks: &[bool], node: usize) -> bool
+/// Whether a node has a mark.
+pub fn is_marked(marks: &[bool], node: usize) -> bool
     ensures { IsTrue result ↔ IsMarked marks.now node }
 {
     marks.get(node) == Some(&true)

@@ -2,5 +2,6 @@ pub mod AdmissionExamples
 pub mod ConditionExamples
 pub mod ExampleTrees
 pub mod Examples
+pub mod Idle
 pub mod Rows
 pub mod ValidityExamples

@@ -6,7 +6,8 @@ use Rattle.odd_reader.specs.declared.tree.Node.{Node}
 use Rattle.rng_values.specs.declared.bounds.Bounds.{Bounds}
 use Rattle.odd_content.specs.declared.content.Content.{Content, Sequence, Alternate, Row_of-Content, end_of-Content, more_of-Content, items-the_row-Content, items_hidden-the_row-Content-0}
 use Rattle.odd_content.specs.declared.content.Content.TheBlock.{hidden-the_row-Content-0}
-use Rattle.odd_meaning.specs.Contents.{Admits, InOrder, ByOne, IsWithin}
+use Rattle.odd_decls.specs.declared.library.Library.{Library}
+use Rattle.odd_meaning.specs.Contents.{AdmitsBy, ByOne, InOrder, IsWithin, Macros}
 use Rattle.odd_meaning.specs.Labels.{Label}
 
 -- one piece a part, in order
@@ -19,20 +20,6 @@ abbrev pub OneOf : (Content → List Node → Type 0) → List Content → List 
 OneOf P [] w = ⊥
 OneOf P (part ∷ parts) w = P part w ⊎ OneOf P parts w
 
-in_order_rows : {n : _} (m : Marking Label) (row : Row_of-Content n) (w : List Node) → InOrder m row w ↔ EachInOrder (Admits m) (items-the_row-Content n row) w
-in_order_rows m end_of-Content w = (λ h. h, λ h. h)
-in_order_rows m (more_of-Content part row) w = (
-  λ h. record { left = h.left; right = h.right; split = h.split; first = h.first; second = (in_order_rows m row h.right).0 h.second },
-  λ h. record { left = h.left; right = h.right; split = h.split; first = h.first; second = (in_order_rows m row h.right).1 h.second },
-)
-
-by_one_rows : {n : _} (m : Marking Label) (row : Row_of-Content n) (w : List Node) → ByOne m row w ↔ OneOf (Admits m) (items-the_row-Content n row) w
-by_one_rows m end_of-Content w = (λ h. h, λ h. h)
-by_one_rows m (more_of-Content part row) w = (
-  λ h. elim h [ inl x ↦ inl x | inr y ↦ inr ((by_one_rows m row w).0 y) ],
-  λ h. elim h [ inl x ↦ inl x | inr y ↦ inr ((by_one_rows m row w).1 y) ],
-)
-
 pieces_weaker : {C : Type 0} (P Q : List C → Type 0) → ((w : List C) → P w → Q w) → (n : ℕ) (w : List C) → Pieces P n w → Pieces Q n w
 pieces_weaker P Q to zero w h = h
 pieces_weaker P Q to (suc n) w h = record { left = h.left; right = h.right; split = h.split; first = to h.left h.first; second = pieces_weaker P Q to n h.right h.second }
@@ -44,12 +31,27 @@ counted_same Allowed P Q same w = (
   λ h. record { count = h.count; allowed = h.allowed; pieces = pieces_weaker Q P (λ v. (same v).1) h.count w h.pieces },
 )
 
-pub sequence_admits : (m : Marking Label) (parts : List Content) (b : Bounds) (w : List Node) → Admits m (Sequence parts b) w ↔ Counted (IsWithin b) (EachInOrder (Admits m) parts) w
-sequence_admits m parts b w =
-    subst (λ cs. Admits m (Sequence parts b) w ↔ Counted (IsWithin b) (EachInOrder (Admits m) cs) w) (items_hidden-the_row-Content-0 parts)
-    (counted_same (IsWithin b) _ _ (in_order_rows m (hidden-the_row-Content-0 parts)) w)
+module _ (macros : Macros) (library : Library) (m : Marking Label) where
+  in_order_rows : {n : _} (row : Row_of-Content n) (w : List Node) → InOrder macros library m row w ↔ EachInOrder (AdmitsBy macros library m) (items-the_row-Content n row) w
+  in_order_rows end_of-Content w = (λ h. h, λ h. h)
+  in_order_rows (more_of-Content part row) w = (
+    λ h. record { left = h.left; right = h.right; split = h.split; first = h.first; second = (in_order_rows row h.right).0 h.second },
+    λ h. record { left = h.left; right = h.right; split = h.split; first = h.first; second = (in_order_rows row h.right).1 h.second },
+  )
 
-pub alternate_admits : (m : Marking Label) (parts : List Content) (b : Bounds) (w : List Node) → Admits m (Alternate parts b) w ↔ Counted (IsWithin b) (OneOf (Admits m) parts) w
-alternate_admits m parts b w =
-    subst (λ cs. Admits m (Alternate parts b) w ↔ Counted (IsWithin b) (OneOf (Admits m) cs) w) (items_hidden-the_row-Content-0 parts)
-    (counted_same (IsWithin b) _ _ (by_one_rows m (hidden-the_row-Content-0 parts)) w)
+  by_one_rows : {n : _} (row : Row_of-Content n) (w : List Node) → ByOne macros library m row w ↔ OneOf (AdmitsBy macros library m) (items-the_row-Content n row) w
+  by_one_rows end_of-Content w = (λ h. h, λ h. h)
+  by_one_rows (more_of-Content part row) w = (
+    λ h. elim h [ inl x ↦ inl x | inr y ↦ inr ((by_one_rows row w).0 y) ],
+    λ h. elim h [ inl x ↦ inl x | inr y ↦ inr ((by_one_rows row w).1 y) ],
+  )
+
+  pub sequence_admits : (parts : List Content) (b : Bounds) (w : List Node) → AdmitsBy macros library m (Sequence parts b) w ↔ Counted (IsWithin b) (EachInOrder (AdmitsBy macros library m) parts) w
+  sequence_admits parts b w =
+      subst (λ cs. AdmitsBy macros library m (Sequence parts b) w ↔ Counted (IsWithin b) (EachInOrder (AdmitsBy macros library m) cs) w) (items_hidden-the_row-Content-0 parts)
+      (counted_same (IsWithin b) _ _ (in_order_rows (hidden-the_row-Content-0 parts)) w)
+
+  pub alternate_admits : (parts : List Content) (b : Bounds) (w : List Node) → AdmitsBy macros library m (Alternate parts b) w ↔ Counted (IsWithin b) (OneOf (AdmitsBy macros library m) parts) w
+  alternate_admits parts b w =
+      subst (λ cs. AdmitsBy macros library m (Alternate parts b) w ↔ Counted (IsWithin b) (OneOf (AdmitsBy macros library m) cs) w) (items_hidden-the_row-Content-0 parts)
+      (counted_same (IsWithin b) _ _ (by_one_rows (hidden-the_row-Content-0 parts)) w)

@@ -39,7 +39,7 @@ none_there = record { offered = All-nil _; complete = All-nil _ }
 
 -- what an element `a` with these children needs to be valid for the held `a`
 valid : (k : Content) (children kept : List Node) (levels : ℕ) → depth (element (codes "a") [] children) ≡ suc levels → IsSignificant children kept
-    → contents.Admits (counting (IsValidWithin levels (holding (codes "a") k))) k kept → IsValid (holding (codes "a") k) (element (codes "a") [] children) (codes "a")
+    → contents.Admits (holding (codes "a") k) (counting (IsValidWithin levels (holding (codes "a") k))) k kept → IsValid (holding (codes "a") k) (element (codes "a") [] children) (codes "a")
 valid k children kept levels e s m =
     subst (λ n. IsValidWithin n (holding (codes "a") k) (element (codes "a") [] children) (codes "a")) (sym e)
     (record { part = part_in tei_namespace k; held = refl; named = refl; attributed = none_there; children = kept; significant = s; admitted = m })
@@ -62,8 +62,8 @@ the_content : (k : Content) (t : Tree) (counts : Marking Label) (v : IsValidBy c
 the_content k t counts v = ap (λ (p : ElementPart). p.content) (the_part (part_in tei_namespace k) t counts v)
 
 -- so its content admits the significant children
-kept_admitted : (k : Content) (t : Tree) (counts : Marking Label) (v : IsValidBy counts (holding (codes "a") k) t (codes "a")) → contents.Admits counts k v.children
-kept_admitted k t counts v = subst (λ c. contents.Admits counts c v.children) (sym (the_content k t counts v)) v.admitted
+kept_admitted : (k : Content) (t : Tree) (counts : Marking Label) (v : IsValidBy counts (holding (codes "a") k) t (codes "a")) → contents.Admits (holding (codes "a") k) counts k v.children
+kept_admitted k t counts v = subst (λ c. contents.Admits (holding (codes "a") k) counts c v.children) (sym (the_content k t counts v)) v.admitted
 
 -- empty content: no child and white space, no words, no element
 empty_without_children : IsValid (holding (codes "a") content.Empty) (element (codes "a") [] []) (codes "a")
@@ -114,18 +114,18 @@ with_another_name : (k : Content) → IsValid (holding (codes "a") k) leaf (code
 with_another_name k v = apart (codes "b") (codes "a") refl (ap (λ n. n.local) (opened _ _ _ 0 (childless_depth (codes "b") []) v).named)
 
 -- empty content and texts admit no child
-no_child_of_empty : (counts : Marking Label) → contents.Admits counts content.Empty []
-no_child_of_empty counts = refl
+no_child_of_empty : (library : Library) (counts : Marking Label) → contents.Admits library counts content.Empty []
+no_child_of_empty library counts = refl
 
-no_child_of_text : (counts : Marking Label) → contents.Admits counts content.Text []
-no_child_of_text counts = refl
+no_child_of_text : (library : Library) (counts : Marking Label) → contents.Admits library counts content.Text []
+no_child_of_text library counts = refl
 
 -- where a content admits no child, an element of the part's namespace is valid that has none
-childless : (ns : List ℕ) (k : Content) → ((counts : Marking Label) → contents.Admits counts k [])
+childless : (ns : List ℕ) (k : Content) → ((library : Library) (counts : Marking Label) → contents.Admits library counts k [])
     → IsValid (holding_part (codes "a") (part_in ns k)) (element_in ns (codes "a") []) (codes "a")
 childless ns k h =
     subst (λ n. IsValidWithin n (holding_part (codes "a") (part_in ns k)) (element_in ns (codes "a") []) (codes "a")) (sym (bare_depth ns (codes "a")))
-    (record { part = part_in ns k; held = refl; named = refl; attributed = none_there; children = []; significant = none_counts; admitted = h _ })
+    (record { part = part_in ns k; held = refl; named = refl; attributed = none_there; children = []; significant = none_counts; admitted = h (holding_part (codes "a") (part_in ns k)) (counting (IsValidWithin 0 (holding_part (codes "a") (part_in ns k)))) })
 
 -- so in the namespace of its part, whichever that is, an element is valid
 empty_in_its_namespace : (ns : List ℕ) → IsValid (holding_part (codes "a") (part_in ns content.Empty)) (element_in ns (codes "a") []) (codes "a")

@@ -32,7 +32,7 @@ pub record IsValidBy (counts : Marking Label) (library : Library) (t : Tree) (id
   pub attributed : AreOffered (offers_of library ident) (out-Tree t).attrs
   pub children : List Node
   pub significant : IsSignificant (out-Tree t).children children
-  pub admitted : contents.Admits counts part.content children
+  pub admitted : contents.Admits library counts part.content children
 
 -- an element counts for the held elements for which it is valid, and for the conditions that it meets throughout
 abbrev pub counting : (Tree → List ℕ → Type 0) → Marking Label

@@ -13,10 +13,11 @@ use Rattle.odd_base.specs.declared.key.Kind.{Kind}
 use Rattle.odd_base.specs.declared.key.Kind.TheVariants as kind
 use Rattle.odd_tokens.specs.Same.{is_same}
 use Rattle.odd_reader.proofs.BuildingBindings.{is_at_text}
+use Rattle.odd_content.specs.Picking.{is_picked}
 use Rattle.odd_content.specs.declared.content.Pick.{Pick}
 use Rattle.odd_decls.specs.Library.{module_of}
 use Rattle.odd_decls.specs.declared.library.Component.{Component}
-use Rattle.odd_modes.specs.Choosing.{is_named, is_taken}
+use Rattle.odd_modes.specs.Choosing.{is_taken}
 use Rattle.odd_modes.specs.Index.{is_listed, is_taken_of, names}
 use Rattle.odd_modes.specs.declared.named.Named.{Named}
 use Rattle.odd_modes.specs.declared.named.Named.TheVariants as named
@@ -33,9 +34,9 @@ named_before (Some n) none empty ident = refl
 
 -- what is taken of a module with one reference to it more
 taken_more : (old : Option Named) (before more : Named) (p : Pick) → ((ident : List ℕ) → names before ident ≡ is_taken_of old kind.Element ident)
-    → ((ident : List ℕ) → names more ident ≡ (names before ident || is_named p ident)) → (of_kind : Kind) (ident : List ℕ)
+    → ((ident : List ℕ) → names more ident ≡ (names before ident || is_picked p ident)) → (of_kind : Kind) (ident : List ℕ)
     → is_taken_of (Some more) of_kind ident ≡ (is_taken_of old of_kind ident || is_taken p of_kind ident)
-taken_more old before more p was joins kind.Element ident = joins ident ∙ ap (λ b. b || is_named p ident) (was ident)
+taken_more old before more p was joins kind.Element ident = joins ident ∙ ap (λ b. b || is_picked p ident) (was ident)
 taken_more None before more p was joins of_kind ident = refl
 taken_more (Some n) before more p was joins of_kind ident = refl
 
@@ -48,7 +49,7 @@ put_again false more old = refl
 pub listed_more : (old new : References) (name : List ℕ) (before more : Named) (p : Pick) → new.keys ≡ old.keys
     → ((other : List ℕ) → named_of new other ≡ cond (is_at (text_cmp name) other) (Some more) (named_of old other))
     → ((ident : List ℕ) → names before ident ≡ is_taken_of (named_of old name) kind.Element ident)
-    → ((ident : List ℕ) → names more ident ≡ (names before ident || is_named p ident)) → (key : Key) (part : Component)
+    → ((ident : List ℕ) → names more ident ≡ (names before ident || is_picked p ident)) → (key : Key) (part : Component)
     → is_listed new key part ≡ (is_listed old key part || (is_same name (module_of part) && is_taken p key.kind key.ident))
 listed_more old new name before more p keys put was joins key part =
     ap (λ (ks : BTreeSet Key). contains key_cmp ks key || is_taken_of (named_of new (module_of part)) key.kind key.ident) keys

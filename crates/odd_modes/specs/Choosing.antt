@@ -1,5 +1,5 @@
 -- Which components of the library before it a file chooses.
-use Rattle.std.specs.Prelude.{◌≡◌, ℕ, Bool, true, false, ◌&&◌, not, List, Some, IsTrue}
+use Rattle.std.specs.Prelude.{◌≡◌, ℕ, Bool, true, false, ◌&&◌, List, Some, IsTrue}
 use Rattle.std.specs.FinMap.{find}
 use Rattle.std.specs.List.{list_any}
 use Rattle.std.specs.Ordering.{eq_by_cmp}
@@ -8,9 +8,8 @@ use Rattle.odd_base.specs.declared.key.Key.{Key}
 use Rattle.odd_base.specs.declared.key.Kind.{Kind}
 use Rattle.odd_base.specs.declared.key.Kind.TheVariants as kind
 use Rattle.odd_tokens.specs.Same.{is_same}
-use Rattle.odd_forms.specs.Words.{is_among}
+use Rattle.odd_content.specs.Picking.{is_picked}
 use Rattle.odd_content.specs.declared.content.Pick.{Pick}
-use Rattle.odd_content.specs.declared.content.Pick.TheVariants as pick
 use Rattle.odd_decls.specs.Library.{module_of}
 use Rattle.odd_decls.specs.declared.library.Component.{Component}
 use Rattle.odd_decls.specs.declared.library.Library.{Library}
@@ -18,15 +17,9 @@ use Rattle.odd_decls.specs.declared.odd.Entry.{Entry}
 use Rattle.odd_decls.specs.declared.odd.Entry.TheVariants as entry
 use Rattle.odd_decls.specs.declared.odd.OddDoc.{OddDoc}
 
--- which idents of elements a reference names: all, those of `include`, or all but those of `except`
-abbrev pub is_named : Pick → List ℕ → Bool
-is_named pick.All ident = true
-is_named (pick.Include words) ident = is_among words ident
-is_named (pick.Except words) ident = not (is_among words ident)
-
 -- a reference to a module takes the elements that it names, and what is no element in either case
 abbrev pub is_taken : Pick → Kind → List ℕ → Bool
-is_taken p kind.Element ident = is_named p ident
+is_taken p kind.Element ident = is_picked p ident
 is_taken p kind.Class ident = true
 is_taken p kind.Macro ident = true
 is_taken p kind.Datatype ident = true

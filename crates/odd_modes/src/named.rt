@@ -1,6 +1,6 @@
 ghost use Rattle.std.specs.Prelude.{◌≡◌, ◌&&◌, ◌||◌, not, ℕ, List, IfOk, if◌then◌else◌};
 ghost use Rattle.odd_forms.specs.Words.{is_among};
-ghost use Rattle.odd_modes.specs.Choosing.{is_named};
+ghost use Rattle.odd_content.specs.Picking.{is_picked};
 ghost use Rattle.odd_modes.specs.Index.{has_text, names};
 
 use odd_base::{NoMemory, Words};
@@ -30,7 +30,7 @@ impl<'a> Named<'a> {
 
     /// Those that are named, and those that one more reference names.
     pub fn and(self, alloc: Global, pick: &'a Pick) -> Result<Named<'a>, NoMemory>
-        ensures { IfOk result (λ made. (ident : List ℕ) → names made ident ≡ (names self.entry ident || is_named pick.entry.now ident)) }
+        ensures { IfOk result (λ made. (ident : List ℕ) → names made ident ≡ (names self.entry ident || is_picked pick.entry.now ident)) }
     {
         match (self, pick) {
             (_, Pick::All) => Ok(Named::AllBut(BTreeSet::new(alloc))),

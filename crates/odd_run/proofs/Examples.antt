@@ -57,9 +57,14 @@ use Rattle.rng_emit.proofs.Shapes.{empty_is, ref_is}
 use Rattle.odd_reader.specs.Markup.{Markup, element as element_with, file_printed}
 use Rattle.rng_patterns.specs.declared.grammar.Grammar.{Grammar}
 use Rattle.odd_forms.specs.Sorted.{IsSet}
-use Rattle.compile_core.specs.Compiled.{IsGrammarOf, component_define}
+use Rattle.compile_core.specs.Blocks.{IsConditionDefine}
+use Rattle.compile_core.specs.Compiled.{IsGrammarOf, define_cmp, element_define}
 use Rattle.compile_core.specs.Conditions.{IsConditionOf, condition_cmp, conditions_of}
-use Rattle.compile_core.specs.Schema.{IsLeastMissing, IsSchema}
+use Rattle.compile_core.specs.Schema.{HoldsStart, IsLeastMissing, IsMissing, IsSchema}
+use Rattle.compile_core.proofs.BlocksSet.{made}
+use Rattle.odd_decls.specs.declared.library.ElementPart.{ElementPart}
+use Rattle.odd_meaning.specs.Classes.{AreMembers}
+use Rattle.odd_meaning.specs.Links.{class_key}
 use Rattle.odd_run.specs.Note.{code_of, note_text}
 use Rattle.odd_run.specs.Outcome.{answers, gives}
 use Rattle.odd_run.specs.Words.{Compiles, IsFileWord, WordsMean, compile}
@@ -70,7 +75,7 @@ use Rattle.odd_run.specs.declared.words.Command.TheVariants as command
 use Rattle.odd_run.specs.declared.words.Job.{Job}
 use Rattle.odd_run.specs.declared.status.LimitKind.TheVariants as limit
 use Rattle.odd_run.specs.declared.status.Status.TheVariants as status
-use Rattle.odd_run.proofs.Idle.{IsIdle, idle_unbroken}
+use Rattle.odd_meaning.proofs.Idle.{IsIdle, idle_unbroken}
 use Rattle.odd_run.proofs.ChainOfOne.{OffendsAlone, all_read_alone, gives_alone, only_item, pending_alone, refused_alone}
 use Rattle.odd_run.proofs.OneReply.{one_chain}
 use Rattle.odd_run.proofs.Replies.{one_status}
@@ -400,12 +405,15 @@ one_element_gives =
     gives_alone root_tree one_doc one_library one_element_declares one_element_sound (record { ident = refl; start = refl; rising = refl; holds = one_element_held })
     (idle_unbroken one_library (λ key part h. one_is_idle part (one_is key part h)))
 
-a_is_held : (word : List ℕ) → StandsIn (codes "a" ∷ []) word → map.find key_cmp (element_key word) one_library.parts ≡ None → ⊥
-a_is_held word s = each_such (λ w. map.find key_cmp (element_key w) one_library.parts ≡ None → ⊥) (codes "a" ∷ []) word ((λ missing. cc), tt) s
+a_is_held : HoldsStart one_library (codes "a" ∷ [])
+a_is_held word s = each_such (λ w. IsMissing one_library w → ⊥) (codes "a" ∷ []) word ((λ missing. cc), tt) s
 
 -- its grammar has no condition, and one define
+abbrev a_part : ElementPart
+a_part = record { «module» = []; ns = tei_namespace; classes = []; content = content.Empty }
+
 abbrev a_grammar : Grammar
-a_grammar = record { start = expr.Ref (codes "e.a"); defines = component_define one_library [] (a_key, component.Element (record { «module» = []; ns = tei_namespace; classes = []; content = content.Empty })) ∷ [] }
+a_grammar = record { start = expr.Ref (codes "e.a"); defines = element_define one_library [] (λ class. None) (codes "a") a_part ∷ [] }
 
 no_condition : IsSet condition_cmp (IsConditionOf one_library) []
 no_condition = record {
@@ -414,18 +422,19 @@ no_condition = record {
   each = λ c h. absurd (each_such (λ e. StandsIn (conditions_of (content_of e.1)) c → ⊥) one_library.parts h.entry ((λ s. nothing_stands c s), tt) h.among h.holds);
 }
 
+-- and it has no class
+no_class : AreMembers one_library (λ class. None)
+no_class class model = let e : component.Class model.part ≡ component.Element a_part = one_is (class_key class) (component.Class model.part) model.held in cc
+
 a_grammar_is : IsGrammarOf one_library (codes "a" ∷ []) a_grammar
-a_grammar_is = record {
-  conditions = [];
-  are_conditions = no_condition;
-  before = [];
-  are_before = record {
-    rising = λ before after item next e. absurd (nothing_stands item (before, next ∷ after, e));
-    none_else = λ d s. absurd (nothing_stands d s);
-    each = λ d h. absurd (nothing_stands h.0 h.1);
-  };
-  grammar_is = refl;
-}
+a_grammar_is = made one_library [] (λ class. None) [] refl no_defines no_class (codes "a" ∷ []) no_condition
+  where
+    no_defines : IsSet define_cmp (IsConditionDefine []) []
+    no_defines = record {
+      rising = λ before after item next e. absurd (nothing_stands item (before, next ∷ after, e));
+      none_else = λ d s. absurd (nothing_stands d s);
+      each = λ d h. absurd (nothing_stands h.0 h.1);
+    }
 
 -- and six elements, and two nodes after linking
 abbrev the_markup : Markup → Markup → Markup
@@ -561,13 +570,13 @@ offending_has_one text s h = one_status compile_f (holding one_p) text [] s (sta
 offending_is_not_done : (text : List ℕ) → Reply compile_f (holding one_p) text status.Done → ⊥
 offending_is_not_done text h = let same : status.Done ≡ status.Refused p_offence = offending_has_one text status.Done h in cc
 
--- With a `classRef` in its `content` it is not read yet.
+-- With a `dataRef` in its `content` it is not read yet.
 
 abbrev one_reference : List ℕ
-one_reference = codes "<schemaSpec xmlns=\"http://www.tei-c.org/ns/1.0\" ident=\"s\" start=\"a\"><elementSpec ident=\"a\"><content><classRef key=\"a\"/></content></elementSpec></schemaSpec>"
+one_reference = codes "<schemaSpec xmlns=\"http://www.tei-c.org/ns/1.0\" ident=\"s\" start=\"a\"><elementSpec ident=\"a\"><content><dataRef key=\"a\"/></content></elementSpec></schemaSpec>"
 
 abbrev reference_tree : Tree
-reference_tree = element 100 (codes "classRef") (attribute (codes "key") (codes "a") ∷ []) []
+reference_tree = element 100 (codes "dataRef") (attribute (codes "key") (codes "a") ∷ []) []
 
 abbrev content_tree : Tree
 content_tree = element 91 (codes "content") [] (reference_tree ∷ [])
@@ -582,7 +591,7 @@ one_reference_read = literal_gives one_reference _ (root_of (holder_tree ∷ [])
 reference_pending : IsPending (root_of (holder_tree ∷ []))
 reference_pending =
     IsPending.form (in_child outermost _ _ (elements_are (holder_tree ∷ [])) (in_child _ _ _ (elements_are (content_tree ∷ []))
-    (in_child _ _ _ (elements_are (reference_tree ∷ [])) (pending.here (pending.members refl refl)))))
+    (in_child _ _ _ (elements_are (reference_tree ∷ [])) (pending.here (pending.data_in_content refl refl)))))
 
 not_yet_reply : Reply compile_f (holding one_reference) [] (status.NotYet 1)
 not_yet_reply = f_answers one_reference (root_of (holder_tree ∷ [])) _ (omega arith) one_reference_read (inl (not_yet (pending_alone _ reference_pending)))

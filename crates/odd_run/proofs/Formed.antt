@@ -1,5 +1,5 @@
--- The library that files give is formed: its keys are those of elements, their idents are names, their texts are of XML's characters, and their bounds are in order.
-use Rattle.std.proofs.Common.{◌≡◌, ℕ, List, [], ◌∷◌, Option, Some, None, refl, sym, subst}
+-- The library that files give is formed: each component is of the kind of its key, idents are names, texts are of XML's characters, and bounds are in order.
+use Rattle.std.proofs.Common.{◌≡◌, ℕ, List, [], ◌∷◌, Option, Some, None, refl, ap, subst, sym, ◌∙◌}
 use Rattle.std.proofs.lemmas.List.Elements.{All-nil, All-cons}
 use Rattle.std.specs.Option.{IfSome}
 use Rattle.std.specs.Prelude.{All, codes, unwrap_or}
@@ -23,7 +23,7 @@ use Rattle.odd_content.specs.declared.content.Content.{Content}
 use Rattle.odd_content.specs.declared.content.Content.TheVariants as content
 use Rattle.odd_decls.specs.Declares.{Declares, IsEntryOf, IsReadAs, mode_given, namespace_given, namespace_in, namespace_of}
 use Rattle.odd_decls.specs.Library.{component_as, component_of}
-use Rattle.odd_decls.specs.Offences.{IsItem, ItemFault, ItemOffends, Offends}
+use Rattle.odd_decls.specs.Offences.{IsItem, ItemFault, ItemOffends, Offends, kind_declared}
 use Rattle.odd_decls.specs.declared.library.Component.{Component}
 use Rattle.odd_decls.specs.declared.library.Component.TheVariants as component
 use Rattle.odd_decls.specs.declared.library.Library.{Library}
@@ -32,63 +32,59 @@ use Rattle.odd_decls.specs.declared.odd.OddDoc.{OddDoc}
 use Rattle.odd_decls.specs.declared.spec.Mode.{Mode}
 use Rattle.odd_decls.specs.declared.spec.Mode.TheVariants as mode
 use Rattle.odd_decls.specs.declared.spec.Spec.{Spec}
-use Rattle.odd_members.specs.Membership.{classes_over}
-use Rattle.odd_decls.proofs.HeldForms.{declares_elements}
 use Rattle.odd_decls.proofs.FoundFormed.{IsFormedSomewhere, found_formed}
 use Rattle.odd_modes.proofs.Held.{EachSpec, held_from}
 use Rattle.odd_modes.specs.After.{laid_over}
 use Rattle.odd_chain.specs.Files.{AreDeclared, Gives}
-use Rattle.compile_core.specs.Conditions.{conditions_in}
-use Rattle.compile_core.specs.OrderedBounds.{AreBoundsOrdered}
-use Rattle.compile_core.specs.Schema.{IsFormed, IsFormedCondition, IsFormedElement, IsFormedPart}
+use Rattle.compile_core.specs.Schema.{IsFormed, IsFormedCondition, IsFormedContent, IsFormedPart}
 use Rattle.odd_run.proofs.AroundLegal.{around_legal}
 use Rattle.odd_run.proofs.BoundsOrdered.{bounds_ordered}
 use Rattle.odd_run.proofs.ConditionsFormed.{conditions_formed}
 use Rattle.odd_run.proofs.GivenLegal.{child_formed, legal_given, tag_formed, within_legal}
 
--- a content whose conditions are formed, and whose bounds are in order
-abbrev IsFormedContent : Content → Type 0
-IsFormedContent c = All IsFormedCondition (conditions_in c) × AreBoundsOrdered c
-
--- a key of an element, whose ident is a name
-abbrev IsFormedKey : Key → Type 0
-IsFormedKey key = (key.kind ≡ kind.Element) × IsNCName key.ident
-
--- what a spec gives is formed
+-- what a spec gives is formed, and it is of no datatype
 record IsFormedSpec (spec : Spec) : Type 0 where
-  key : IsFormedKey spec.key
+  named : IsNCName spec.key.ident
+  no_datatype : spec.key.kind ≡ kind.Datatype → ⊥
   ns : IfSome spec.ns IsLegal
   content : IfSome spec.content IsFormedContent
 
 -- what is held at a key is formed
 abbrev IsFormedAt : Key → Component → Type 0
-IsFormedAt key part = (key.kind ≡ kind.Element) × IsNCName key.ident × IsFormedPart part
+IsFormedAt key part = IsNCName key.ident × IsFormedPart key.kind part
 
 -- what is given, or else a default
 given_or : {A : Type 0} (P : A → Type 0) (o : Option A) (default : A) → IfSome o P → P default → P (unwrap_or o default)
 given_or P None default given h = h
 given_or P (Some value) default given h = given
 
--- a formed spec over a legal namespace and a formed content
-laid_formed : (spec : Spec) (m ns : List ℕ) (classes : List (List ℕ)) (c : Content) → IsFormedSpec spec → IsLegal ns → IsFormedContent c
-    → IsFormedElement (record { «module» = m; ns = unwrap_or spec.ns ns; classes = classes; content = unwrap_or spec.content c })
-laid_formed spec m ns classes c f legal formed =
-    let both = given_or IsFormedContent spec.content c f.content formed in
-    record { legal = given_or IsLegal spec.ns ns f.ns legal; conditions = both.0; ordered = both.1 }
+-- no content is formed
+empty_formed : IsFormedContent content.Empty
+empty_formed = record { conditions = All-nil IsFormedCondition; ordered = tt }
+
+-- the component of a spec, of the kind of its key
+made_of : (spec : Spec) → IsFormedSpec spec → (k : Kind) → spec.key.kind ≡ k → IsFormedPart k (component_as k spec)
+made_of spec f kind.Element e =
+    record { legal = given_or IsLegal spec.ns tei_namespace f.ns (ascii_legal tei_namespace refl); content = given_or IsFormedContent spec.content content.Empty f.content empty_formed }
+made_of spec f kind.Class e = tt
+made_of spec f kind.Macro e = given_or IsFormedContent spec.content content.Empty f.content empty_formed
+made_of spec f kind.Datatype e = absurd (f.no_datatype e)
 
 -- as a component
 made_formed : (spec : Spec) → IsFormedSpec spec → IsFormedAt spec.key (component_of spec)
-made_formed spec f =
-    let part = laid_formed spec spec.«module» tei_namespace (classes_over spec.classes []) content.Empty f (ascii_legal tei_namespace refl) (All-nil IsFormedCondition, tt) in
-    (f.key.0, f.key.1, subst (λ k. IsFormedPart (component_as k spec)) (sym f.key.0) part)
+made_formed spec f = (f.named, made_of spec f spec.key.kind refl)
+
+-- a spec laid over a component of a kind
+over_of : (k : Kind) (part : Component) (spec : Spec) → IsFormedSpec spec → IsFormedPart k part → IsFormedPart k (laid_over part spec)
+over_of kind.Element (component.Element part) spec f h =
+    record { legal = given_or IsLegal spec.ns part.ns f.ns h.legal; content = given_or IsFormedContent spec.content part.content f.content h.content }
+over_of kind.Class (component.Class part) spec f h = tt
+over_of kind.Macro (component.Macro part) spec f h = given_or IsFormedContent spec.content part.content f.content h
+over_of k part spec f h = absurd h
 
 -- laid over a component
 over_formed : (key : Key) (part : Component) (spec : Spec) → IsFormedSpec spec → IsFormedAt key part → IsFormedAt key (laid_over part spec)
-over_formed key (component.Element part) spec f h =
-    (h.0, h.1, laid_formed spec part.«module» part.ns (classes_over spec.classes part.classes) part.content f h.2.legal (h.2.conditions, h.2.ordered))
-over_formed key (component.Class part) spec f h = absurd h.2
-over_formed key (component.Macro part) spec f h = absurd h.2
-over_formed key (component.Datatype part) spec f h = absurd h.2
+over_formed key part spec f h = (h.0, over_of key.kind part spec f h.1)
 
 -- the namespace that an element gives
 ns_legal : (t : Tree) → IsFormedTag t → IfSome (given t (codes "ns")) IsLegal
@@ -117,6 +113,13 @@ legal_of kind.Class schema item f g = tt
 legal_of kind.Macro schema item f g = tt
 legal_of kind.Datatype schema item f g = tt
 
+-- no element declares a datatype so far
+declares_none : (e : Element) → kind_declared e ≡ Some kind.Datatype → ⊥
+declares_none element.ElementSpec h = cc
+declares_none element.ClassSpec h = cc
+declares_none element.MacroSpec h = cc
+declares_none e h = cc
+
 -- what an item of a file declares
 module _ (t : Tree) (doc : OddDoc) (formed : IsFormedSomewhere t) (d : Declares t doc) where
   -- the `schemaSpec`
@@ -139,15 +142,17 @@ module _ (t : Tree) (doc : OddDoc) (formed : IsFormedSomewhere t) (d : Declares 
   content_formed item e s is (Some c) (GivesOne.some child among content of) =
       let around = within d.first.around d.first.schema in
       let item_formed = child_formed schema_formed.2 item s in
-      let f = child_formed item_formed.2 child among in (
-        conditions_formed (within around item) child f.0 f.1 c (within_legal around schema_legal item_formed.2) f.2 of,
-        bounds_ordered (within around item) child c of (λ rule k. item_unbroken item s rule (ItemFault.content e is (child, among, (content, k)))),
-      )
+      let f = child_formed item_formed.2 child among in
+      record {
+        conditions = conditions_formed (within around item) child f.0 f.1 c (within_legal around schema_legal item_formed.2) f.2 of;
+        ordered = bounds_ordered (within around item) child c of (λ rule k. item_unbroken item s rule (ItemFault.content e is (child, among, (content, k))));
+      }
 
   -- an item that is read as a spec
   read_formed : (item : Tree) (made : Spec) → StandsIn (children_of d.first.schema) item → IsReadAs d.first item made → IsFormedSpec made
   read_formed item made s r = record {
-    key = (declares_elements t doc d item made.key s r.is_spec, r.is_spec.named);
+    named = r.is_spec.named;
+    no_datatype = λ e. declares_none r.is_spec.element (r.is_spec.of_kind ∙ ap Some e);
     ns = subst (λ o. IfSome o IsLegal) (sym r.ns)
         (legal_of made.key.kind d.first.schema item (tag_formed schema_formed.2) (tag_formed (child_formed schema_formed.2 item s).2));
     content = content_formed item r.is_spec.element s r.is_spec.is_item made.content r.children.content;

@@ -7,7 +7,6 @@ pub mod ConditionsFormed
 pub mod Examples
 pub mod Formed
 pub mod GivenLegal
-pub mod Idle
 pub mod OneFile
 pub mod OneReply
 pub mod Reading

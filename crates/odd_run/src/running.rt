@@ -1,4 +1,6 @@
 ghost use Rattle.std.specs.Prelude.{◌≡◌, ◌≢◌, ◌↔◌, ◌⊎◌, ◌≤◌, ◌+◌, ◌-◌, ◌*◌, ◌<◌, ◌^◌, ℕ, suc, List, Err, Ok, Some, IsTrue, IfOk, IfErr, OnOk, OnErr, [], ◌∷◌, ◌++◌, length};
+ghost use Rattle.odd_base.specs.declared.key.Key.{Key as AKey};
+ghost use Rattle.odd_meaning.specs.Rules.{Breaks};
 ghost use Rattle.odd_base.specs.Count.{HasRisen, next_count};
 ghost use Rattle.odd_base.specs.Shelf.{FileMap, Held, LeavesSuffix, NotHeld};
 ghost use Rattle.odd_base.specs.Sink.{IsPartWritten};
@@ -221,8 +223,9 @@ fn schema_of_chain(alloc: Global, chain: Chain, files: u32) -> Result<Text, Stat
     }
 }
 
-// The schema of the library after so many files, or the start word that is no held element.
+// The schema of the library after so many files, which breaks no rule, or the start word that is no held element.
 fn schema_of_library(alloc: Global, library: &Library, files: u32) -> Result<Text, Status>
+    requires { (key : AKey) (rule : ℕ) → Breaks library.now key rule → ⊥ }
     ensures held { OnOk result (HoldsStart library.now library.now.start) }
     ensures ok { IfOk result (λ text. HasSchema library.now (gives text)) }
     ensures accepts { IfOk result (λ text. IsFormed library.now → AcceptsAdmitted library.now text) }

@@ -3,6 +3,7 @@
 use crate::making::{key, many_words, text};
 use compile_core::{CompileRefusal, compile};
 use odd_base::{Kind, NoMemory, Text, TryCopy, Who, Words};
+use odd_classes::check_library;
 use odd_content::Content;
 use odd_decls::{ClassPart, Component, ElementPart, Library, Mode, OtherPart, Spec};
 use odd_members::Membership;
@@ -43,6 +44,9 @@ fn words_of(alloc: Global, text: &str) -> Result<Words, NoMemory> {
 
 // The schema of a library with these start words, or the start word that is refused.
 fn schema_from(alloc: Global, library: &Library, start: &Words) -> Result<Text, NoMemory> {
+    if check_library(alloc, library).is_err() {
+        return text(alloc, "broken");
+    }
     match compile(alloc, library, start) {
         Ok(grammar) => print_rng(alloc, &grammar),
         Err(CompileRefusal::Offence(offence)) => match offence.who {

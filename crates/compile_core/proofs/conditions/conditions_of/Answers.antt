@@ -7,8 +7,8 @@ use Rattle.compile_core.specs.Conditions.{IsConditionOf, condition_cmp}
 use Rattle.compile_core.proofs.Collected.{conditions_at, conditions_set}
 use Rattle.compile_core.proofs.conditions.conditions_of.Goals as goal
 
-pub returns : goal.returns
-returns c =
+pub returns-clause-set : goal.returns-clause-set
+returns-clause-set c =
     let library = c.args.library.now in
     let done = subst (λ entries. length entries ≤ c.loop-entry.entry-index) c.entries-entry-items.ensures.all c.loop-entry-test.false in
     let all = c.loop-entry.invariant ∙ ap (flat_map conditions_at) (take_all c.loop-entry.entry-index library.parts done) in

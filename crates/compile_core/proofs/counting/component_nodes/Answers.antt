@@ -1,29 +1,33 @@
-use Rattle.std.proofs.Common.{◌≡◌, ◌+◌, ◌∙◌, ℕ, List, ap, codes, sym}
-use Rattle.odd_base.specs.declared.key.Key.{Key}
-use Rattle.odd_decls.specs.declared.library.Component.{Component}
-use Rattle.odd_decls.specs.declared.library.Library.{Library}
-use Rattle.odd_content.specs.declared.content.Condition.{Condition}
+use Rattle.std.proofs.Common.{◌∙◌, sym}
+use Rattle.std.specs.Prelude.{sum_by}
 use Rattle.rng_emit.specs.Grammar.{define_markup}
 use Rattle.rng_emit.specs.Nodes.{elements_in}
-use Rattle.compile_core.specs.Compiled.{component_define, none_define}
+use Rattle.compile_core.specs.Blocks.{entry_defines}
+use Rattle.compile_core.specs.Contents.{content_pattern, define_name, listed_in, macro_name}
 use Rattle.compile_core.specs.Counted.{counted}
-use Rattle.compile_core.proofs.PatternCounts.{not_allowed_elements}
+use Rattle.compile_core.proofs.DefineCounts.{define_counted, element_counted}
+use Rattle.compile_core.proofs.PatternCounts.{elements_measured, pattern_elements}
+use Rattle.compile_core.proofs.Weighed.{unweighed}
 use Rattle.compile_core.proofs.counting.component_nodes.Goals as goal
 
--- a define that nothing matches has two elements
-none_counted : (prefix ident : List ℕ) → 2 ≡ counted (elements_in (define_markup (none_define prefix ident)))
-none_counted prefix ident = ap (λ n. counted (n + 0 + 1)) (sym not_allowed_elements)
+pub returns-in_ok-content_nodes-in-Element-Element : goal.returns-in_ok-content_nodes-in-Element-Element
+returns-in_ok-content_nodes-in-Element-Element c = λ library conditions.
+    let members = listed_in c.args.members.now in
+    let ident = c.args.key.now.ident in
+    let part = c.in-Element-Element.part in
+    let none = unweighed library conditions members c.args.weights.now c.requires part.content in
+    let inside = c.in_ok-content_nodes-in-Element-Element.ensures library conditions pattern_elements elements_measured none in
+    c.saturating_add.ensures ∙ element_counted (define_name ident) (record { ns = part.ns; local = ident }) (content_pattern library conditions members part.content) _ inside
+    ∙ (λ i. counted (sum_by (λ d. elements_in (define_markup d))
+    (entry_defines library conditions members (record { kind = sym c.in-Element-Element.is-0 i; ident = ident }, sym c.in-Element-Element.is-1 i))))
 
--- whatever component it is of
-of_component : (library : Library) (conditions : List Condition) (key : Key) (made part : Component) → made ≡ part
-    → 2 ≡ counted (elements_in (define_markup (component_define library conditions (key, part)))) → 2 ≡ counted (elements_in (define_markup (component_define library conditions (key, made))))
-of_component library conditions key made part is two = two ∙ ap (λ p. counted (elements_in (define_markup (component_define library conditions (key, p))))) (sym is)
-
-pub returns-in-Class : goal.returns-in-Class
-returns-in-Class c = λ library conditions key. of_component library conditions key _ _ c.in-Class.is (none_counted (codes "c.") key.ident)
-
-pub returns-in-Macro : goal.returns-in-Macro
-returns-in-Macro c = λ library conditions key. of_component library conditions key _ _ c.in-Macro.is (none_counted (codes "m.") key.ident)
-
-pub returns-in-Datatype : goal.returns-in-Datatype
-returns-in-Datatype c = λ library conditions key. of_component library conditions key _ _ c.in-Datatype.is (none_counted (codes "d.") key.ident)
+pub returns-in_ok-content_nodes-in-Macro-Macro : goal.returns-in_ok-content_nodes-in-Macro-Macro
+returns-in_ok-content_nodes-in-Macro-Macro c = λ library conditions.
+    let members = listed_in c.args.members.now in
+    let ident = c.args.key.now.ident in
+    let part = c.in-Macro-Macro.part in
+    let none = unweighed library conditions members c.args.weights.now c.requires part.content in
+    let inside = c.in_ok-content_nodes-in-Macro-Macro.ensures library conditions pattern_elements elements_measured none in
+    c.saturating_add-in-Macro-Macro.ensures ∙ define_counted (macro_name ident) (content_pattern library conditions members part.content) _ inside
+    ∙ (λ i. counted (sum_by (λ d. elements_in (define_markup d))
+    (entry_defines library conditions members (record { kind = sym c.in-Macro-Macro.is-0 i; ident = ident }, sym c.in-Macro-Macro.is-1 i))))

@@ -2,7 +2,7 @@ use Rattle.std.proofs.Common.{◌∙◌, ◌<◌, length, get_or, sym, ap, subst
 use Rattle.std.proofs.lemmas.List.Elements.{All-get_or}
 use Rattle.rng_emit.specs.Grammar.{define_markup}
 use Rattle.rng_emit.specs.Nodes.{elements_in}
-use Rattle.compile_core.specs.Compiled.{IsConditionDefine}
+use Rattle.compile_core.specs.Blocks.{IsConditionDefine}
 use Rattle.compile_core.proofs.Counts.{counted_step}
 use Rattle.compile_core.proofs.counting.conditions_nodes.Goals as goal
 

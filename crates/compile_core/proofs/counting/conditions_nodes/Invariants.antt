@@ -3,7 +3,7 @@ use Rattle.std.specs.Prelude.{All, sum_by}
 use Rattle.odd_content.specs.declared.content.Condition.{Condition}
 use Rattle.rng_emit.specs.Grammar.{define_markup}
 use Rattle.rng_emit.specs.Nodes.{elements_in}
-use Rattle.compile_core.specs.Compiled.{IsConditionDefine}
+use Rattle.compile_core.specs.Blocks.{IsConditionDefine}
 use Rattle.compile_core.specs.Counted.{counted}
 use Rattle.compile_core.proofs.counting.conditions_nodes.Given as goal
 

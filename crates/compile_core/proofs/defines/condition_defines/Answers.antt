@@ -3,7 +3,8 @@ use Rattle.std.proofs.lemmas.List.{map_more, take_all}
 use Rattle.std.proofs.lemmas.Result.{IfOk-weaker}
 use Rattle.std.specs.List.Sorted.{IsPermutation, IsSorted}
 use Rattle.odd_forms.specs.Sorted.{IsSet}
-use Rattle.compile_core.specs.Compiled.{IsConditionDefine, condition_define, define_cmp}
+use Rattle.compile_core.specs.Blocks.{IsConditionDefine}
+use Rattle.compile_core.specs.Compiled.{condition_define, define_cmp}
 use Rattle.compile_core.proofs.NamedDefines.{defines_set}
 use Rattle.compile_core.proofs.defines.condition_defines.Goals as goal
 

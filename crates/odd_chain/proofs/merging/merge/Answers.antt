@@ -16,6 +16,7 @@ loop-doc-preserved c =
       numbered = omega arith;
       merged = one_merged docs i c.doc-item.result c.loop-doc.library c.loop-doc-test.true c.doc-item.is so_far c.in_ok-library-2.library (c.in_ok-library-2.ensures.library (take i docs) so_far.after)
           (c.in_ok-library-2.ensures.sound refl) (c.in_ok-check.ensures.sound refl);
+      unbroken = c.in_ok-check.ensures.sound refl;
     }
 
 pub returns-in_err-library-2-clause-offence : goal.returns-in_err-library-2-clause-offence

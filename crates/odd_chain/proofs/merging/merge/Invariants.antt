@@ -1,4 +1,6 @@
-use Rattle.std.proofs.Common.{◌≡◌}
+use Rattle.std.proofs.Common.{◌≡◌, ℕ}
+use Rattle.odd_base.specs.declared.key.Key.{Key}
+use Rattle.odd_meaning.specs.Rules.{Breaks}
 use Rattle.odd_chain.proofs.Merged.{IsMerged}
 use Rattle.odd_chain.proofs.merging.merge.Given as goal
 
@@ -6,4 +8,5 @@ abbrev pub invariant-loop-doc : goal.invariant-loop-doc
 invariant-loop-doc l = record {
   numbered : l.file ≡ l.doc-index;
   merged : IsMerged l.doc-items l.doc-index l.library;
+  unbroken : (key : Key) (rule : ℕ) → Breaks l.library key rule → ⊥;
 }

@@ -1,21 +1,19 @@
 use Rattle.std.proofs.Common.{sym}
 use Rattle.std.proofs.lemmas.Result.{IfOk-weaker}
 use Rattle.odd_base.specs.Text.{text_cmp}
-use Rattle.odd_classes.proofs.MembersReached.{members_marked, no_member, no_set, set_same}
+use Rattle.odd_classes.proofs.MembersReached.{members_reached, no_member, no_set, set_same}
 use Rattle.odd_classes.proofs.class_members.members.Goals as goal
 
 pub returns-in_default : goal.returns-in_default
 returns-in_default c =
     let are = rw c.entries-entries.ensures.all at c.in_ok-places.ensures in
-    no_set text_cmp _ _ c.new.ensures (λ ident. no_member _ _ are _ (rw c.in_ok-class_key.ensures at (sym c.in_default.ensures)) _)
+    no_set text_cmp _ _ c.new.ensures (no_member _ _ are _ (rw c.in_ok-class_key.ensures at (sym c.in_default.ensures)))
 
 pub returns : goal.returns
 returns c =
     let entries = c.entries-entries.ensures in
     let are = rw entries.all at c.in_ok-places.ensures in
     let found = rw c.in_ok-class_key.ensures at (sym c.in-Some.ensures) in
-    let graph = rw entries.all at c.in_ok-arrows.ensures in
-    let turned = rw c.as_slice.ensures.value at c.in_ok-back.ensures.arrows in
-    let reached = rw c.as_slice-2.ensures.value at c.in_ok-marks.ensures in
-    let among = rw (entries.all, c.as_slice-3.ensures.value) at c.in_ok-idents.ensures in
-    IfOk-weaker _ _ _ (λ words. set_same text_cmp _ _ words (members_marked _ _ are _ entries.rising _ _ _ _ _ graph turned found reached among)) c.sorted.ensures
+    let graph = rw entries.all at c.in_ok-back.ensures in
+    let reached = rw (entries.all, c.as_slice.ensures.value) at c.members_at.ensures in
+    IfOk-weaker _ _ _ (λ words. set_same text_cmp _ _ words (members_reached _ _ are _ entries.rising _ _ graph found)) reached

@@ -1,0 +1,126 @@
+#!/usr/bin/env python3
+"""How fast libraries of classes and macros are compiled, and in how much memory, beside xmllint and jing.
+
+    bench/schemas.py PROGRAM
+
+compiles, each five times:
+
+- the chain of examples/, a source of the shape of TEI's own and a customisation, and the source alone;
+- made files of classes of type `model`, of elements that are members of them, and of contents that name the classes: 900
+  elements in 100 classes, where each class but the first ten is a member of another, and the same ten times as large;
+- 400 classes, each a member of the next, with an element each, so that their schema has 80,000 references to members; and twice as many;
+- 10,000 macros, each of which names the next, and twice as many.
+
+In turn it runs `xmllint --noout` over the same files, which only reads them, and prints the least processor time (user and
+system) in seconds, the greatest memory in MB, and how many times xmllint's and the half's that is. Then it asks xmllint, and
+jing where it is installed, for a verdict on examples/letter.xml by the schema of the examples, and prints their times too. A
+program that does not end with 0 ends this with 1.
+
+GNU time (Debian's package `time`) starts each run and tells its memory.
+"""
+import os
+import pathlib
+import shutil
+import subprocess
+import sys
+import tempfile
+
+RUNS = 5
+EXAMPLES = pathlib.Path(__file__).resolve().parent.parent / "examples"
+JING = pathlib.Path("/usr/share/java/jing.jar")
+
+
+def schema_spec(start, items):
+    """An ODD file of some declarations."""
+    inside = "\n".join(items)
+    return f'<schemaSpec xmlns="http://www.tei-c.org/ns/1.0" ident="s" start="{start}">\n{inside}\n</schemaSpec>\n'
+
+
+def class_spec(ident, of):
+    """A class that is a member of others."""
+    keys = "".join(f'<memberOf key="{key}"/>' for key in of)
+    return f'<classSpec ident="{ident}" type="model"><classes>{keys}</classes></classSpec>'
+
+
+def element_spec(ident, of, content):
+    """An element that is a member of classes."""
+    keys = "".join(f'<memberOf key="{key}"/>' for key in of)
+    return f'<elementSpec ident="{ident}"><classes>{keys}</classes><content>{content}</content></elementSpec>'
+
+
+def many_classes(classes):
+    """So many classes and nine times as many elements."""
+    items = [class_spec(f"c{at:05}", [f"c{at % 10:05}"] if at >= 10 else []) for at in range(classes)]
+    for at in range(9 * classes):
+        one, other = (at * 7) % classes, (at * 13 + 5) % classes
+        content = (
+            f'<alternate minOccurs="0" maxOccurs="unbounded"><textNode/><classRef key="c{one:05}"/>'
+            f'<classRef key="c{other:05}" except="e{at:05}"/></alternate>'
+        )
+        items.append(element_spec(f"e{at:05}", [f"c{at % classes:05}"], content))
+    return schema_spec("e00000", items)
+
+
+def nested_classes(classes):
+    """Classes in one another, each with an element of its own."""
+    items = [class_spec(f"c{at:05}", [f"c{at + 1:05}"] if at + 1 < classes else []) for at in range(classes)]
+    items += [element_spec(f"e{at:05}", [f"c{at:05}"], f'<classRef key="c{at:05}" minOccurs="0"/>') for at in range(classes)]
+    return schema_spec("e00000", items)
+
+
+def nested_macros(macros):
+    """Macros in one another."""
+    items = [element_spec("e", [], '<macroRef key="m00000"/>')]
+    items += [f'<macroSpec ident="m{at:05}"><content><macroRef key="m{at + 1:05}" minOccurs="0"/></content></macroSpec>' for at in range(macros)]
+    items += [f'<macroSpec ident="m{macros:05}"><content><textNode/></content></macroSpec>']
+    return schema_spec("e", items)
+
+
+def measured(command):
+    """The least time in seconds, and the greatest memory in MB."""
+    times, sizes = [], []
+    for _ in range(RUNS):
+        run = subprocess.run(["/usr/bin/time", "-f", "%U %S %M", *command], stdout=subprocess.DEVNULL, stderr=subprocess.PIPE, text=True)
+        if run.returncode:
+            sys.exit(f"{command}: status {run.returncode}\n{run.stderr}")
+        user, system, kilobytes = run.stderr.split()[-3:]
+        times.append(float(user) + float(system))
+        sizes.append(int(kilobytes) / 1000)
+    return min(times), max(sizes)
+
+
+def row(title, program, files, before=None):
+    """Prints how a chain compares, and gives the program's time and memory."""
+    time, size = measured([program, "compile", *files])
+    reads, holds = measured(["xmllint", "--noout", *files])
+    growth = f", {time / before[0]:.1f} and {size / before[1]:.1f} times the half" if before and before[0] else ""
+    print(f"{title:44} {time:6.2f} s {size:5.0f} MB; xmllint --noout {reads:5.2f} s {holds:5.0f} MB{growth}")
+    return time, size
+
+
+def main(program):
+    program = os.path.abspath(program)
+    source, edition = EXAMPLES / "tei-like.odd", EXAMPLES / "letters-custom.odd"
+    row("examples/tei-like.odd", program, [source])
+    row("the same and examples/letters-custom.odd", program, [source, edition])
+    with tempfile.TemporaryDirectory() as name:
+        folder = pathlib.Path(name)
+        for title, made, counts in (("classes", many_classes, (100, 1000)), ("nested classes", nested_classes, (400, 800)), ("nested macros", nested_macros, (10_000, 20_000))):
+            before = None
+            for count in counts:
+                path = folder / f"{made.__name__}{count}.odd"
+                path.write_text(made(count), encoding="utf-8")
+                before = row(f"{count} {title}, {path.stat().st_size / 1e6:.2f} MB", program, [path], before)
+        schema = folder / "letters.rng"
+        with open(schema, "wb") as out:
+            subprocess.run([program, "compile", source, edition], check=True, stdout=out)
+        validators = {"xmllint": ["xmllint", "--noout", "--relaxng", schema]}
+        if JING.exists() and shutil.which("java"):
+            validators["jing"] = ["java", "-jar", str(JING), schema]
+        for title, command in validators.items():
+            time, size = measured([*command, EXAMPLES / "letter.xml"])
+            print(f"examples/letter.xml by {title}: {time:.2f} s, {size:.0f} MB")
+
+
+if __name__ == "__main__":
+    main(sys.argv[1])
