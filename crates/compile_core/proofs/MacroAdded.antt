@@ -9,7 +9,7 @@ use Rattle.odd_base.specs.Map.{SetsOnly}
 use Rattle.odd_base.specs.Text.{text_cmp}
 use Rattle.odd_base.specs.declared.key.Key.{Key}
 use Rattle.odd_reader.specs.Elements.{StandsIn}
-use Rattle.odd_reader.proofs.InList.{stands_push}
+use Rattle.odd_reader.proofs.InList.{nothing_stands, stands_push}
 use Rattle.odd_decls.specs.declared.library.Component.{Component}
 use Rattle.odd_decls.specs.declared.library.Component.TheVariants as component
 use Rattle.odd_decls.specs.declared.library.Library.{Library}
@@ -70,6 +70,16 @@ module _ (library : Library) (members : Members) (count : List ℕ → ℕ) (bef
         (λ here. absurd (none otherpart (ap (λ x. find key_cmp (macro_key x) library.parts) here ∙ e))) ((stands_push before ident other).0 s);
     absent = are.absent;
   }
+
+-- while no macro's weight is known, a weight of one that is put at a macro's name keeps the weights
+pub place_put : (library : Library) (members : Members) (count : List ℕ → ℕ) (ident : List ℕ) (old new : List (List ℕ × ℕ)) → SetsOnly text_cmp old new (macro_name ident) 1
+    → AreWeightsOf library members (StandsIn []) old count → AreWeightsOf library members (StandsIn []) new count
+place_put library members count ident old new sets are = record {
+  classes = λ class idents e.
+      weight_put old new (macro_name ident) 1 sets (class_name class) (counted (count (class_name class))) (λ same. absurd (class_or_macro class ident same)) (λ no. are.classes class idents e);
+  macros = λ other part s e. absurd (nothing_stands other s);
+  absent = λ other e. weight_put old new (macro_name ident) 1 sets (macro_name other) 1 (λ same. refl) (λ no. are.absent other e);
+}
 
 -- where no rule is broken, an order of macros has each that is held, and the weights of all macros are known with those of its macros
 pub all_known : (library : Library) (members : Members) (count : List ℕ → ℕ) (idents : List (List ℕ)) (weights : List (List ℕ × ℕ)) → ((key : Key) (rule : ℕ) → Breaks library key rule → ⊥)

@@ -11,6 +11,7 @@ use Rattle.odd_reader.specs.Elements.{StandsIn}
 use Rattle.odd_reader.proofs.InList.{stands_first, stands_later}
 use Rattle.odd_forms.proofs.OneSet.{first_below, rest_rising}
 use Rattle.odd_forms.specs.Sorted.{AreRising}
+use Rattle.odd_classes.proofs.Rising.{first_rises}
 use Rattle.compile_core.proofs.Collected.{collected_stands}
 use Rattle.compile_core.proofs.Standing.{is_less, stands_either}
 
@@ -22,21 +23,13 @@ module _ {A : Type 0} (order : A → A → Ordering) (total : IsTotalOrder order
       let parts = length-append before (item ∷ (next ∷ after)) in
       absurd (omega arith)
 
-  -- an item that is below all of a list that rises
-  first_rises : (x : A) (xs : List A) → ((y : A) → StandsIn xs y → order x y ≡ Less) → AreRising order xs → AreRising order (x ∷ xs)
-  first_rises x xs below r [] after item next e =
-      let here : x ≡ item = cc in
-      let rest : next ∷ after ≡ xs = cc in
-      subst (λ w. order w next ≡ Less) here (below next (subst (λ ys. StandsIn ys next) rest (stands_first next after)))
-  first_rises x xs below r (w ∷ before) after item next e = r before after item next cc
-
   -- a list that rises, all of whose items are below those of another
   pub both_rise : (xs ys : List A) → AreRising order xs → AreRising order ys → ((x y : A) → StandsIn xs x → StandsIn ys y → order x y ≡ Less) → AreRising order (xs ++ ys)
   both_rise [] ys r q below = q
   both_rise (x ∷ xs) ys r q below =
       let first : (y : A) → StandsIn (xs ++ ys) y → order x y ≡ Less =
       λ y s. elim (stands_either xs ys y s) [ inl h ↦ first_below order total x xs r y h | inr h ↦ below x y (stands_first x xs) h ] in
-      first_rises x (xs ++ ys) first (both_rise xs ys (rest_rising order total x xs r) q (λ a b s t. below a b (stands_later x a xs s) t))
+      first_rises order x (xs ++ ys) first (both_rise xs ys (rest_rising order total x xs r) q (λ a b s t. below a b (stands_later x a xs s) t))
 
   -- lists of at most one item, made of items that rise, where what is made of a lesser item is less
   pub made_rise : {X : Type 0} (keyed : X → X → Ordering) → IsTotalOrder keyed → (f : X → List A) → ((x : X) → length (f x) ≤ 1)

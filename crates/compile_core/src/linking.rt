@@ -4,6 +4,7 @@ ghost use Rattle.odd_content.specs.declared.content.Condition.{Condition as ACon
 ghost use Rattle.odd_base.specs.declared.key.Key.{Key as AKey};
 ghost use Rattle.odd_decls.specs.Library.{content_of};
 ghost use Rattle.odd_decls.specs.declared.library.Library.{Library as ALibrary};
+ghost use Rattle.odd_meaning.specs.Classes.{Members};
 ghost use Rattle.odd_meaning.specs.Rules.{Breaks};
 ghost use Rattle.odd_reader.specs.Elements.{StandsIn};
 ghost use Rattle.rng_patterns.specs.Nodes.{element_nodes};
@@ -103,6 +104,7 @@ fn linked_weights(
     ensures { IfOk result (λ weights. (conditions : List ACondition) (count : List ℕ → ℕ) → HoldsConditions library.now conditions → IsLinkedCount library.now conditions (listed_in members.now) count → AreLinkedWeights library.now (listed_in members.now) weights count) }
 {
     let mut weights = class_weights(alloc, members)?;
+    add_places(alloc, &mut weights, library)?;
     for ident in in_macro_order(alloc, library)?.as_slice() {
         add_macro(alloc, &mut weights, library, members, ident)?;
     }
@@ -119,6 +121,19 @@ fn class_weights(alloc: Global, members: &MemberTable) -> Result<Weights, NoMemo
         weights.put(class_name(alloc, class)?, grouped_nodes(count, count))?;
     }
     Ok(weights)
+}
+
+// Puts a weight of one for each macro, in rising order: the weights that are known later take their places, and none is put
+// between others.
+fn add_places(alloc: Global, weights: &mut Weights, library: &Library) -> Result<(), NoMemory>
+    ensures { OnOk result ((members : Members) (count : List ℕ → ℕ) → AreWeightsOf library.now members (StandsIn []) weights.old count → AreWeightsOf library.now members (StandsIn []) weights.new count) }
+{
+    for (key, _) in library.parts.entries() {
+        if key.kind == Kind::Macro {
+            weights.put(macro_name(alloc, &key.ident)?, 1)?;
+        }
+    }
+    Ok(())
 }
 
 // Puts the weight of a macro, where it is held, beside those of the macros that it names.

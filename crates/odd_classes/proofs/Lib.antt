@@ -1,16 +1,19 @@
 mod ArrowsFound
-mod ClassListed
 mod CycleRules
+mod ElementsAmong
+mod Filled
 mod FirstBreaks
 mod Linked
+mod Listed
+mod ListedEach
 mod Looping
 mod MacroRanks
 mod MacrosOrdered
-mod MarkedElements
 mod MembersReached
 pub mod NamedParts
 mod OneMore
 mod Places
 mod PlacesPut
-mod TableSoFar
+pub mod Rising
+mod TableMade
 mod WrongNames

@@ -1,21 +1,19 @@
 -- The graph of a library by a link: its arrows are the links of components, and its chains those of their keys.
-use Rattle.std.proofs.Common.{◌≡◌, ◌↔◌, ◌⊎◌, ◌<◌, ℕ, List, Option, Some, None, length, get_or, is_some, inl, inr, refl, sym, ap, subst, ◌∙◌}
+use Rattle.std.proofs.Common.{◌≡◌, ◌↔◌, ◌<◌, ℕ, List, Option, Some, None, length, get_or, is_some, refl, sym, ap, subst, ◌∙◌}
 use Rattle.std.specs.Prelude.{IsTrue, IsSome}
 use Rattle.std.specs.FinMap.{find, is_sorted}
-use Rattle.std.proofs.lemmas.Bool.{cases_order, false≢true}
+use Rattle.std.proofs.lemmas.Bool.{false≢true}
 use Rattle.std.proofs.lemmas.Option.{same_Some, slice_get-get_or}
 use Rattle.odd_base.specs.Key.{key_cmp}
-use Rattle.odd_base.specs.KeyOrder.{key_total}
 use Rattle.odd_base.specs.declared.key.Key.{Key}
 use Rattle.odd_graph.specs.Graph.{Chained, HasArrow, Leads}
 use Rattle.odd_graph.proofs.Chains.{chained_along}
 use Rattle.odd_reader.specs.Elements.{StandsIn}
-use Rattle.odd_forms.proofs.OneSet.{not_below}
 use Rattle.odd_decls.specs.declared.library.Component.{Component}
 use Rattle.odd_decls.specs.declared.library.Library.{Library}
 use Rattle.odd_meaning.specs.Links.{IsLinked}
 use Rattle.odd_classes.specs.Placing.{IsEntryAt, IsGraphOf}
-use Rattle.odd_classes.proofs.Places.{entry_held, held_at, places_rise}
+use Rattle.odd_classes.proofs.Places.{entry_held, held_at, one_place}
 
 -- where something is held
 pub held : (key : Key) (library : Library) → IsSome (find key_cmp key library.parts) → (part : Component) × (find key_cmp key library.parts ≡ Some part)
@@ -67,15 +65,6 @@ module _ (keys_of : Component → List Key) (library : Library) (up : IsTrue (is
   pub one_key_at : (place : ℕ) (key other : Key) → IsPlaceOf place key → IsPlaceOf place other → key ≡ other
   one_key_at place key other a b = ap (λ e. e.0) (same_Some _ _ (sym a.1 ∙ b.1))
 
-  -- and a key one place
-  pub one_place : (place other : ℕ) (key : Key) → IsPlaceOf place key → IsPlaceOf other key → place ≡ other
-  one_place place other key a b = by_order (cases_order place other)
-    where
-      by_order : (place ≡ other) ⊎ ((place < other) ⊎ (other < place)) → place ≡ other
-      by_order (inr (inl less)) = absurd (not_below key_cmp key_total key (places_rise library.parts up place other key key a.0 b.0 less a.1 b.1))
-      by_order (inl same) = same
-      by_order (inr (inr more)) = absurd (not_below key_cmp key_total key (places_rise library.parts up other place key key b.0 a.0 more b.1 a.1))
-
   -- two components are linked in a chain exactly where their places are
   pub chains_agree : (place other : ℕ) (key last : Key) → IsPlaceOf place key → IsPlaceOf other last → Leads arrows place other ↔ Chained (IsLinked keys_of library) key last
   chains_agree place other key last a b = (there, back)
@@ -84,4 +73,4 @@ module _ (keys_of : Component → List Key) (library : Library) (up : IsTrue (is
       there l = let made = chain_linked place other key a l in subst (Chained (IsLinked keys_of library) key) (one_key_at other made.0 last made.1 b) made.2
 
       back : Chained (IsLinked keys_of library) key last → Leads arrows place other
-      back l = let made = linked_chain key last place a l in subst (Leads arrows place) (one_place made.0 other last made.1 b) made.2
+      back l = let made = linked_chain key last place a l in subst (Leads arrows place) (one_place library.parts up made.0 other last made.1.0 b.0 made.1.1 b.1) made.2

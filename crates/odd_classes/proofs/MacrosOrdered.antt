@@ -16,10 +16,10 @@ use Rattle.odd_decls.specs.declared.library.Library.{Library}
 use Rattle.odd_meaning.specs.Links.{IsLinked, macro_key, macros_of}
 use Rattle.odd_classes.specs.Placing.{IsEntryAt, IsGraphOf}
 use Rattle.odd_classes.specs.Ranking.{IsMacroOrder}
-use Rattle.odd_classes.proofs.Linked.{held, link_arrow, one_key_at, one_place}
+use Rattle.odd_classes.proofs.Linked.{held, link_arrow, one_key_at}
 use Rattle.odd_classes.proofs.MacroRanks.{apart_ranked, ranked_apart}
 use Rattle.odd_classes.proofs.OneMore.{both_more, none_more}
-use Rattle.odd_classes.proofs.Places.{entry_held, held_at}
+use Rattle.odd_classes.proofs.Places.{entry_held, held_at, one_place}
 
 -- each item of a list is such after those before it
 abbrev pub EachAfter : {A : Type 0} → (List A → A → Type 0) → List A → Type 0
@@ -72,7 +72,7 @@ module _ (library : Library) where
           not_yet : StandsIn words key.ident → ⊥
           not_yet s =
               let earlier = (so_far.each key.ident).0 s in
-              let same = one_place macros_of library up arrows graph earlier.0 place (macro_key key.ident) earlier.2 (part, at_key key.ident refl) in
+              let same = one_place library.parts up earlier.0 place (macro_key key.ident) earlier.2.0 part earlier.2.1 (at_key key.ident refl) in
               is.once (take i order) (drop (i + 1) order) place around (contained (take i order) place (subst (StandsIn (take i order)) same earlier.1))
 
           named : (other : List ℕ) → IsLinked macros_of library (macro_key key.ident) (macro_key other) → StandsIn words other

@@ -1,11 +1,12 @@
 -- What a library holds at a key, and the places of its entries.
-use Rattle.std.proofs.Common.{◌≡◌, ℕ, ◌<◌, true, cond, List, [], ◌∷◌, get_or, Some, refl, sym, ap, ◌∙◌}
+use Rattle.std.proofs.Common.{◌≡◌, ◌⊎◌, inl, inr, ℕ, ◌<◌, true, cond, List, [], ◌∷◌, get_or, length, Some, refl, sym, ap, ◌∙◌}
 use Rattle.std.specs.Prelude.{IsTrue}
 use Rattle.std.specs.Cmp.{Equal-is, tied_itself}
 use Rattle.std.specs.FinMap.{find, is_sorted}
 use Rattle.std.specs.Map.{lookup}
 use Rattle.std.specs.Ordering.{eq_by_cmp}
 use Rattle.std.specs.declared.cmp.Ordering.TheVariants.{Less}
+use Rattle.std.proofs.lemmas.Bool.{cases_order}
 use Rattle.std.proofs.lemmas.Option.{get_or_from_slice_get, slice_get-get_or, slice_get_within}
 use Rattle.std.proofs.lemmas.Map.Views.{Contains-from_lookup}
 use Rattle.odd_base.specs.Key.{key_cmp}
@@ -13,7 +14,7 @@ use Rattle.odd_base.specs.KeyOrder.{key_exact, key_total}
 use Rattle.odd_base.specs.Map.{IsAfter}
 use Rattle.odd_base.specs.declared.key.Key.{Key}
 use Rattle.odd_base.proofs.Entries.{as_T, find_at, rising}
-use Rattle.odd_forms.proofs.OneSet.{turned}
+use Rattle.odd_forms.proofs.OneSet.{not_below, turned}
 use Rattle.odd_decls.specs.declared.library.Component.{Component}
 use Rattle.odd_classes.specs.Placing.{IsEntryAt}
 
@@ -25,6 +26,10 @@ one_key a b h = key_exact a b ((Equal-is (key_cmp a b)).0 h)
 found_looked_up : (key : Key) (es : List (Key × Component)) → find key_cmp key es ≡ lookup (eq_by_cmp key_cmp key) es
 found_looked_up key [] = refl
 found_looked_up key (e ∷ es) = ap (cond (eq_by_cmp key_cmp key e.0) (Some e.1)) (found_looked_up key es)
+
+-- what is found at a place is the entry there
+pub found_here : (es : List (Key × Component)) (place : ℕ) (here : Key × Component) → (place < length es) × ((d : Key × Component) → here ≡ get_or es place d) → IsEntryAt es place here.0 here.1
+found_here es place here found = slice_get-get_or es place here found.0 ∙ ap Some (sym (found.1 here))
 
 -- what is held has a place
 pub held_at : (es : List (Key × Component)) (key : Key) (part : Component) → find key_cmp key es ≡ Some part → (place : ℕ) × IsEntryAt es place key part
@@ -39,6 +44,15 @@ module _ (es : List (Key × Component)) (up : IsTrue (is_sorted key_cmp es)) whe
       let here : get_or es p (key, part) ≡ (key, part) = get_or_from_slice_get es p (key, part) (key, part) a in
       let there : get_or es q (key, part) ≡ (other, others) = get_or_from_slice_get es q (other, others) (key, part) b in
       sym (λ n. key_cmp (here n).0 (there n).0) ∙ rising key_cmp es (as_T (is_sorted key_cmp es) up) p q (key, part) less (slice_get_within es q (other, others) b)
+
+  -- a key stands at one place
+  pub one_place : (p q : ℕ) (key : Key) (part other : Component) → IsEntryAt es p key part → IsEntryAt es q key other → p ≡ q
+  one_place p q key part other a b = by_order (cases_order p q)
+    where
+      by_order : (p ≡ q) ⊎ ((p < q) ⊎ (q < p)) → p ≡ q
+      by_order (inl same) = same
+      by_order (inr (inl less)) = absurd (not_below key_cmp key_total key (places_rise p q key key part other less a b))
+      by_order (inr (inr more)) = absurd (not_below key_cmp key_total key (places_rise q p key key other part more b a))
 
   -- what stands at a place is held
   pub entry_held : (place : ℕ) (key : Key) (part : Component) → IsEntryAt es place key part → find key_cmp key es ≡ Some part

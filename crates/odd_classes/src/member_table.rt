@@ -1,16 +1,18 @@
-ghost use Rattle.std.specs.Prelude.{◌≡◌, ◌<◌, ◌≤◌, Err, IfOk};
-ghost use Rattle.std.specs.FinMap.{find};
+ghost use Rattle.std.specs.Prelude.{◌≡◌, ◌↔◌, ◌<◌, ◌≤◌, ◌+◌, ℕ, List, [], Err, IfOk, IsTrue, OnOk, Some, length, replicate, sum_by};
+ghost use Rattle.std.specs.FinMap.{find, is_sorted};
+ghost use Rattle.std.specs.Option.{option_copied};
+ghost use Rattle.odd_base.specs.Key.{key_cmp};
 ghost use Rattle.odd_base.specs.Text.{text_cmp};
-ghost use Rattle.odd_meaning.specs.Classes.{AreMembers, IsListed, Members, members_count};
-ghost use Rattle.odd_meaning.specs.Links.{classes_of};
-ghost use Rattle.odd_classes.specs.Placing.{ArePlacesOf, IsTurnedGraphOf};
+ghost use Rattle.odd_graph.specs.Graph.{StandOnce};
+ghost use Rattle.odd_meaning.specs.Classes.{AreMembers, Members, members_count};
+ghost use Rattle.odd_classes.specs.Listing.{AreListed, AreListsOf, HasListed, IsModelAt, IsTableOf};
 
-use crate::class_members::{class_key, members_at};
-use crate::graph::{Places, places_of, turned_by};
+use crate::class_members::is_element;
+use crate::graph::graph_by;
 use crate::links::Link;
-use odd_base::{Kind, Map, NoMemory, Text, TryCopy, Words};
+use odd_base::{Key, Kind, Map, NoMemory, Text, TryCopy, Words};
 use odd_decls::{Component, Library};
-use odd_graph::Nodes;
+use odd_graph::{reached, unmarked};
 use std::alloc::Global;
 
 /// For each class of type `model` the idents of the elements that are its members, in rising order.
@@ -36,7 +38,7 @@ impl From<NoMemory> for TableRefusal {
 
 /// The members of each class of type `model` of a library, by their own memberships or through classes of classes (TEI
 /// Guidelines, the chapter Documentation Elements). More is answered where the lists together hold more than `limit` idents,
-/// and only there; no more than one list is made past the limit. NoMemory is answered for want of memory.
+/// and only there; no more than the classes of one element are put past the limit. NoMemory is answered for want of memory.
 pub fn members_by_class(
     alloc: Global,
     library: &Library,
@@ -47,46 +49,97 @@ pub fn members_by_class(
     ensures more { result ≡ Err TableRefusal.More → (members : Members) → AreMembers library.now members → limit < members_count members library.now }
 {
     let entries = library.parts.entries();
-    let places = places_of(alloc, entries)?;
-    let back = turned_by(alloc, Link::Classes, entries)?;
-    let mut table = MemberTable::new(alloc);
-    let mut left = limit;
-    for (key, _) in entries {
-        if key.kind == Kind::Class {
-            if let Some(idents) = listed(alloc, library, &places, back.as_slice(), &key.ident)? {
-                let Some(rest) = left.checked_sub(idents.len()) else {
-                    return Err(TableRefusal::More);
-                };
-                left = rest;
-                table.put(key.ident.copy(alloc)?, idents)?;
-            }
-        }
-    }
+    let lists = listed(alloc, library, limit)?;
+    let table = table_of(alloc, entries, lists)?;
     Ok(table)
 }
 
-// The members of the class that is held at an ident, where there is one of type `model`.
-fn listed(
-    alloc: Global,
-    library: &Library,
-    places: &Places,
-    back: &[Nodes],
-    class: &Text,
-) -> Result<Option<Words>, NoMemory>
-    requires places { ArePlacesOf library.now.parts places.now }
-    requires graph { IsTurnedGraphOf classes_of library.now.parts back.now }
-    ensures { IfOk result (IsListed library.now class.now) }
+// For each entry of a library the members of the class that it is, where it is one of type `model`, and else none.
+fn listed(alloc: Global, library: &Library, limit: usize) -> Result<Vec<Words>, TableRefusal>
+    ensures lists { IfOk result (λ lists. AreListsOf library.now lists.items) }
+    ensures within { IfOk result (λ lists. sum_by length lists.items ≤ limit) }
+    ensures more { result ≡ Err TableRefusal.More → (lists : List (List (List ℕ))) × AreListed library.now lists × (limit < sum_by length lists) }
 {
-    let key = class_key(alloc, class)?;
-    let Some(Component::Class(part)) = library.find(&key) else {
-        return Ok(None);
-    };
-    let Some(place) = places.find(&key) else {
-        return Ok(None);
-    };
-    if part.gives {
-        return Ok(None);
+    let entries = library.parts.entries();
+    let arrows = graph_by(alloc, Link::Classes, entries)?;
+    let mut marks = unmarked(alloc, arrows.as_slice())?;
+    let mut lists = no_lists(alloc, entries.len())?;
+    let mut left = limit;
+    for (place, entry) in entries.iter().enumerate() {
+        if is_element(entry) {
+            let classes = reached(alloc, arrows.as_slice(), place, &mut marks)?;
+            let ident = &entry.0.ident;
+            let count = list_in_each(alloc, entries, classes.as_slice(), ident, &mut lists)?;
+            let Some(rest) = left.checked_sub(count) else {
+                return Err(TableRefusal::More);
+            };
+            left = rest;
+        }
     }
-    let idents = members_at(alloc, library.parts.entries(), back, *place)?;
-    Ok(Some(idents))
+    Ok(lists)
+}
+
+// So many empty lists.
+fn no_lists(alloc: Global, count: usize) -> Result<Vec<Words>, NoMemory>
+    ensures { IfOk result (λ lists. lists.items ≡ replicate count []) }
+{
+    let mut lists = Vec::new(alloc);
+    for _ in 0..count {
+        lists.push(Words::new(alloc))?;
+    }
+    Ok(lists)
+}
+
+// Puts an ident at the end of the list of each of these entries that is a class of type `model`, and tells how many they are.
+fn list_in_each(
+    alloc: Global,
+    entries: &[(Key, Component)],
+    places: &[usize],
+    ident: &Text,
+    lists: &mut Vec<Words>,
+) -> Result<usize, NoMemory>
+    requires { StandOnce places.now }
+    ensures listed { OnOk result (HasListed entries.now places.now ident.now lists.old.items lists.new.items) }
+    ensures count { IfOk result (λ count. sum_by length lists.new.items ≡ sum_by length lists.old.items + count) }
+{
+    let mut count = 0;
+    for place in places {
+        if let Some(_) = model_at(entries, *place) {
+            if let Some(list) = lists.get_mut(*place) {
+                list.push(ident.copy(alloc)?)?;
+                count += 1;
+            }
+        }
+    }
+    Ok(count)
+}
+
+// The ident of the class of type `model` that stands at a place among entries.
+fn model_at(entries: &[(Key, Component)], place: usize) -> Option<&Text>
+    ensures { (class : List ℕ) → (option_copied result ≡ Some class) ↔ IsModelAt entries.now place class }
+{
+    match entries.get(place) {
+        Some((key, Component::Class(part))) if key.kind == Kind::Class && !part.gives => {
+            Some(&key.ident)
+        }
+        _ => None,
+    }
+}
+
+// The lists of the classes of type `model` among entries.
+fn table_of(
+    alloc: Global,
+    entries: &[(Key, Component)],
+    lists: Vec<Words>,
+) -> Result<MemberTable, NoMemory>
+    requires { IsTrue (is_sorted key_cmp entries.now) }
+    ensures { IfOk result (IsTableOf entries.now lists.items) }
+{
+    let mut table = MemberTable::new(alloc);
+    for (place, list) in lists.into_iter().enumerate() {
+        if let Some(class) = model_at(entries, place) {
+            table.put(class.copy(alloc)?, list)?;
+        }
+    }
+    Ok(table)
 }

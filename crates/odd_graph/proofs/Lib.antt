@@ -5,7 +5,7 @@ mod Leads
 mod NodeAdded
 mod NodesMarked
 mod NodesReached
-mod OneMore
+pub mod OneMore
 mod Placed
 pub mod Ranked
 mod Trimmed

@@ -1,5 +1,5 @@
 -- One node after the other is placed in an order.
-use Rattle.std.proofs.Common.{◌≡◌, ◌≢◌, ◌↔◌, ◌⊎◌, ◌<◌, ℕ, Bool, true, false, List, [], ◌∷◌, ◌++◌, length, set, cond, inl, inr, ⊎_elim, refl, sym, ap, ◌∙◌, arith}
+use Rattle.std.proofs.Common.{◌≡◌, ◌↔◌, ◌⊎◌, ◌<◌, ℕ, true, false, List, [], ◌∷◌, ◌++◌, length, set, cond, inl, inr, ⊎_elim, sym, ap, ◌∙◌, arith}
 use Rattle.std.proofs.Math.ListN.{length-set}
 use Rattle.std.proofs.lemmas.Bool.Decides.{eqb_tells}
 use Rattle.std.proofs.lemmas.Grind.{common_steps}
@@ -13,32 +13,18 @@ use Rattle.odd_graph.specs.Placing.{GoesOn, Places}
 use Rattle.odd_graph.specs.Searching.{ArePassed, IsFree, IsHeld, IsMarked}
 use Rattle.odd_graph.specs.declared.ordering.Placing.{Placing}
 use Rattle.odd_graph.specs.declared.trimming.Side.{Side}
-use Rattle.odd_graph.proofs.OneMore.{contains_with, stands_at}
-
--- a place in a list with one item more is the last one, or one of the list's
-place_with : (items before after : List ℕ) (last item : ℕ) → items ++ last ∷ [] ≡ before ++ item ∷ after
-    → ((items ≡ before) × (last ≡ item)) ⊎ ((rest : List ℕ) × (items ≡ before ++ item ∷ rest))
-place_with [] [] after last item e = inl (refl, cc)
-place_with [] (x ∷ []) after last item e = cc
-place_with [] (x ∷ y ∷ before) after last item e = cc
-place_with (x ∷ items) [] after last item e = inr (items, cc)
-place_with (x ∷ items) (y ∷ before) after last item e =
-    ⊎_elim (λ at. let same = at.0 in inl (cc, at.1)) (λ at. let same = at.1 in inr (at.0, cc)) (place_with items before after last item cc)
+use Rattle.odd_graph.proofs.NodesMarked.{one_cleared}
+use Rattle.odd_graph.proofs.OneMore.{contains_with, once_with, place_with}
 
 -- an order with one node more at its end, which did not stand there, and all that its arrows lead to did
 order_with : (arrows : List (List ℕ)) (order : List ℕ) (node : ℕ) → IsOrder arrows order → node < length arrows → (Contains order node → ⊥) → ((next : ℕ) → HasArrow arrows node next → Contains order next)
     → IsOrder arrows (order ++ node ∷ [])
 order_with arrows order node h within fresh all = record {
   within = λ other c. ⊎_elim (h.within other) (λ e. omega arith) (Contains-push_cases order node other c);
-  once = λ before after other e c.
-      ⊎_elim (λ at. fresh (rw (at.0, at.1) c)) (λ at. h.once before at.0 other at.1 c) (place_with order before after node other e);
+  once = once_with order node h.once fresh;
   after = λ before after other next e a.
       ⊎_elim (λ at. rw at.0 at (all next (rw at.1 a))) (λ at. h.after before at.0 other next at.1 a) (place_with order before after node other e);
 }
-
--- what is left once a node is placed
-one_unmarked : (left : List Bool) (i node : ℕ) → i < length left → IsMarked (set left i false) node ↔ (IsMarked left node × (i ≢ node))
-one_unmarked left i node within = grind (arith, stands_at left i false false within node)
 
 -- what is placed then
 one_placed : {All Was Before After Is Within : Type 0} → Is ⊎ (Is → ⊥) → All ↔ (Was ⊎ Is) → Was ↔ (Within × (Before → ⊥)) → After ↔ (Before × (Is → ⊥)) → (Is → Within) → All ↔ (Within × (After → ⊥))
@@ -57,16 +43,16 @@ placed_one p q node h marked free forth left order =
     record {
       places = record {
         all = rw (forth, left) (h.all.0, length-set p.left.items node false ∙ h.all.1);
-        passed = rw (forth, left, length-set) (λ other at lt is. h.passed other at lt ((one_unmarked p.left.items node _ inside).0 is).0);
+        passed = rw (forth, left, length-set) (λ other at lt is. h.passed other at lt ((one_cleared p.left.items node _ inside).0 is).0);
         order = rw (forth, order) (order_with _ _ node h.order within (λ c. ((h.placed node).0 c).1 marked) (λ next a. (h.placed next).1 (a.within, free next a)));
         placed = rw (forth, left, order) (λ other.
-            one_placed (is_or_not node other) (contains_with p.order.items node other) (h.placed other) (one_unmarked p.left.items node other inside) (λ e. omega arith));
+            one_placed (is_or_not node other) (contains_with p.order.items node other) (h.placed other) (one_cleared p.left.items node other inside) (λ e. omega arith));
         count = rw (forth, left, order) (grind (arith, common_steps, h.count, sum_by-set (λ is. cond is 1 0) p.left.items node false true inside));
       };
       arrows = ap (λ side. side.arrows) forth;
       order = (node ∷ [], order);
-      left = λ other is. ((one_unmarked p.left.items node other inside).0 (rw left at is)).0;
-      held = λ other e is. absurd (((one_unmarked p.left.items node other inside).0 (rw left at is)).1 e);
+      left = λ other is. ((one_cleared p.left.items node other inside).0 (rw left at is)).0;
+      held = λ other e is. absurd (((one_cleared p.left.items node other inside).0 (rw left at is)).1 e);
     }
 
 -- nothing was placed, but more arrows were passed

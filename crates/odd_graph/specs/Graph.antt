@@ -1,5 +1,5 @@
 -- Graphs: where arrows lead, and which nodes are on a cycle.
-use Rattle.std.specs.Prelude.{◌<◌, ℕ, List, [], Option, Some, None, length, get_or}
+use Rattle.std.specs.Prelude.{◌≡◌, ◌<◌, ℕ, List, [], ◌∷◌, ◌++◌, Option, Some, None, length, get_or}
 use Rattle.std.specs.List.{Contains}
 
 -- one leads to another by steps, by one or more
@@ -20,3 +20,7 @@ Leads arrows = Chained (HasArrow arrows)
 abbrev pub IsFirstOnCycle : List (List ℕ) → Option ℕ → Type 0
 IsFirstOnCycle arrows None = (node : ℕ) → Leads arrows node node → ⊥
 IsFirstOnCycle arrows (Some first) = Leads arrows first first × ((node : ℕ) → node < first → Leads arrows node node → ⊥)
+
+-- each node stands there once
+abbrev pub StandOnce : List ℕ → Type 0
+StandOnce nodes = (before after : List ℕ) (node : ℕ) → nodes ≡ before ++ node ∷ after → Contains before node → ⊥

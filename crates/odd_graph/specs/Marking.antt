@@ -1,11 +1,24 @@
--- What marking some nodes of a graph does.
-use Rattle.std.specs.Prelude.{◌≡◌, ◌↔◌, ◌⊎◌, ◌<◌, ℕ, Bool, List, length}
+-- What marking some nodes of a graph does, and what taking the marks back does.
+use Rattle.std.specs.Prelude.{◌≡◌, ◌↔◌, ◌⊎◌, ◌<◌, ◌++◌, ℕ, Bool, List, length}
 use Rattle.std.specs.List.{Contains}
+use Rattle.odd_graph.specs.Graph.{StandOnce}
 use Rattle.odd_graph.specs.Searching.{IsMarked, to_come}
 
--- the marks and the waiting nodes before and after these nodes are marked, those of them that are nodes of the graph
-pub record HasMarked (nodes : List ℕ) (marks made : List Bool) (waited waits : List ℕ) : Type 0 where
+-- a mark for each node, and none is set
+pub record AreClear (arrows : List (List ℕ)) (marks : List Bool) : Type 0 where
+  pub of_all : length marks ≡ length arrows
+  pub none : (node : ℕ) → IsMarked marks node → ⊥
+
+-- the marks and the nodes that were reached before and after these are marked, those of them that are nodes of the graph
+pub record HasMarked (nexts : List ℕ) (marks made : List Bool) (nodes all : List ℕ) : Type 0 where
   pub same : length made ≡ length marks
-  pub marked : (node : ℕ) → IsMarked made node ↔ (IsMarked marks node ⊎ (Contains nodes node × (node < length marks)))
-  pub waiting : (node : ℕ) → Contains waits node ↔ (Contains waited node ⊎ (IsMarked made node × (IsMarked marks node → ⊥)))
-  pub count : to_come made waits ≡ to_come marks waited
+  pub marked : (node : ℕ) → IsMarked made node ↔ (IsMarked marks node ⊎ (Contains nexts node × (node < length marks)))
+  pub more : (more : List ℕ) × (all ≡ nodes ++ more)
+  pub fresh : (node : ℕ) → Contains all node ↔ (Contains nodes node ⊎ (IsMarked made node × (IsMarked marks node → ⊥)))
+  pub once : StandOnce nodes → ((node : ℕ) → Contains nodes node → IsMarked marks node) → StandOnce all
+  pub count : to_come made all ≡ to_come marks nodes
+
+-- the marks before and after those of these nodes are taken back
+pub record HasCleared (nodes : List ℕ) (marks made : List Bool) : Type 0 where
+  pub same : length made ≡ length marks
+  pub marked : (node : ℕ) → IsMarked made node ↔ (IsMarked marks node × (Contains nodes node → ⊥))

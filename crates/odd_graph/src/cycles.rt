@@ -1,8 +1,9 @@
-ghost use Rattle.std.specs.Prelude.{◌↔◌, IfOk, IsTrue};
+ghost use Rattle.std.specs.Prelude.{◌↔◌, IfOk, IsTrue, OnOk};
 ghost use Rattle.odd_graph.specs.Graph.{IsFirstOnCycle, Leads};
+ghost use Rattle.odd_graph.specs.Marking.{AreClear};
 
 use crate::Nodes;
-use crate::search::reached;
+use crate::search::{reached, unmarked};
 use crate::trimming::Trimming;
 use crate::turning::turned;
 use odd_base::NoMemory;
@@ -14,9 +15,10 @@ pub fn first_on_cycle(alloc: Global, arrows: &[Nodes]) -> Result<Option<usize>, 
 {
     let back = turned(alloc, arrows)?;
     let mut trimming = Trimming::new(alloc, arrows, back.as_slice())?;
+    let mut marks = unmarked(alloc, arrows)?;
     for node in 0..arrows.len() {
         if trimming.is_left(node) {
-            if leads_to_itself(alloc, arrows, node)? {
+            if leads_to_itself(alloc, arrows, node, &mut marks)? {
                 return Ok(Some(node));
             }
             trimming.take(node)?;
@@ -26,8 +28,16 @@ pub fn first_on_cycle(alloc: Global, arrows: &[Nodes]) -> Result<Option<usize>, 
 }
 
 // Whether a node leads to itself.
-fn leads_to_itself(alloc: Global, arrows: &[Nodes], node: usize) -> Result<bool, NoMemory>
-    ensures { IfOk result (λ leads. IsTrue leads ↔ Leads arrows.now node node) }
+fn leads_to_itself(
+    alloc: Global,
+    arrows: &[Nodes],
+    node: usize,
+    marks: &mut Vec<bool>,
+) -> Result<bool, NoMemory>
+    requires { AreClear arrows.now marks.old.items }
+    ensures leads { IfOk result (λ leads. IsTrue leads ↔ Leads arrows.now node node) }
+    ensures clear { OnOk result (AreClear arrows.now marks.new.items) }
 {
-    Ok(reached(alloc, arrows, node)?.get(node) == Some(&true))
+    let nodes = reached(alloc, arrows, node, marks)?;
+    Ok(nodes.contains(&node))
 }

@@ -10,7 +10,7 @@ mod turning;
 pub use cycles::first_on_cycle;
 use odd_base::Seq;
 pub use ordering::ordered;
-pub use search::reached;
+pub use search::{reached, unmarked};
 pub use turning::turned;
 
 /// Nodes of a graph by their numbers, counted from 0. A graph is the nodes that the arrows of each node lead to, node by

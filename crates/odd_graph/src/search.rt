@@ -1,50 +1,81 @@
-ghost use Rattle.std.specs.Prelude.{◌↔◌, ℕ, [], get_or, IfOk, OnOk};
-ghost use Rattle.odd_graph.specs.Graph.{Leads};
-ghost use Rattle.odd_graph.specs.Marking.{HasMarked};
-ghost use Rattle.odd_graph.specs.Searching.{IsMarked};
+ghost use Rattle.std.specs.Prelude.{◌≡◌, ◌↔◌, ℕ, [], get_or, IfOk, OnOk};
+ghost use Rattle.std.specs.List.{Contains};
+ghost use Rattle.odd_graph.specs.Graph.{Leads, StandOnce};
+ghost use Rattle.odd_graph.specs.Marking.{AreClear, HasCleared, HasMarked};
 
 use crate::Nodes;
 use odd_base::NoMemory;
 use std::alloc::Global;
 
-/// Which nodes a node leads to, by one arrow or more: a mark for each node. The only error is NoMemory, for want of memory.
-pub fn reached(alloc: Global, arrows: &[Nodes], from: usize) -> Result<Vec<bool>, NoMemory>
-    ensures { IfOk result (λ marks. (node : ℕ) → IsMarked marks.items node ↔ Leads arrows.now from node) }
+/// A mark for each node of a graph, none of them set. The only error is NoMemory, for want of memory.
+pub fn unmarked(alloc: Global, arrows: &[Nodes]) -> Result<Vec<bool>, NoMemory>
+    ensures { IfOk result (λ marks. AreClear arrows.now marks.items) }
 {
-    let mut marks = vec![in alloc; false; arrows.len()]?;
-    let mut waiting = vec![in alloc; from]?;
-    while let Some(node) = waiting.pop() {
-        mark_next(arrows, node, &mut marks, &mut waiting)?;
-    }
+    let marks = vec![in alloc; false; arrows.len()]?;
     Ok(marks)
 }
 
-// Marks the nodes to which the arrows of a node lead, and keeps those that had no mark to be gone on from.
+/// The nodes that a node leads to, by one arrow or more, each once. The marks are those of `unmarked`, and none is set
+/// afterwards, so that they serve many searches. The only error is NoMemory, for want of memory.
+pub fn reached(
+    alloc: Global,
+    arrows: &[Nodes],
+    from: usize,
+    marks: &mut Vec<bool>,
+) -> Result<Vec<usize>, NoMemory>
+    requires { AreClear arrows.now marks.old.items }
+    ensures nodes { IfOk result (λ nodes. (node : ℕ) → Contains nodes.items node ↔ Leads arrows.now from node) }
+    ensures once { IfOk result (λ nodes. StandOnce nodes.items) }
+    ensures clear { OnOk result (AreClear arrows.now marks.new.items) }
+{
+    let mut nodes = Vec::new(alloc);
+    mark_next(arrows, from, marks, &mut nodes)?;
+    let mut place = 0;
+    while let Some(&node) = nodes.get(place) {
+        mark_next(arrows, node, marks, &mut nodes)?;
+        place += 1;
+    }
+    clear(marks, nodes.as_slice());
+    Ok(nodes)
+}
+
+// Marks the nodes to which the arrows of a node lead, and puts those that had no mark at the end of the nodes that were reached.
 fn mark_next(
     arrows: &[Nodes],
     node: usize,
     marks: &mut Vec<bool>,
-    waiting: &mut Vec<usize>,
+    nodes: &mut Vec<usize>,
 ) -> Result<(), NoMemory>
-    ensures { OnOk result (HasMarked (get_or arrows.now node []) marks.old.items marks.new.items waiting.old.items waiting.new.items) }
+    ensures { OnOk result (HasMarked (get_or arrows.now node []) marks.old.items marks.new.items nodes.old.items nodes.new.items) }
 {
-    if let Some(nodes) = arrows.get(node) {
-        mark_all(nodes, marks, waiting)?;
+    if let Some(nexts) = arrows.get(node) {
+        mark_all(nexts, marks, nodes)?;
     }
     Ok(())
 }
 
-// Marks nodes, and keeps those that had no mark to be gone on from.
-fn mark_all(nodes: &Nodes, marks: &mut Vec<bool>, waiting: &mut Vec<usize>) -> Result<(), NoMemory>
-    ensures { OnOk result (HasMarked nodes.now marks.old.items marks.new.items waiting.old.items waiting.new.items) }
+// Marks nodes, and puts those that had no mark at the end of the nodes that were reached.
+fn mark_all(nexts: &Nodes, marks: &mut Vec<bool>, nodes: &mut Vec<usize>) -> Result<(), NoMemory>
+    ensures { OnOk result (HasMarked nexts.now marks.old.items marks.new.items nodes.old.items nodes.new.items) }
 {
-    for node in nodes.as_slice() {
-        if let Some(mark) = marks.get_mut(*node) {
+    for next in nexts.as_slice() {
+        if let Some(mark) = marks.get_mut(*next) {
             if !*mark {
                 *mark = true;
-                waiting.push(*node)?;
+                nodes.push(*next)?;
             }
         }
     }
     Ok(())
+}
+
+// Takes the marks of nodes back.
+fn clear(marks: &mut Vec<bool>, nodes: &[usize])
+    ensures { HasCleared nodes.now marks.old.items marks.new.items }
+{
+    for node in nodes {
+        if let Some(mark) = marks.get_mut(*node) {
+            *mark = false;
+        }
+    }
 }

@@ -15,5 +15,10 @@ returns c =
     let are = rw entries.all at c.in_ok-places.ensures in
     let found = rw c.in_ok-class_key.ensures at (sym c.in-Some.ensures) in
     let graph = rw entries.all at c.in_ok-back.ensures in
-    let reached = rw (entries.all, c.as_slice.ensures.value) at c.members_at.ensures in
-    IfOk-weaker _ _ _ (λ words. set_same text_cmp _ _ words (members_reached _ _ are _ entries.rising _ _ graph found)) reached
+    let among = rw (entries.all, c.as_slice-3.ensures.value) at c.in_ok-idents.ensures in
+    let reached = rw c.as_slice-2.ensures.value at c.in_ok-nodes.ensures.nodes in
+    let members = members_reached _ _ are _ entries.rising _ _ graph found in
+    IfOk-weaker _ _ _
+    (λ words. set_same text_cmp _ _ words (λ ident.
+    (λ s. let m = (among ident).0 s in (members ident).0 (m.0, m.1, m.2, (reached m.0).0 m.3), λ e. let m = (members ident).1 e in (among ident).1 (m.0, m.1, m.2, (reached m.0).1 m.3))))
+    c.sorted.ensures
