@@ -28,12 +28,15 @@ DATATYPES = "http://www.w3.org/2001/XMLSchema-datatypes"
 XML = "http://www.w3.org/XML/1998/namespace"
 OTHER = "urn:x"
 PASSED_OVER = set("gloss desc equiv exemplum remarks listRef model modelGrp modelSequence moduleSpec defaultVal".split())
-PENDING = set("classSpec macroSpec dataSpec classes attList altIdent datatype valList specGrp specGrpRef".split())
-PENDING_IN_CONTENT = {"classRef", "macroRef", "dataRef"}
+PENDING = set("dataSpec attList altIdent datatype valList specGrp specGrpRef".split())
+PENDING_IN_CONTENT = {"dataRef"}
+# The declarations, with the kind of what each declares and the children that it may have.
+SPECS = {"elementSpec": "element", "classSpec": "class", "macroSpec": "macro"}
+SPEC_CHILDREN = {"elementSpec": {"content", "classes"}, "classSpec": {"classes"}, "macroSpec": {"content"}}
 # The references among the items, with the kind of what each refers to.
 TAKEN = {"elementRef": "element", "classRef": "class", "macroRef": "macro", "dataRef": "datatype"}
 LEVELS = {"sequence", "alternate"}
-BOUNDED = LEVELS | {"elementRef", "anyElement"}
+BOUNDED = LEVELS | {"elementRef", "classRef", "macroRef", "anyElement"}
 PARTS = BOUNDED | {"textNode", "empty"}
 MOST_LEVELS = 60
 MOST_NODES = 1_000_000
@@ -43,6 +46,8 @@ DIGITS = re.compile(r"[0-9]{1,9}\Z")
 
 Answer = collections.namedtuple("Answer", "code note schema")
 Element = collections.namedtuple("Element", "ns local attrs prefixes at inside")
+# The elements that are held, and the members of each held class.
+Held = collections.namedtuple("Held", "elements members")
 # An element of a schema: its parts with how often each stands in turn, and how many elements it has.
 Markup = collections.namedtuple("Markup", "tag pairs parts text size")
 
@@ -51,33 +56,54 @@ Markup = collections.namedtuple("Markup", "tag pairs parts text size")
 
 ANYWHERE = (
     "elementSpec:8 content:3 empty:2 textNode:2 desc:2 exemplum:1 remarks:1 constraintSpec:1 p:1 schemaSpec:1 moduleRef:1"
-    " elementRef:1 classRef:1"
+    " elementRef:1 classRef:1 macroRef:1 classSpec:1 macroSpec:1 classes:1 memberOf:1"
 )
 IN_CONTENT = (
-    "elementRef:600 anyElement:180 sequence:260 alternate:260 textNode:160 empty:120 desc:100"
-    " p:2 x:2 rng:2 content:2 constraintSpec:1 elementSpec:1"
+    "elementRef:500 classRef:240 macroRef:120 anyElement:160 sequence:260 alternate:260 textNode:160 empty:120 desc:100"
+    " p:2 x:2 rng:2 content:2 constraintSpec:1 elementSpec:1 classes:1"
 )
+LEAVES = "elementRef anyElement textNode empty moduleRef classRef macroRef dataRef memberOf".split()
 IN_LEAF = "desc:20 p:1 x:1 rng:1 textNode:1 elementRef:1 sequence:1"
 CHILDREN = {
     "schemaSpec": (
-        "elementSpec:90 desc:6 p:1 constraintSpec:1 content:1 schemaSpec:1 x:3 rng:1 moduleRef:2 elementRef:1 classRef:1"
-        " macroRef:1 dataRef:1"
+        "elementSpec:70 classSpec:20 macroSpec:12 desc:6 p:1 constraintSpec:1 content:1 schemaSpec:1 x:3 rng:1 moduleRef:2"
+        " elementRef:1 classRef:1 macroRef:1 dataRef:1 classes:1"
     ),
-    "elementSpec": "desc:400 exemplum:100 x:100 content:12 p:4 constraintSpec:4 elementSpec:3 rng:4 empty:3",
+    "elementSpec": "desc:400 exemplum:100 x:100 content:12 classes:12 p:4 constraintSpec:4 elementSpec:3 rng:4 empty:3",
+    "classSpec": "desc:400 exemplum:100 x:100 classes:12 content:3 p:4 constraintSpec:4 elementSpec:3 rng:4 memberOf:3",
+    "macroSpec": "desc:400 exemplum:100 x:100 content:12 classes:3 p:4 constraintSpec:4 elementSpec:3 rng:4 empty:3",
+    "classes": "memberOf:600 desc:60 x:60 p:2 classRef:2 constraintSpec:2 content:1 rng:2",
     **dict.fromkeys(["content", *LEVELS], IN_CONTENT),
-    **dict.fromkeys(["elementRef", "anyElement", "textNode", "empty", "moduleRef", "classRef", "macroRef", "dataRef"], IN_LEAF),
+    **dict.fromkeys(LEAVES, IN_LEAF),
 }
 COUNTS = {
     "schemaSpec": [0, 2, 4, 6],
-    "elementSpec": [0, 0, 0, 1, 2],
+    **dict.fromkeys(SPECS, [0, 0, 0, 1, 2]),
+    "classes": [0, 1, 1, 2, 2, 3],
     "content": [0, 1, 1, 1, 2, 2, 3, 4],
     **dict.fromkeys(LEVELS, [0, 1, 2, 2, 3, 3, 4]),
-    **dict.fromkeys(["elementRef", "anyElement", "textNode", "empty", "moduleRef", "classRef", "macroRef", "dataRef"], [*[0] * 30, 1]),
+    **dict.fromkeys(LEAVES, [*[0] * 30, 1]),
 }
 IDENTS = ["a", "b", "TEI", "\u00e9", *(letter + end for letter in "cdefghijklmnoPQRST" for end in ("", "-1", ".2", "_\u00e9", "1", "10"))]
 BAD_NAMES = ["1", "", " a", "a b", "a:b"]
+# Classes and macros of which each is mostly made over later ones alone, so that few come back to themselves.
+CLASSES, MACROS = ["k1", "k2", "k3", "k4", "t1", "k5", "t2"], ["m1", "m2", "m3", "m4"]
+MODELS = [ident for ident in CLASSES if ident[0] == "k"]
 VALUES = {
     "ident": [*IDENTS, *BAD_NAMES],
+    "classSpec ident": ["k6", "k7", "t3", "k1", *BAD_NAMES],
+    "macroSpec ident": ["m5", "m6", "m1", *BAD_NAMES],
+    "classRef key": [*MODELS * 30, "k9", "t1", "k9", *BAD_NAMES],
+    "classRef include": ["", " ", "a", "b a", "TEI zz", "a 1", "a:b"],
+    "classRef except": ["", " ", "b", "a\tb", "c", " 1"],
+    "macroRef key": [*MACROS * 30, "m9", *BAD_NAMES],
+    "memberOf key": [*CLASSES * 30, "k9", *BAD_NAMES],
+    "classes mode": ["replace", "change", "add", "delete", "Change", ""],
+    "memberOf mode": ["add", "delete", "change", "replace", ""],
+    "expand": ["alternate", "alternate", "sequence", ""],
+    "type": ["model", "atts", "", "x"],
+    "min": ["1"],
+    "max": ["1"],
     "start": ["a", "a b", "TEI", " b\n a\t", "b a b", "", " ", "a 1", "a\u00a0b"],
     "module": ["core", "tei", "", "a b"],
     "include": ["", " ", "a", "b a", "TEI", "a 1", "a:b"],
@@ -95,12 +121,19 @@ VALUES = {
 }
 # Where the front of these ends whose values are good. The others are drawn seldom.
 GOOD = {"ident": -5, "start": 5, "module": 2, "key": -5, "preserveOrder": 2, "mode": 4, "include": 5, "except": 5}
+GOOD |= {"classSpec ident": -6, "macroSpec ident": -6, "classRef key": -7, "macroRef key": -6, "memberOf key": -5, "classRef include": 5, "classRef except": 5}
+GOOD |= {"classes mode": 2, "memberOf mode": 2, "expand": 2, "type": 2}
 RARE = {"prefix": 0.002, "source": 0.002, "mode": 0.002, "rend": 0.1}
 LIKELY = {
     "elementSpec": {"ident": 0.985, "module": 0.3, "ns": 0.2},
     "schemaSpec": {"ident": 0.985, "start": 0.8, "ns": 0.2},
+    "classSpec": {"ident": 0.985, "module": 0.3, "type": 0.985},
+    "macroSpec": {"ident": 0.985, "module": 0.3},
+    "classes": {"mode": 0.3},
+    "memberOf": {"key": 0.995, "mode": 0.15, "min": 0.002, "max": 0.002},
     "changedSpec": {"module": 0.2, "ns": 0.2, "mode": 0},
     **dict.fromkeys(TAKEN, {"key": 0.999}),
+    "classRef": {"key": 0.999, "include": 0.15, "except": 0.15, "expand": 0.1},
     "moduleRef": {"key": 0.95, "include": 0.3, "except": 0.2, "url": 0.05},
     "sequence": {"preserveOrder": 0.1},
     "alternate": {"preserveOrder": 0.05},
@@ -119,6 +152,7 @@ NAMES = "p:a p:b q:a q:\u00e9 x:x xml:lang r:text t:p".split()
 SELDOM_BOUND = ["z:a", "urn:x", "xmlns:a"]
 # The content of one element brings a schema near the limit, once it is known how much there is beside it.
 TIMES = "000000002"
+WITHOUT = ' mode="delete"'
 FULL = f'<elementSpec ident="full"><content><elementRef key="full" minOccurs="{TIMES}" maxOccurs="{TIMES}"/></content></elementSpec>'
 
 
@@ -163,7 +197,8 @@ def made_declarations(rng):
 def made_attributes(rng, local):
     for name, chance in {**RARE, **LIKELY.get(local, {})}.items():
         if rng.random() < chance:
-            pool = VALUES[name] if rng.random() < 0.05 else VALUES[name][: GOOD.get(name)]
+            named = f"{local} {name}" if f"{local} {name}" in VALUES else name
+            pool = VALUES[named] if rng.random() < 0.05 else VALUES[named][: GOOD.get(named)]
             yield f' {rng.choice(["", "", "", "y:"]) if rng.random() < 0.05 else ""}{name}="{escaped(rng.choice(pool))}"'
     if local in BOUNDED:
         yield from made_bounds(rng)
@@ -193,29 +228,88 @@ def made_pick(rng, held):
     return f' {name}="{" ".join(words)}"'
 
 
+def made_classes(rng, later, mode=""):
+    """A `classes` that mostly names these classes."""
+    keys = rng.sample(later, rng.randrange(min(3, len(later)) + 1))
+    if rng.random() < 0.01:
+        keys.append(rng.choice(CLASSES))
+    given = "".join(f'<memberOf key="{key}"{rng.choice(["", "", "", WITHOUT])}/>' for key in keys)
+    return f"<classes{mode}>{given}</classes>"
+
+
+def made_macro_content(rng, later):
+    """A content that mostly names these macros."""
+    for _ in range(8):
+        content = made(rng, "content", 3)
+        if later:
+            return re.sub(r'key="m\d"', lambda _: f'key="{rng.choice(later)}"', content) if rng.random() < 0.99 else content
+        if "macroRef" not in content:
+            break
+    return content if "macroRef" not in content else "<content/>"
+
+
+def made_inside_spec(rng, local, ident, mode=""):
+    """What a declaration holds that names classes and macros: an element any, and another mostly later ones alone."""
+    classes = CLASSES[CLASSES.index(ident) + 1 :] if ident in CLASSES else CLASSES
+    macros = MACROS[MACROS.index(ident) + 1 :] if ident in MACROS else MACROS
+    inside = []
+    if local == "elementSpec" and rng.random() < 0.8:
+        inside.append(made(rng, "content", 4))
+    if local == "macroSpec" and rng.random() < 0.9:
+        inside.append(made_macro_content(rng, macros))
+    if local != "macroSpec" and rng.random() < 0.5:
+        inside.append(made_classes(rng, classes, mode))
+    rng.shuffle(inside)
+    return "".join(inside)
+
+
+def made_type(rng, ident):
+    """The type of a class, which is mostly told by its ident."""
+    return rng.choice(["model", "atts"]) if rng.random() < 0.03 else {"k": "model", "t": "atts"}[ident[0]]
+
+
+def made_components(rng):
+    """Classes and macros of a source."""
+    for ident in CLASSES:
+        if rng.random() < 0.85:
+            module = rng.choice(["", ' module="core"', ' module="tei"'])
+            yield f'<classSpec ident="{ident}" type="{made_type(rng, ident)}"{module}>{made_inside_spec(rng, "classSpec", ident)}</classSpec>'
+    are_all = rng.random() < 0.9
+    for ident in MACROS:
+        if are_all or rng.random() < 0.6:
+            module = rng.choice(["", ' module="core"', ' module="tei"'])
+            yield f'<macroSpec ident="{ident}"{module}>{made_inside_spec(rng, "macroSpec", ident)}</macroSpec>'
+
+
 def made_references(rng, library):
     """References of a file over this library, mostly to what is held."""
     modules = merging.by_module(library)
     for module in sorted(modules):
         if module and rng.random() < 0.8:
-            yield f'<moduleRef key="{module}"{made_pick(rng, sorted(ident for _, ident in modules[module]))}/>'
-    for (_, ident), part in sorted(library.items()):
-        if rng.random() < (0.1 if part.module else 0.8):
-            yield f'<elementRef key="{ident}"/>'
+            yield f'<moduleRef key="{module}"{made_pick(rng, sorted(ident for kind, ident in modules[module] if kind == "element"))}/>'
+    for (kind, ident), part in sorted(library.items()):
+        if rng.random() < (0.97 if kind == "macro" else 0.1 if part.module else 0.8):
+            yield f'<{kind}Ref key="{ident}"/>'
     if rng.random() < 0.04:
         yield f'<{rng.choice(sorted(TAKEN))} key="{rng.choice("abz")}"/>'
     if rng.random() < 0.02:
         yield f'<moduleRef key="{rng.choice(["core", "tei", "none"])}"/>'
 
 
-def made_declaration(rng, library, ident, taken):
+def made_declaration(rng, key, taken):
     """A declaration, mostly in a mode that it may have where these keys are chosen."""
+    kind, ident = key
     is_right = rng.random() < 0.97
-    modes = ["change", "change", "delete", "replace"] if (("element", ident) in taken) == is_right else ["add", ""]
+    modes = ["change", "change", "delete", "replace"] if (key in taken) == is_right else ["add", ""]
+    if kind == "macro" and "delete" in modes and rng.random() < 0.9:
+        modes = ["change"]
     mode = rng.choice(modes)
     named = f' mode="{mode}"' if mode else ""
-    inside = made(rng, "content", 4) if mode != "delete" and rng.random() < 0.7 else ""
-    return f'<elementSpec ident="{ident}"{named}{"".join(made_attributes(rng, "changedSpec"))}>{inside}</elementSpec>'
+    if kind == "class" and (mode not in ("change", "delete") or rng.random() < 0.3):
+        named += f' type="{made_type(rng, ident)}"'
+    over = ' mode="change"' if mode == "change" and rng.random() < 0.6 else ""
+    inside = made_inside_spec(rng, f"{kind}Spec", ident, over) if mode != "delete" else ""
+    return f'<{kind}Spec ident="{ident}"{named}{"".join(made_attributes(rng, "changedSpec"))}>{inside}</{kind}Spec>'
 
 
 def made_items(rng, library):
@@ -223,9 +317,10 @@ def made_items(rng, library):
     references = list(made_references(rng, library))
     around = f'<schemaSpec xmlns="{TEI}">{"".join(references)}</schemaSpec>'
     taken = merging.chosen(library, doc_of(read(around.encode()), []))
-    idents = sorted({ident for _, ident in library} | {"a", "b", "TEI"})
-    declared = [ident for ident in idents if rng.random() < 0.3]
-    items = references + [made_declaration(rng, library, ident, taken) for ident in declared]
+    new = [*(("element", ident) for ident in ("a", "b", "TEI")), *(("class", ident) for ident in CLASSES), *(("macro", ident) for ident in MACROS)]
+    chances = {"element": 0.3, "class": 0.2, "macro": 0.1}
+    declared = [key for key in sorted({*library, *new}) if rng.random() < chances[key[0]]]
+    items = references + [made_declaration(rng, key, taken) for key in declared]
     rng.shuffle(items)
     return "".join(items)
 
@@ -248,8 +343,9 @@ def made_inside(rng, local, levels):
     if local == "schemaSpec":
         idents = [ident for ident in ("a", "b", "TEI") if rng.random() < 0.8]
         inside = "".join(f'<elementSpec ident="{ident}">{made_inside(rng, "elementSpec", levels - 1)}</elementSpec>' for ident in idents)
-    if local == "elementSpec" and levels > 0 and rng.random() < 0.8:
-        inside = made(rng, "content", levels - 1)
+        inside += "".join(made_components(rng))
+    if local in SPECS and levels > 0:
+        inside = made_inside_spec(rng, local, None)
     if levels > 0 and local != "rng":
         inside += "".join(made_children(rng, local, levels))
     return inside
@@ -309,13 +405,13 @@ def made_sound_file(rng, library):
 
 def made_files(rng):
     """The files of a chain. What is made over a file that offends is over the library before that."""
-    library, chain = {}, []
+    library, contents, chain = {}, [], []
     is_clean = rng.random() < 0.75
     for _ in range(rng.choice([1, 1, 2, 2, 2, 2, 3, 3, 3, 4, 5, *[16] * (rng.random() < 0.05)])):
         chain.append((made_sound_file if is_clean or rng.random() < 0.6 else made_file)(rng, library))
         if is_sound(chain[-1]):
-            doc = doc_of(next(found(read(chain[-1]))), [])
-            if not any(merging.offences(library, doc)):
+            doc = doc_of(next(found(read(chain[-1]))), contents)
+            if not any(merging.offences(library, doc)) and not any(merging.breaks(naming(merging.held_after(library, doc), contents))):
                 library = merging.held_after(library, doc)
     return chain
 
@@ -396,16 +492,12 @@ def holds_pending(element, in_content=False):
     return any(holds_pending(child, in_content or is_tei(element, "content")) for child in element.inside)
 
 
-def child_rules(element, named):
+def child_rules(element, named, in_content=False):
     """The rules that children break by standing in an element, where these may stand in it."""
-    is_spec = element.local == "elementSpec"
     for child in element.inside:
-        if child.ns == RELAX_NG or is_spec and is_tei(child, "constraintSpec"):
+        if child.ns == RELAX_NG or element.local in SPECS and is_tei(child, "constraintSpec"):
             yield 2
-        elif is_tei(child):
-            if child.local not in named | PASSED_OVER:
-                yield 3
-        elif not is_spec:
+        elif in_content if not is_tei(child) else child.local not in named | PASSED_OVER:
             yield 3
 
 
@@ -417,12 +509,25 @@ def bounds_rules(part):
         yield 3
 
 
+def pick_rules(reference):
+    """The rules that `include` and `except` break."""
+    words = [words_of(reference.attrs.get(name, "")) for name in ("include", "except")]
+    if not all(map(is_name, sum(words, []))):
+        yield 1
+    if all(words):
+        yield 3
+
+
 def own_rules(part):
     """The rules that a part breaks by its attributes, but for its bounds."""
-    if part.local == "elementRef":
+    if part.local in ("elementRef", "classRef", "macroRef"):
         if not is_name(part.attrs.get("key")):
             yield 1
         if "source" in part.attrs:
+            yield 2
+    if part.local == "classRef":
+        yield from pick_rules(part)
+        if part.attrs.get("expand", "alternate") != "alternate":
             yield 2
     if part.local == "sequence":
         order = part.attrs.get("preserveOrder", "true")
@@ -434,7 +539,7 @@ def own_rules(part):
 
 def part_rules(part, levels):
     """The rules that a part breaks, where so many levels may still open."""
-    yield from child_rules(part, PARTS if part.local in LEVELS else set())
+    yield from child_rules(part, PARTS if part.local in LEVELS else set(), in_content=True)
     yield from own_rules(part)
     if part.local in BOUNDED:
         yield from bounds_rules(part)
@@ -446,10 +551,29 @@ def part_rules(part, levels):
 
 
 def content_rules(content):
-    yield from child_rules(content, PARTS)
+    yield from child_rules(content, PARTS, in_content=True)
     parts = parts_of(content)
     for part in parts:
         yield from part_rules(part, MOST_LEVELS - (len(parts) > 1))
+
+
+def classes_rules(classes):
+    """The rules that a `classes` breaks."""
+    if classes.attrs.get("mode", "replace") not in ("replace", "change"):
+        yield 3
+    yield from child_rules(classes, {"memberOf"})
+    members = [child for child in classes.inside if is_tei(child, "memberOf")]
+    keys = [member.attrs["key"] for member in members if is_name(member.attrs.get("key"))]
+    if len(keys) < len(members):
+        yield 1
+    if len(set(keys)) < len(keys):
+        yield 4
+    for member in members:
+        if not {"min", "max"}.isdisjoint(member.attrs):
+            yield 2
+        if mode_of(member) not in ("add", "delete"):
+            yield 3
+        yield from child_rules(member, set())
 
 
 def spec_rules(spec):
@@ -459,23 +583,28 @@ def spec_rules(spec):
         yield 2
     if mode_of(spec) not in merging.MODES:
         yield 3
-    yield from child_rules(spec, {"content"})
-    contents = [child for child in spec.inside if is_tei(child, "content")]
-    if len(contents) > 1:
-        yield 4
-    for content in contents:
-        yield from content_rules(content)
+    if spec.local == "classSpec":
+        if "type" not in spec.attrs and mode_of(spec) not in ("change", "delete"):
+            yield 1
+        if spec.attrs.get("type", "model") not in ("model", "atts"):
+            yield 3
+    yield from child_rules(spec, SPEC_CHILDREN[spec.local])
+    for local, rules in (("content", content_rules), ("classes", classes_rules)):
+        if local in SPEC_CHILDREN[spec.local]:
+            children = [child for child in spec.inside if is_tei(child, local)]
+            if len(children) > 1:
+                yield 4
+            for child in children:
+                yield from rules(child)
 
 
 def module_rules(reference):
     """The rules that a `moduleRef` breaks."""
-    words = [words_of(reference.attrs.get(name, "")) for name in ("include", "except")]
-    if not is_name(reference.attrs.get("key")) or not all(map(is_name, sum(words, []))):
+    if not is_name(reference.attrs.get("key")):
         yield 1
     if not reference.attrs.keys().isdisjoint(["url", "prefix", "source"]):
         yield 2
-    if all(words):
-        yield 3
+    yield from pick_rules(reference)
     yield from child_rules(reference, set())
 
 
@@ -492,7 +621,7 @@ def reference_rules(reference):
 def item_rules(item):
     if item.ns == RELAX_NG or is_tei(item, "constraintSpec"):
         yield 2
-    elif is_tei(item, "elementSpec"):
+    elif is_tei(item, *SPECS):
         yield from spec_rules(item)
     elif is_tei(item, "moduleRef"):
         yield from module_rules(item)
@@ -513,10 +642,11 @@ def form_offences(root):
     for item in schema.inside:
         for rule in item_rules(item):
             yield item.at, rule
-        if is_tei(item, "elementSpec") and is_name(item.attrs.get("ident")):
-            if item.attrs["ident"] in seen:
+        if is_tei(item, *SPECS) and is_name(item.attrs.get("ident")):
+            key = item.local, item.attrs["ident"]
+            if key in seen:
                 yield item.at, 4
-            seen.add(item.attrs["ident"])
+            seen.add(key)
 
 
 # What a file declares, in the words of checks/merging.py, and the library after a chain.
@@ -530,14 +660,27 @@ def fields_of(schema, spec, contents):
     """The fields that a declaration gives. Its content is told by its place among `contents`, to which it is put."""
     if "module" in spec.attrs:
         yield "module=" + spec.attrs["module"]
-    if mode_of(spec) in ("add", "replace"):
-        yield "ns=" + spec.attrs.get("ns", schema.attrs.get("ns", TEI))
-    elif "ns" in spec.attrs:
-        yield "ns=" + spec.attrs["ns"]
-    for content in spec.inside:
-        if is_tei(content, "content"):
-            contents.append(content)
+    if "type" in spec.attrs and spec.local == "classSpec":
+        yield "type=" + spec.attrs["type"]
+    if spec.local == "elementSpec":
+        if mode_of(spec) in ("add", "replace"):
+            yield "ns=" + spec.attrs.get("ns", schema.attrs.get("ns", TEI))
+        elif "ns" in spec.attrs:
+            yield "ns=" + spec.attrs["ns"]
+    for child in spec.inside:
+        if is_tei(child, "content"):
+            contents.append(child)
             yield f"content={len(contents) - 1}"
+        if is_tei(child, "classes"):
+            yield memberships_in(child)
+
+
+def memberships_in(classes):
+    """The field of the memberships that a `classes` gives."""
+    marks = ["+-"[mode_of(member) == "delete"] + member.attrs["key"] for member in classes.inside if is_tei(member, "memberOf")]
+    if classes.attrs.get("mode") == "change":
+        return "change=" + ",".join(marks)
+    return "classes=" + ",".join(mark[1:] for mark in marks if mark[0] == "+")
 
 
 def words_of_item(schema, item, contents):
@@ -547,8 +690,8 @@ def words_of_item(schema, item, contents):
         return ["module", item.attrs["key"], *next((pick for pick in picks if pick[1:]), [])]
     if is_tei(item, *TAKEN):
         return ["take", TAKEN[item.local], item.attrs["key"]]
-    if is_tei(item, "elementSpec"):
-        return [mode_of(item), "element", item.attrs["ident"], *fields_of(schema, item, contents)]
+    if is_tei(item, *SPECS):
+        return [mode_of(item), SPECS[item.local], item.attrs["ident"], *fields_of(schema, item, contents)]
     return None
 
 
@@ -561,7 +704,7 @@ def doc_of(schema, contents):
 
 def places_of(schema):
     """The bytes at which the items of the doc begin."""
-    return [item.at for item in schema.inside if is_tei(item, "moduleRef", "elementSpec", *TAKEN)]
+    return [item.at for item in schema.inside if is_tei(item, "moduleRef", *SPECS, *TAKEN)]
 
 
 def item_offences(schema, library, doc):
@@ -578,6 +721,20 @@ def library_of(chain):
         doc = doc_of(next(found(read(data))), contents)
         library, start = merging.held_after(library, doc), doc.start
     return start, library, contents
+
+
+def names_of(element):
+    """What a content or a part names, at any depth, as checks/merging.py writes it."""
+    kind = TAKEN.get(element.local)
+    if kind:
+        yield element.attrs["key"] if kind == "element" else f"{kind}/{element.attrs['key']}"
+    for part in parts_of(element):
+        yield from names_of(part)
+
+
+def naming(library, contents):
+    """The library, with what each content names in its place."""
+    return {key: part._replace(content=",".join(names_of(contents[int(part.content)])) if part.content.isdigit() else "") for key, part in library.items()}
 
 
 # The schema of a library.
@@ -633,15 +790,47 @@ def conditions_in(element):
         yield from conditions_in(part)
 
 
+def members_of(library):
+    """The idents of the elements that are members of each held class, in order."""
+    members = {key[1]: [] for key in library if key[0] == "class"}
+    for key in sorted(library, key=merging.key_order):
+        if key[0] == "element":
+            for _, ident in merging.reached(library, key, merging.links):
+                members[ident].append(key[1])
+    return members
+
+
+def one_of(idents):
+    """A choice of references to elements."""
+    return joined("choice", "notAllowed", once(*(reference("e." + ident) for ident in idents)))
+
+
+def class_pattern(part, held):
+    """The pattern of a reference to a class, that stands once."""
+    ident = part.attrs["key"]
+    if ident not in held.members:
+        return markup("notAllowed")
+    include, excluded = (words_of(part.attrs.get(name, "")) for name in ("include", "except"))
+    if include:
+        return one_of(member for member in held.members[ident] if member in include)
+    if excluded:
+        return one_of(member for member in held.members[ident] if member not in excluded)
+    return reference("c." + ident)
+
+
 def pattern_of(part, held, numbers):
-    """The pattern of a part, where these elements are held and the conditions have these numbers."""
+    """The pattern of a part, where this is held and the conditions have these numbers."""
     if part.local == "textNode":
         return markup("text")
     if part.local == "empty":
         return markup("empty")
     if part.local == "elementRef":
         key = part.attrs["key"]
-        pattern = reference("e." + key) if key in held else markup("notAllowed")
+        pattern = reference("e." + key) if key in held.elements else markup("notAllowed")
+    elif part.local == "macroRef":
+        pattern = reference("m." + part.attrs["key"])
+    elif part.local == "classRef":
+        pattern = class_pattern(part, held)
     elif part.local == "anyElement":
         pattern = reference(f"a.{numbers[condition_of(part)]}")
     else:
@@ -680,21 +869,34 @@ def condition_define(name, condition):
     return markup("define", once(body), name=name)
 
 
+def content_pattern(content, held, numbers):
+    return joined("group", "empty", patterns_of(content, held, numbers) if content else [])
+
+
 def element_define(ident, ns, content, held, numbers):
-    patterns = patterns_of(content, held, numbers) if content else []
-    body = markup("element", once(joined("group", "empty", patterns)), name=ident, ns=ns)
+    body = markup("element", once(content_pattern(content, held, numbers)), name=ident, ns=ns)
     return markup("define", once(body), name="e." + ident)
 
 
+def define_of(key, part, content, held, numbers):
+    """The define of a component, or none of a class of attributes."""
+    kind, ident = key
+    if kind == "element":
+        return [element_define(ident, part.ns, content, held, numbers)]
+    if kind == "macro":
+        return [markup("define", once(content_pattern(content, held, numbers)), name="m." + ident)]
+    return [markup("define", once(one_of(held.members[ident])), name="c." + ident)] if part.type == "model" else []
+
+
 def grammar_of(start, library, contents):
-    held = {ident for _, ident in library}
-    content_of = {ident: contents[int(part.content)] if part.content.isdigit() else None for (_, ident), part in library.items()}
+    held = Held({ident for kind, ident in library if kind == "element"}, members_of(library))
+    content_of = {key: contents[int(part.content)] if part.content.isdigit() else None for key, part in library.items()}
     conditions = sorted({condition for content in content_of.values() if content for condition in conditions_in(content)})
     numbers = {condition: number for number, condition in enumerate(conditions, 1)}
     defines = [condition_define(f"a.{number}", condition) for condition, number in numbers.items()]
-    defines += [element_define(ident, part.ns, content_of[ident], held, numbers) for (_, ident), part in library.items()]
-    start = joined("choice", "notAllowed", once(*(reference("e." + word) for word in start)))
-    inside = [markup("start", once(start)), *sorted(defines, key=lambda define: define.pairs["name"])]
+    for key, part in library.items():
+        defines += define_of(key, part, content_of[key], held, numbers)
+    inside = [markup("start", once(one_of(start))), *sorted(defines, key=lambda define: define.pairs["name"].encode())]
     return markup("grammar", once(*inside), xmlns=RELAX_NG, datatypeLibrary=DATATYPES)
 
 
@@ -719,17 +921,20 @@ def unread(chain):
 
 def refusal(chain):
     """The first offence of a chain: of the first file that has one, those of form before those of its items."""
-    library = {}
+    library, contents = {}, []
     for file, data in enumerate(chain, 1):
         root = read(data)
         schema = next(found(root))
         first = min(form_offences(root), default=None)
         if not first:
-            doc = doc_of(schema, [])
+            doc = doc_of(schema, contents)
             first = min(item_offences(schema, library, doc), default=None)
         if first:
             return Answer(2, f"odd: file {file}: byte {first[0]}: rule {first[1]}\n", "")
         library = merging.held_after(library, doc)
+        broken = min(merging.breaks(naming(library, contents)), key=lambda found: (found[0], merging.key_order(found[1:])), default=None)
+        if broken:
+            return Answer(2, f"odd: file {file}: {broken[1]} {broken[2]}: rule {broken[0]}\n", "")
     return None
 
 
@@ -764,7 +969,7 @@ def answer(chain):
 # The comparison.
 
 # What is looked for in the schemas, to tell how many have it.
-FORMS = [*"<group <choice <optional <zeroOrMore <oneOrMore <notAllowed <nsName <name".split(), 'define name="a.1"', 'define name="a.10"']
+FORMS = [*'name="c. name="m.'.split(), *"<group <choice <optional <zeroOrMore <oneOrMore <notAllowed <nsName <name".split(), 'define name="a.1"', 'define name="a.10"']
 
 
 def shown(text):
@@ -793,7 +998,7 @@ def main(program, count):
             wanted = answer(chain)
             result = subprocess.run([program, "compile", *put(folder, chain)], capture_output=True, cwd=folder)
             given = Answer(result.returncode, result.stderr.decode(), result.stdout.decode())
-            told[re.sub(r"byte \d+|start \S+", "..", wanted.note) or "the schema is written\n"] += 1
+            told[re.sub(r"byte \d+|start \S+|(element|class|macro) \S+(?=: rule)", "..", wanted.note) or "the schema is written\n"] += 1
             lengths[len(chain)] += 1
             forms.update(form for form in FORMS if form in wanted.schema)
             if given != wanted:

@@ -1,13 +1,15 @@
 #!/usr/bin/env python3
-"""Runs odd on random and mutated files, and looks for an answer that no contract has.
+"""Runs odd on chains of files that nobody wrote, and looks for an answer that no contract has.
 
     checks/robustness.py PROGRAM [RUNS]
 
-PROGRAM is the built program odd, RUNS the number of files (100,000 unless given). The files are made from a fixed seed:
-valid ODD files that grow, with contents of all forms and bounds of up to nine digits, the same with some bytes changed,
-cut, doubled or moved, and random bytes. Each run is `compile` of one file. Ends with 1 where a run ends by a signal or
-with a status that `compile` of one file cannot have, where an output does not go with its status, or where a run takes
-over ten seconds or 2 GiB. Prints how often each status came and the greatest memory of a run.
+PROGRAM is the built program odd, RUNS the number of chains (200,000 unless given). The files are made from a fixed seed:
+sources with elements, classes and macros in modules, and customisations of them; files with every element of the
+profile in every place and every attribute on each; files of many levels; the same with some bytes changed, cut, doubled
+or moved, with elements put into one another; and random bytes. Each run is `compile` of one to four files, seldom of
+sixteen or more. Ends with 1 where a run ends by a signal or with a status that `compile` cannot have, where an output
+does not go with its status, or where a run takes over ten seconds or 2 GiB. Prints how often each status came and the
+greatest memory of a run.
 """
 
 import collections
@@ -18,88 +20,166 @@ import subprocess
 import sys
 import tempfile
 
-TEI = b"http://www.tei-c.org/ns/1.0"
-SEED = 20261127
+TEI = "http://www.tei-c.org/ns/1.0"
+RELAX_NG = "http://relaxng.org/ns/structure/1.0"
+SEED = 20261128
 NAMED = {0, 2, 3, 5, 10}
 NO_MEMORY = 8
 MOST_MEMORY = 2 << 30
+# Every element of the profile, in TEI's namespace or another, whether it is read yet or not.
+ELEMENTS = (
+    "schemaSpec moduleRef elementRef classRef macroRef dataRef elementSpec classSpec macroSpec dataSpec specGrp specGrpRef"
+    " classes memberOf attList attDef attRef datatype valList valItem dataFacet content sequence alternate anyElement"
+    " textNode empty altIdent constraintSpec gloss desc equiv exemplum remarks listRef model modelGrp modelSequence"
+    " moduleSpec defaultVal TEI body p x:x r:text r:element"
+).split()
+IDENTS = "a b c model.a model.b att.a macro.a macro.b TEI 1 a:b zz".split() + ["", " a", "\u00e9"]
+MODULES = ["core", "tei", "msdescription"]
+NUMBERS = ["0", "1", "2", "3", "40", "999999999", "1234567890", "-1", "x", "", "unbounded"]
+VALUES = {
+    "ident": IDENTS,
+    "key": IDENTS + MODULES,
+    "start": ["a", "a b", "TEI", "", "zz", "1"],
+    "module": MODULES + [""],
+    "mode": ["add", "change", "delete", "replace", "Add", ""],
+    "type": ["model", "atts", "closed", "open", "x"],
+    "include": ["", "a", "a b", "model.a", "1", "zz"],
+    "except": ["", "a", "b c", "urn:x", "x:a", "z:a", "p:q xml:lang", TEI],
+    "require": ["", "urn:x", "urn:x urn:y", TEI],
+    "minOccurs": NUMBERS,
+    "maxOccurs": NUMBERS,
+    "expand": ["alternate", "sequence", ""],
+    "preserveOrder": ["true", "false", "1", "x"],
+    "usage": ["req", "opt", "mwa"],
+    "ns": ["", TEI, "urn:x", "a&#10;b"],
+    "name": ["token", "string", "ID", "x"],
+    "value": ["1", ""],
+    "target": ["#g", "g", "#none"],
+    "xml:id": ["g", "h", "1"],
+    "org": ["group", "choice"],
+    "source": [""],
+    "prefix": ["p"],
+    "url": ["u"],
+    "min": ["1"],
+    "restriction": ["[a-z]+", "("],
+    "xmlns:z": ["urn:z", TEI],
+    "xmlns": [TEI, "", RELAX_NG],
+}
 PIECES = [
-    b"<", b">", b"/>", b"</", b"=", b'"', b"'", b"&", b"&amp;", b"&#60;", b"<!--", b"-->", b"<![CDATA[", b"]]>", b"<?", b"?>",
+    b"<", b">", b"/>", b"</", b"=", b'"', b"'", b"&", b"&amp;", b"&#60;", b"&#xD800;", b"<!--", b"-->", b"<![CDATA[", b"]]>", b"<?", b"?>",
     b"<?xml", b"<!DOCTYPE", b"xmlns", b"xmlns:", b":", b" ", b"\n", b"\r", b"\t", b"\0", b"\xef\xbb\xbf", b"\xc3\xa9", b"\xff", b"\xed\xa0\x80",
-    b"schemaSpec", b"elementSpec", b"content", b"textNode", b"empty", b"ident", b"start", TEI,
-    b"sequence", b"alternate", b"elementRef", b"anyElement", b"key", b"require", b"except", b"minOccurs", b"maxOccurs", b"unbounded", b"0", b"9",
+    TEI.encode(), *(name.encode() for name in ELEMENTS), *(name.encode() for name in VALUES), b"unbounded", b"0", b"9",
 ]
-WORDS = [b"urn:a:b", b"urn:a:c", b"http://x.org/a", b"p:a", b"p:b", b"xml:lang", b"\xc3\xa9"]
+AROUND = {"": TEI, ":x": "urn:x", ":r": RELAX_NG, ":p": "urn:p"}
+BOUNDS = [*[""] * 24, ' minOccurs="0"', ' maxOccurs="unbounded"', ' minOccurs="0" maxOccurs="unbounded"', ' minOccurs="2" maxOccurs="5"', ' maxOccurs="999999999"']
 
 
-def bounds(rand):
-    """Bounds of a part, seldom of many digits."""
-    least = rand.choice([0, 1, 1, 2, 3])
-    if rand.random() < 0.03:
-        least = rand.randrange(10 ** rand.randrange(1, 10))
-    further = rand.choice([0, 0, 1, 2])
-    if rand.random() < 0.03:
-        further = rand.randrange(10 ** rand.randrange(1, 10))
-    greatest = min(least + further, 999_999_999) if rand.random() < 0.7 else "unbounded"
-    return f' minOccurs="{least}" maxOccurs="{greatest}"'.encode()
+def attributes(rand):
+    """Any attributes with any values."""
+    names = rand.sample(sorted(VALUES), rand.choice([0, 1, 1, 2, 3, 6]))
+    return "".join(f' {name}="{rand.choice(VALUES[name])}"' for name in names)
 
 
-def condition(rand):
-    """What an anyElement asks of an element."""
-    given = ((name, rand.sample(WORDS, rand.randrange(4))) for name in (b"require", b"except") if rand.random() < 0.5)
-    return b"".join(b' %s="%s"' % (name, b" ".join(words)) for name, words in given)
+def anything(rand, levels):
+    """Any element of the profile with any attributes and any elements in it."""
+    local = rand.choice(ELEMENTS)
+    inside = "".join(anything(rand, levels - 1) for _ in range(rand.choice([0, 1, 1, 2, 3]))) if levels else rand.choice(["", "t", "a"])
+    return f"<{local}{attributes(rand)}>{inside}</{local}>"
 
 
-def part(rand, idents, levels):
-    """A part of a content, of so many levels."""
-    kind = rand.choice([b"textNode", b"empty", *[b"elementRef"] * 4, b"anyElement", b"sequence", b"alternate"])
-    often = b"" if kind in (b"textNode", b"empty") or rand.random() < 0.6 else bounds(rand)
-    if kind == b"elementRef":
-        return b'<elementRef key="%s"%s/>' % (rand.choice(idents) if rand.random() < 0.9 else b"other", often)
-    if kind == b"anyElement":
-        return b"<anyElement%s%s/>" % (condition(rand), often)
-    if kind in (b"sequence", b"alternate"):
-        return b"<%s%s>%s</%s>" % (kind, often, parts(rand, idents, levels - 1), kind)
-    return b"<%s/>" % kind
+def part(rand, names, levels):
+    """A part of a content that mostly names what is declared."""
+    kind = rand.choice(["textNode", "empty", "element", "element", "class", "class", "macro", "any", "sequence", "alternate"])
+    often = rand.choice(BOUNDS)
+    if kind in ("element", "class", "macro"):
+        pick = rand.choice(["", "", ' include="a b"', ' except="a"', ' include="zz"']) if kind == "class" else ""
+        held = [name for name in names[kind] if not name.startswith("att.")] if rand.random() < 0.99 else names[kind]
+        return f'<{kind}Ref key="{rand.choice(held)}"{pick}{often}/>' if held else ""
+    if kind == "any":
+        return f'<anyElement{rand.choice(["", " require=" + chr(34) + "urn:x" + chr(34), f" except={chr(34)}{TEI} x:a{chr(34)}"])}{often}/>'
+    if kind in ("sequence", "alternate") and levels:
+        return f"<{kind}{often}>{parts(rand, names, levels - 1)}</{kind}>"
+    return f"<{kind}/>" if kind in ("textNode", "empty") else ""
 
 
-def parts(rand, idents, levels):
-    """Some parts one after another."""
-    return b"\n".join(part(rand, idents, levels) for _ in range(rand.randrange(4) if levels else 0))
+def parts(rand, names, levels):
+    return "".join(part(rand, names, levels) for _ in range(rand.choice([0, 1, 1, 2, 3])))
 
 
-def content(rand, idents):
-    """What stands in an elementSpec."""
-    thin = [b"", b"<content/>", b"<content>\n<empty/></content>", b"<content><textNode/></content>", b"<desc/>"]
-    if rand.random() < 0.7:
-        return rand.choices(thin, [3, 3, 3, 3, 0.05])[0]
-    return b"<content>%s</content>" % parts(rand, idents, 5)
+def members(rand, names, mode):
+    """What a `classes` holds."""
+    keys = rand.sample(names["class"], rand.randrange(min(4, len(names["class"]) + 1)))
+    given = "".join(f'<memberOf key="{key}"{rand.choice(["", "", " mode=" + chr(34) + "delete" + chr(34)])}/>' for key in keys)
+    return f"<classes{mode}>{given}</classes>"
 
 
-def odd_file(rand):
-    """A file of up to a hundred elements, valid or nearly so."""
-    idents = [f"e{rand.randrange(200)}".encode() for _ in range(rand.randrange(1, 2 + rand.choice([3, 30, 100])))]
-    if rand.random() < 0.8:
-        idents = list(dict.fromkeys(idents))
-    start = rand.choice(idents) if rand.random() < 0.8 else b"other"
-    specs = (b'<elementSpec ident="%s">%s</elementSpec>\n' % (ident, content(rand, idents)) for ident in idents)
-    return b'<schemaSpec xmlns="%s" xmlns:p="urn:p" ident="s" start="%s">\n%s</schemaSpec>\n' % (TEI, start, b"".join(specs))
+def declaration(rand, names, kind, ident, mode):
+    """A declaration of a component."""
+    named = f' ident="{ident}" module="{rand.choice(MODULES)}"{mode}'
+    content = f"<content>{parts(rand, names, 3)}</content>" if rand.random() < 0.8 else ""
+    classes = members(rand, names, rand.choice(["", "", ' mode="change"']))
+    if kind == "class":
+        return f'<classSpec{named} type="{"atts" if ident.startswith("att.") else "model"}">{classes}</classSpec>'
+    return f"<macroSpec{named}>{content}</macroSpec>" if kind == "macro" else f"<elementSpec{named}>{classes}{content}</elementSpec>"
 
 
-def deep_file(rand):
-    """A file of nested elements around the greatest depth, and some far above it."""
-    levels = rand.choice([198, 199, 200, 201, 202, 1000, 20000])
-    inner = b"<a>" * (levels - 1) + b"</a>" * (levels - 1)
-    return b'<a xmlns="%s">' % TEI + inner + b"</a>"
+def source(rand):
+    """A source of elements, classes and macros, and what it declares."""
+    count = rand.choice([1, 3, 3, 10, 60])
+    kinds = {"element": "e", "class": "model.", "macro": "macro."}
+    names = {kind: [f"{front}{n}" for n in range(rand.randrange(count + 1))] for kind, front in kinds.items()}
+    names["element"] += ["a", "b"]
+    names["class"] += [f"att.{n}" for n in range(rand.randrange(3))]
+    # Names of what comes later are mostly left out, so that few classes and macros come back to themselves.
+    items = []
+    for kind, idents in names.items():
+        for at, ident in enumerate(idents):
+            later = {**names, kind: idents[:at]} if kind != "element" and rand.random() < 0.97 else names
+            items.append(declaration(rand, later, kind, ident, ""))
+    rand.shuffle(items)
+    return schema(rand, items), names
 
 
-def mutated(rand, data):
-    """The file with some of its bytes changed."""
+def customisation(rand, names):
+    """A customisation of a library with these names."""
+    items = [f'<moduleRef key="{module}"{rand.choice(["", "", "", " except=" + chr(34) + "b" + chr(34)])}/>' for module in MODULES if rand.random() < 0.97]
+    for kind, idents in names.items():
+        for ident in idents:
+            if rand.random() < 0.1 and kind != "macro":
+                items.append(declaration(rand, {**names, kind: []}, kind, ident, f' mode="{rand.choice(["change"] * 6 + ["delete", "replace", "add"])}"'))
+            elif rand.random() < 0.05:
+                items.append(f'<{kind}Ref key="{ident}"/>')
+    return schema(rand, items)
+
+
+def schema(rand, items):
+    bound = "".join(f' xmlns{prefix}="{ns}"' for prefix, ns in AROUND.items())
+    inner = f'<schemaSpec{bound} ident="s" start="{rand.choice(["a", "a", "a", "a b", "zz"])}">{"".join(items)}</schemaSpec>'
+    return f"<TEI{bound}><body>{inner}</body></TEI>" if rand.random() < 0.3 else inner
+
+
+def every_form(rand):
+    """A file with any element in any place."""
+    bound = "".join(f' xmlns{prefix}="{ns}"' for prefix, ns in AROUND.items())
+    items = "".join(anything(rand, rand.choice([0, 1, 2, 3])) for _ in range(rand.randrange(6)))
+    return f'<schemaSpec{bound} ident="s" start="a">{items}<elementSpec ident="a"/></schemaSpec>'
+
+
+def deep(rand):
+    """A file of elements in one another around the greatest depth, and some far above it."""
+    local = rand.choice(["a", "content", "sequence", "alternate", "schemaSpec", "elementSpec", "classes"])
+    levels = rand.choice([58, 60, 61, 62, 198, 199, 200, 201, 1000, 20000])
+    inner = f"<{local}>" * levels + f"</{local}>" * levels
+    return schema(rand, [f'<elementSpec ident="a"><content>{inner}</content></elementSpec>'])
+
+
+def changed(rand, data):
+    """The file with some of its bytes changed, cut, doubled or moved."""
     data = bytearray(data)
     for _ in range(rand.choice([1, 1, 1, 2, 5, 20])):
         at, other = rand.randrange(len(data) + 1), rand.randrange(len(data) + 1)
         low, high = min(at, other), max(at, other)
-        kind = rand.randrange(6)
+        kind = rand.randrange(7)
         if kind == 0:
             data[at:at] = rand.choice(PIECES)
         elif kind == 1:
@@ -110,25 +190,44 @@ def mutated(rand, data):
             data[at:at] = data[low : min(high, low + 200)]
         elif kind == 4:
             del data[high:]
-        else:
+        elif kind == 5:
             data[at : at + 3] = rand.choice(PIECES)
+        else:
+            moved = data[low : min(high, low + 200)]
+            del data[low : low + len(moved)]
+            data[at:at] = moved
     return bytes(data)
 
 
-def made(rand):
-    """The next file."""
+def nested(rand, data):
+    """The file with some of its elements put into others."""
+    tags = [at for at, byte in enumerate(data) if byte == ord("<")]
+    for _ in range(rand.choice([1, 2, 5])):
+        at = rand.choice(tags)
+        data = data[:at] + anything(rand, 1).encode() + data[at:]
+    return data
+
+
+def chain(rand):
+    """The files of the next run."""
     kind = rand.random()
+    if kind < 0.05:
+        return [rand.randbytes(rand.randrange(300)) for _ in range(rand.choice([1, 2]))]
     if kind < 0.10:
-        return odd_file(rand)
-    if kind < 0.75:
-        return mutated(rand, odd_file(rand))
-    if kind < 0.77:
-        return deep_file(rand)
-    if kind < 0.79:
-        return mutated(rand, deep_file(rand))
-    if kind < 0.90:
-        return b"".join(rand.choice(PIECES) for _ in range(rand.randrange(40)))
-    return rand.randbytes(rand.randrange(300))
+        return [b"".join(rand.choice(PIECES) for _ in range(rand.randrange(40)))]
+    first, names = source(rand)
+    more = rand.choice([0, 1, 1, 1, 2, 3]) if rand.random() < 0.995 else rand.choice([15, 16, 17])
+    files = [first, *(customisation(rand, names) for _ in range(more))]
+    for at in range(len(files)):
+        if rand.random() < 0.15:
+            files[at] = rand.choice([every_form, every_form, every_form, deep])(rand)
+    files = [file.encode() for file in files]
+    for at, file in enumerate(files):
+        if rand.random() < 0.12:
+            files[at] = nested(rand, file)
+        if rand.random() < 0.2:
+            files[at] = changed(rand, files[at])
+    return files
 
 
 def fault_of(status, out, err):
@@ -144,32 +243,36 @@ def fault_of(status, out, err):
     return None
 
 
+def run(program, folder, files):
+    """The status of a run over these files, and what is wrong with it."""
+    paths = [os.path.join(folder, f"{number}.odd") for number in range(len(files))]
+    for path, data in zip(paths, files):
+        with open(path, "wb") as file:
+            file.write(data)
+    try:
+        result = subprocess.run([program, "compile", *paths], capture_output=True, timeout=10)
+    except subprocess.TimeoutExpired:
+        return None, "takes over ten seconds"
+    return result.returncode, fault_of(result.returncode, result.stdout, result.stderr)
+
+
 def main(program, runs):
     resource.setrlimit(resource.RLIMIT_AS, (MOST_MEMORY, MOST_MEMORY))
     rand = random.Random(SEED)
     counts, faults = collections.Counter(), 0
     with tempfile.TemporaryDirectory() as folder:
-        path = os.path.join(folder, "x.odd")
         for number in range(runs):
-            data = made(rand)
-            with open(path, "wb") as file:
-                file.write(data)
-            try:
-                result = subprocess.run([program, "compile", path], capture_output=True, timeout=10)
-            except subprocess.TimeoutExpired:
-                fault, status = "takes over ten seconds", None
-            else:
-                status = result.returncode
-                fault = fault_of(status, result.stdout, result.stderr)
+            files = chain(rand)
+            status, fault = run(program, folder, files)
             counts[status] += 1
             if fault:
                 faults += 1
-                print(f"file {number}: status {status} {fault}: {data[:300]!r}")
+                print(f"chain {number}: status {status} {fault}: {files!r:.3000}")
     peak = resource.getrusage(resource.RUSAGE_CHILDREN).ru_maxrss
-    print(f"{runs} files: " + ", ".join(f"{count} of status {status}" for status, count in sorted(counts.items(), key=str)))
+    print(f"{runs} chains: " + ", ".join(f"{count} of status {status}" for status, count in sorted(counts.items(), key=str)))
     print(f"greatest memory of a run: {peak} KiB; {faults} faults")
     return 1 if faults else 0
 
 
 if __name__ == "__main__":
-    sys.exit(main(sys.argv[1], int(sys.argv[2]) if len(sys.argv) > 2 else 100_000))
+    sys.exit(main(sys.argv[1], int(sys.argv[2]) if len(sys.argv) > 2 else 200_000))

@@ -5,7 +5,7 @@ use Rattle.std.specs.Cmp.{tied_itself}
 use Rattle.std.specs.Ordering.{eq_by_cmp, is_eq, nat_cmp, ordering_then}
 use Rattle.std.specs.declared.cmp.Ordering.{Ordering}
 use Rattle.std.specs.declared.cmp.Ordering.TheVariants.{Less, Equal, Greater}
-use Rattle.odd_base.specs.Key.{key_cmp}
+use Rattle.odd_base.specs.Key.{key_cmp, kind_rank}
 use Rattle.odd_base.specs.KeyOrder.{key_exact}
 use Rattle.odd_base.specs.declared.key.Key.{Key}
 use Rattle.odd_reader.specs.Elements.{StandsIn}
@@ -20,14 +20,24 @@ no_tie Less s h = refl
 no_tie Equal s h = h
 no_tie Greater s h = refl
 
+-- the order of two keys after the ranks of their kinds and their fronts, where this is their own
+abbrev after_fronts : Key → Key → Ordering → Ordering
+after_fronts a b o = ordering_then (nat_cmp (kind_rank a.kind) (kind_rank b.kind)) (ordering_then (nat_cmp (front_of a.ident) (front_of b.ident)) o)
+
+untied : (a b : Key) (o : Ordering) → is_eq o ≡ false → is_eq (after_fronts a b o) ≡ false
+untied a b o h = no_tie (nat_cmp (kind_rank a.kind) (kind_rank b.kind)) _ (no_tie (nat_cmp (front_of a.ident) (front_of b.ident)) o h)
+
 pub fronted_ties : (a b : Key) → eq_by_cmp fronted_cmp (fronted a) (fronted b) ≡ eq_by_cmp key_cmp a b
 fronted_ties a b = by_order (key_cmp a b) refl
   where
-    by_order : (o : Ordering) → key_cmp a b ≡ o → is_eq (ordering_then (nat_cmp (front_of a.ident) (front_of b.ident)) o) ≡ is_eq o
-    by_order Less e = no_tie (nat_cmp (front_of a.ident) (front_of b.ident)) Less refl
+    by_order : (o : Ordering) → key_cmp a b ≡ o → is_eq (after_fronts a b o) ≡ is_eq o
+    by_order Less e = untied a b Less refl
     by_order Equal e =
-        ap (λ r. is_eq (ordering_then r Equal)) (ap (λ (k : Key). nat_cmp (front_of a.ident) (front_of k.ident)) (sym (key_exact a b e)) ∙ tied_itself nat_cmp_total (front_of a.ident))
-    by_order Greater e = no_tie (nat_cmp (front_of a.ident) (front_of b.ident)) Greater refl
+        let same : a ≡ b = key_exact a b e in
+        let ranks : nat_cmp (kind_rank a.kind) (kind_rank b.kind) ≡ Equal = ap (λ (k : Key). nat_cmp (kind_rank a.kind) (kind_rank k.kind)) (sym same) ∙ tied_itself nat_cmp_total (kind_rank a.kind) in
+        let fronts : nat_cmp (front_of a.ident) (front_of b.ident) ≡ Equal = ap (λ (k : Key). nat_cmp (front_of a.ident) (front_of k.ident)) (sym same) ∙ tied_itself nat_cmp_total (front_of a.ident) in
+        λ i. is_eq (ordering_then (ranks i) (ordering_then (fronts i) Equal))
+    by_order Greater e = untied a b Greater refl
 
 -- what stands in a list stands as a value in the list of the values
 stands_mapped : {A B : Type 0} (f : A → B) (xs : List A) (x : A) → StandsIn xs x → StandsIn (map f xs) (f x)
