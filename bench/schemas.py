@@ -7,7 +7,7 @@ compiles, each five times:
 
 - the chain of examples/, a source of the shape of TEI's own and a customisation, and the source alone;
 - made files of classes of type `model`, of elements that are members of them, and of contents that name the classes: 900
-  elements in 100 classes, where each class but the first ten is a member of another, and the same ten times as large;
+  elements in 100 classes, where each class but the first ten is a member of another, and the same five and ten times as large;
 - 400 classes, each a member of the next, with an element each, so that their schema has 80,000 references to members; and twice as many;
 - 10,000 macros, each of which names the next, and twice as many.
 
@@ -105,12 +105,12 @@ def main(program):
     row("the same and examples/letters-custom.odd", program, [source, edition])
     with tempfile.TemporaryDirectory() as name:
         folder = pathlib.Path(name)
-        for title, made, counts in (("classes", many_classes, (100, 1000)), ("nested classes", nested_classes, (400, 800)), ("nested macros", nested_macros, (10_000, 20_000))):
-            before = None
+        for title, made, counts in (("classes", many_classes, (100, 500, 1000)), ("nested classes", nested_classes, (400, 800)), ("nested macros", nested_macros, (10_000, 20_000))):
+            found = {}
             for count in counts:
                 path = folder / f"{made.__name__}{count}.odd"
                 path.write_text(made(count), encoding="utf-8")
-                before = row(f"{count} {title}, {path.stat().st_size / 1e6:.2f} MB", program, [path], before)
+                found[count] = row(f"{count} {title}, {path.stat().st_size / 1e6:.2f} MB", program, [path], found.get(count // 2))
         schema = folder / "letters.rng"
         with open(schema, "wb") as out:
             subprocess.run([program, "compile", source, edition], check=True, stdout=out)
