@@ -1,17 +1,5 @@
-//! Calls that no run makes, each once with ample memory, and files and outputs in memory that fault at each call in turn.
+//! Libraries that no file gives: that they compile, and that what they hold is copied, each once with ample memory.
 #![tactic(auto)]
 
 #[cfg(test)]
-mod escaping;
-#[cfg(test)]
-mod grammars;
-#[cfg(test)]
 mod library;
-#[cfg(test)]
-mod making;
-#[cfg(test)]
-mod outside;
-#[cfg(test)]
-mod typed;
-#[cfg(test)]
-mod values;

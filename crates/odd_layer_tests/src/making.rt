@@ -1,25 +1,27 @@
-//! What the tests begin with.
+//! What tests begin with.
 
 use odd_base::{Calls, Key, Kind, NoMemory, Text, Words};
 use std::alloc::Global;
 
+/// The text. The only error is NoMemory, for want of memory.
 pub fn text(alloc: Global, text: &str) -> Result<Text, NoMemory> {
     Text::from_str(alloc, text)
 }
 
+/// The key of a component. The only error is NoMemory, for want of memory.
 pub fn key(alloc: Global, kind: Kind, ident: &str) -> Result<Key, NoMemory> {
     let ident = text(alloc, ident)?;
     Ok(Key { kind, ident })
 }
 
-// A list of one call. Calls are counted from 1, so 0 is none.
+/// A list of one call. Calls are counted from 1, so 0 is none. The only error is NoMemory, for want of memory.
 pub fn calls(alloc: Global, number: u64) -> Result<Calls, NoMemory> {
     let mut calls = Calls::new(alloc);
     calls.push(number)?;
     Ok(calls)
 }
 
-// So many words, `w1000` and so on.
+/// So many words, `w1000` and so on. The only error is NoMemory, for want of memory.
 pub fn many_words(alloc: Global, count: u32) -> Result<Words, NoMemory> {
     let mut words = Words::new(alloc);
     for number in 0..count {
