@@ -15,11 +15,12 @@ use Rattle.rng_patterns.specs.Names.{datatype_library, relax_ng_namespace}
 use Rattle.rng_patterns.specs.declared.grammar.Grammar.{Grammar}
 use Rattle.rng_emit.specs.Grammar.{all_of, grammar_text}
 use Rattle.rng_emit.specs.Plain.{IsPlain}
-use Rattle.rng_emit.proofs.Markable.{grammar_parts, grammar_plain, grammar_tag, relax_ng_bound}
+use Rattle.rng_emit.proofs.Markable.{grammar_parts, grammar_plain}
+use Rattle.rng_emit.proofs.PlainTags.{grammar_tag, relax_ng_bound}
 use Rattle.rng_emit.proofs.Rising.{rising_once}
 use Rattle.rng_emit.proofs.Shown.{AreShown, IsShown, is_part, shown, value_in}
-use Rattle.rng_emit.proofs.ShownBodies.{defines_shown, start_shown}
-use Rattle.rng_emit.proofs.ShownPatterns.{Allows, no_attribute}
+use Rattle.rng_emit.proofs.ShownBodies.{defines_shown}
+use Rattle.rng_emit.proofs.ShownPatterns.{Allows, no_attribute, start_shown}
 
 -- the attribute of the root
 abbrev root_attributes : List Pair

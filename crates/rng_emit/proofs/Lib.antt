@@ -1,5 +1,7 @@
 pub mod Denoted
+pub mod Examples
 pub mod Markable
+pub mod PlainTags
 pub mod Rising
 pub mod Shapes
 pub mod Shown

@@ -1,18 +1,12 @@
 -- The elements of a plain grammar's text have names and values of XML, and none declares a namespace.
-use Rattle.std.proofs.Common.{◌≡◌, ◌≢◌, ℕ, List, [], ◌∷◌, ◌++◌, map, refl, sym, ap, subst, ◌∙◌}
-use Rattle.std.specs.Prelude.{All, IsTrue, codes}
-use Rattle.std.proofs.lemmas.Bool.{false≢true}
-use Rattle.std.proofs.lemmas.List.Elements.{All-nil, All-cons, All-head, All-tail}
+use Rattle.std.proofs.Common.{◌≡◌, List, [], ◌∷◌, ◌++◌, map, refl, sym, ap, subst, ◌∙◌}
+use Rattle.std.specs.Prelude.{All, codes}
+use Rattle.std.proofs.lemmas.List.Elements.{All-head, All-tail}
 use Rattle.odd_base.specs.declared.name.Name.{Name}
-use Rattle.odd_tokens.proofs.Ascii.{ascii_name, ascii_ncname, is_ascii_name}
-use Rattle.odd_tokens.proofs.Distinct.{none_twice}
-use Rattle.odd_tokens.proofs.Legal.{ascii_legal, ncname_legal}
-use Rattle.odd_tokens.specs.Characters.{IsLegal, IsNCName}
-use Rattle.odd_tokens.specs.Same.{is_same}
+use Rattle.odd_tokens.proofs.Legal.{ncname_legal}
+use Rattle.odd_tokens.specs.Characters.{IsLegal}
 use Rattle.odd_reader.specs.Markup.{Markup}
-use Rattle.odd_reader.specs.Names.{xml_namespace, xmlns_namespace}
-use Rattle.odd_reader.proofs.PrintedTrees.{ArePlain, IsNamespace, IsPlain, IsPlainAttribute, IsPlainTag}
-use Rattle.rng_patterns.specs.Names.{datatype_library, relax_ng_namespace}
+use Rattle.odd_reader.proofs.PrintedTrees.{ArePlain, IsPlain, IsPlainTag}
 use Rattle.rng_patterns.specs.declared.grammar.AttrPart.TheVariants as attributes
 use Rattle.rng_patterns.specs.declared.grammar.AttrPart.{AttrPart}
 use Rattle.rng_patterns.specs.declared.grammar.Body.TheVariants as body
@@ -26,44 +20,8 @@ use Rattle.rng_patterns.specs.declared.grammar.NsPart.{NsPart}
 use Rattle.rng_emit.specs.Grammar.{all_of, attributes_markup, body_markup, class_markup, define_markup, except_markup, name_markup, name_pairs, part_markup, parts_markup, pattern_markup, plain, space_markup}
 use Rattle.rng_emit.specs.Plain as is
 use Rattle.rng_emit.specs.Plain.{ArePlainAttributes, ArePlainPatterns, IsPlainBody, IsPlainClass, IsPlainDefine, IsPlainName, IsPlainPart, IsPlainPattern}
+use Rattle.rng_emit.proofs.PlainTags.{bare_tag, element_tag, one_tag, space_tag}
 use Rattle.rng_emit.proofs.Shapes.{choice_is, empty_is, group_is, not_allowed_is, one_or_more_is, optional_is, ref_is, text_is, zero_or_more_is}
-
--- a name of ASCII is an NCName
-is_name : (name : List ℕ) → IsTrue (is_ascii_name name) → IsNCName name
-is_name name h = (name, ascii_name name h, ascii_ncname name h)
-
--- the tags: with no attribute, with one, and with a name and a namespace
-
-bare_tag : (tag : List ℕ) → IsTrue (is_ascii_name tag) → IsPlainTag tag []
-bare_tag tag h = record { named = is_name tag h; attributed = All-nil IsPlainAttribute; once = none_twice [] tt }
-
-one_tag : (tag name value : List ℕ) → IsTrue (is_ascii_name tag) → IsTrue (is_ascii_name name) → name ≢ codes "xmlns" → IsLegal value → IsPlainTag tag ((name, value) ∷ [])
-one_tag tag name value h k apart legal = record {
-  named = is_name tag h;
-  attributed = All-cons IsPlainAttribute (name, value) [] (record { named = is_name name k; apart = apart; legal = legal }) (All-nil IsPlainAttribute);
-  once = none_twice (name ∷ []) (tt, tt);
-}
-
-element_tag : (name : Name) → IsPlainName name → IsPlainTag (codes "element") ((codes "name", name.local) ∷ (codes "ns", name.ns) ∷ [])
-element_tag name n = record {
-  named = is_name (codes "element") refl;
-  attributed =
-      All-cons IsPlainAttribute (codes "name", name.local) ((codes "ns", name.ns) ∷ [])
-      (record { named = is_name (codes "name") refl; apart = λ e. cc; legal = ncname_legal name.local n.named })
-      (All-cons IsPlainAttribute (codes "ns", name.ns) [] (record { named = is_name (codes "ns") refl; apart = λ e. cc; legal = n.legal }) (All-nil IsPlainAttribute));
-  once = none_twice (codes "name" ∷ codes "ns" ∷ []) (((λ e. cc), tt), (tt, tt));
-}
-
--- the tag of the root, and its namespace
-pub grammar_tag : IsPlainTag (codes "grammar") ((codes "datatypeLibrary", datatype_library) ∷ [])
-grammar_tag = one_tag (codes "grammar") (codes "datatypeLibrary") datatype_library refl refl (λ e. cc) (ascii_legal datatype_library refl)
-
-pub relax_ng_bound : IsNamespace relax_ng_namespace
-relax_ng_bound = record {
-  legal = ascii_legal relax_ng_namespace refl;
-  xml = λ e. false≢true (ap (λ ns. is_same ns xml_namespace) e);
-  reserved = λ e. false≢true (ap (λ ns. is_same ns xmlns_namespace) e);
-}
 
 -- lists of elements
 
@@ -99,9 +57,6 @@ mutual
   patterns_plain ps (is.more {p = p} {ps = rest} a later) = (pattern_plain p a, patterns_plain rest later)
 
 -- names
-
-space_tag : (ns : List ℕ) → IsLegal ns → IsPlainTag (codes "nsName") ((codes "ns", ns) ∷ [])
-space_tag ns legal = one_tag (codes "nsName") (codes "ns") ns refl refl (λ e. cc) legal
 
 name_plain : (n : Name) → IsPlainName n → IsPlain (name_markup n)
 name_plain n p = (one_tag (codes "name") (codes "ns") n.ns refl refl (λ e. cc) p.legal, ncname_legal n.local p.named)

@@ -17,6 +17,7 @@ use Rattle.odd_reader.specs.Significant.{is_blank, is_element}
 use Rattle.rng_patterns.specs.Denoting.{IsLeaf, IsNamed, IsPart, parts_of}
 use Rattle.rng_emit.specs.Grammar.{all_of}
 use Rattle.rng_patterns.specs.Names.{relax_ng_namespace}
+use Rattle.rng_patterns.proofs.SchemaTrees.{element_passes}
 
 -- the trees show the elements, one each in order
 abbrev pub AreShown : List Markup → List Tree → Type 0
@@ -47,9 +48,6 @@ parts_more t later e =
 
 parts_break : (later : List Node) → parts_in (line_break ∷ later) ≡ parts_in later
 parts_break later = ap (λ ts. filter (λ u. is_same (out-Tree u).name.ns relax_ng_namespace) (ts ++ elements_of later)) (text_shown line_break (codes "\n") refl)
-
-element_passes : (t : Tree) → (is_element (Element t) || is_blank (Element t)) ≡ true
-element_passes t = search (rules, N.the_lemmas)
 
 break_passes : (is_element line_break || is_blank line_break) ≡ true
 break_passes = search (rules, N.the_lemmas)

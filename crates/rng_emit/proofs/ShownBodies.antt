@@ -1,4 +1,4 @@
--- The trees of a grammar's printed defines and of its start are its defines and its start.
+-- The trees of a grammar's printed defines are its defines.
 use Rattle.std.proofs.Common.{◌≡◌, ℕ, List, [], ◌∷◌, ◌++◌, map, Some, refl, sym, subst}
 use Rattle.std.specs.Prelude.{All, codes, unwrap_or}
 use Rattle.std.proofs.lemmas.List.Elements.{All-cons, All-head, All-tail}
@@ -8,7 +8,7 @@ use Rattle.odd_reader.specs.Markup.{Markup, Pair}
 use Rattle.odd_reader.specs.declared.tree.Tree.{Tree}
 use Rattle.odd_reader.proofs.PrintedTrees.{Shows}
 use Rattle.rng_patterns.specs.Denoting as denoting
-use Rattle.rng_patterns.specs.Denoting.{AreDefines, AreOnePattern, HasAttributes, HasNames, IsAnyAttributes, IsBody, IsDefine, IsElementOf, IsNameClass, IsPart, IsStart, parts_of}
+use Rattle.rng_patterns.specs.Denoting.{AreDefines, AreOnePattern, HasAttributes, HasNames, IsAnyAttributes, IsBody, IsDefine, IsElementOf, IsNameClass, IsPart, parts_of}
 use Rattle.rng_patterns.specs.Names.{relax_ng_namespace}
 use Rattle.rng_patterns.specs.declared.grammar.AttrPart.TheVariants as attributes
 use Rattle.rng_patterns.specs.declared.grammar.AttrPart.{AttrPart}
@@ -22,7 +22,7 @@ use Rattle.rng_emit.specs.Grammar.{any_attributes, attributes_markup, body_marku
 use Rattle.rng_emit.specs.Plain.{ArePlainAttributes, IsPlainBody, IsPlainClass, IsPlainDefine, IsPlainPattern}
 use Rattle.rng_emit.proofs.Shown.{AreShown, IsShown, is_part, leaf_shown, one_part, shown, value_in}
 use Rattle.rng_emit.proofs.ShownNames.{any_shown, within_shown}
-use Rattle.rng_emit.proofs.ShownPatterns.{Allows, holds_parts, no_attribute, one_attribute, one_pattern, pattern_shown}
+use Rattle.rng_emit.proofs.ShownPatterns.{Allows, holds_parts, no_attribute, one_attribute, one_pattern}
 
 -- the attributes that an `element` may have
 abbrev allowed : List (List ℕ)
@@ -144,10 +144,3 @@ defines_shown default [] (t ∷ ts) p s = absurd s
 defines_shown default (d ∷ ds) [] p s = absurd s
 defines_shown default (d ∷ ds) (t ∷ ts) p s =
     denoting.more (define_shown default d t (All-head IsPlainDefine d ds p) s.0) (defines_shown default ds ts (All-tail IsPlainDefine d ds p) s.1)
-
--- the start
-pub start_shown : (p : Expr) (t : Tree) → IsPlainPattern p → Shows relax_ng_namespace (plain (codes "start") (pattern_markup p ∷ [])) t → IsStart t p
-start_shown p t a s =
-    let h = holds_parts (codes "start") (pattern_markup p ∷ []) t s in
-    let one = one_part (pattern_markup p) (parts_of t) h.parts in
-    record { is_part = h.is_part; inside = one.inside; alone = one.alone; is_pattern = pattern_shown p one.inside a one.shows }

@@ -96,7 +96,7 @@ part_shown default part t p s =
     record {
       is_part = is_part _ _ _ (codes "ns" ∷ []) t h (one_attribute (codes "ns") part.ns);
       space = space_given default (codes "nsName") part.ns t h.head;
-      but = except_shown default [] part.but (parts_of t) p.but h.parts;
+      but = except_shown part.ns [] part.but (parts_of t) p.but h.parts;
     }
 
 -- and in each of some

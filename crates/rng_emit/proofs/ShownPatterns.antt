@@ -7,14 +7,14 @@ use Rattle.odd_reader.specs.Markup.{Markup, Pair}
 use Rattle.odd_reader.specs.declared.tree.Tree.{Tree}
 use Rattle.odd_reader.proofs.PrintedTrees.{Shows}
 use Rattle.rng_patterns.specs.Denoting as denoting
-use Rattle.rng_patterns.specs.Denoting.{AreOnePattern, ArePatterns, IsPart, IsPattern, parts_of}
+use Rattle.rng_patterns.specs.Denoting.{AreOnePattern, ArePatterns, IsPart, IsPattern, IsStart, parts_of}
 use Rattle.rng_patterns.specs.Names.{relax_ng_namespace}
 use Rattle.rng_patterns.specs.declared.grammar.Expr.{Expr}
 use Rattle.rng_emit.specs.Grammar.{named, pattern_markup, plain}
 use Rattle.rng_emit.specs.Plain as is
 use Rattle.rng_emit.specs.Plain.{ArePlainPatterns, IsPlainPattern}
 use Rattle.rng_emit.proofs.Shapes.{choice_is, empty_is, group_is, not_allowed_is, one_or_more_is, optional_is, ref_is, text_is, zero_or_more_is}
-use Rattle.rng_emit.proofs.Shown.{AreShown, is_part, leaf_shown, shown, value_in}
+use Rattle.rng_emit.proofs.Shown.{AreShown, is_part, leaf_shown, one_part, shown, value_in}
 
 -- the attribute is one of the allowed ones
 abbrev pub Allows : List (List ℕ) → Pair → Type 0
@@ -84,3 +84,10 @@ mutual
 -- elements that show one pattern are it
 pub one_pattern : (p : Expr) (ts : List Tree) → IsPlainPattern p → AreShown (pattern_markup p ∷ []) ts → AreOnePattern ts p
 one_pattern p ts a s = record { first = p; more = []; are = lone p ts (λ u. pattern_shown p u a) s; one = refl }
+
+-- and so is the tree of a printed start
+pub start_shown : (p : Expr) (t : Tree) → IsPlainPattern p → Shows relax_ng_namespace (plain (codes "start") (pattern_markup p ∷ [])) t → IsStart t p
+start_shown p t a s =
+    let h = holds_parts (codes "start") (pattern_markup p ∷ []) t s in
+    let one = one_part (pattern_markup p) (parts_of t) h.parts in
+    record { is_part = h.is_part; inside = one.inside; alone = one.alone; is_pattern = pattern_shown p one.inside a one.shows }

@@ -1,4 +1,5 @@
--- A grammar of the forms whose text is shown to denote it: patterns of content, any attributes or none, and names that XML can write.
+-- A grammar of the forms whose text is shown to denote it: patterns of content, of which groups and choices have two parts or more; any attributes
+-- or none; name classes that name something, and names that XML can write; defines whose names rise, and references that are linked.
 use Rattle.std.specs.Prelude.{◌≡◌, ◌≢◌, ℕ, List, [], ◌∷◌, map, IsTrue, All}
 use Rattle.std.specs.FinMap.{is_sorted}
 use Rattle.odd_base.specs.Text.{text_cmp}

@@ -19,7 +19,7 @@ pub const RELAX_NG: &str = "http://relaxng.org/ns/structure/1.0";
 pub const DATATYPES: &str = "http://www.w3.org/2001/XMLSchema-datatypes";
 
 /// The text of a grammar as a RELAX NG schema in XML syntax (docs/schema.md). Of a grammar that is plain it denotes that
-/// grammar, and no other (ISO/IEC 19757-2, section 4). NoMemory is answered for want of memory.
+/// grammar, and no other (ISO/IEC 19757-2, section 7). NoMemory is answered for want of memory.
 pub fn print_rng(alloc: Global, grammar: &Grammar) -> Result<Text, NoMemory>
     ensures text { IfOk result (λ text. text ≡ grammar_text grammar.now) }
     ensures denotes { IfOk result (λ text. IsPlain grammar.now → DenotesOnly text grammar.now) }

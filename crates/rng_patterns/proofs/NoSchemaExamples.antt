@@ -1,26 +1,23 @@
 -- The namespace of an `element` in a schema, and schemas that stand for no grammar.
-use Rattle.std.proofs.Common.{◌≡◌, ℕ, true, List, [], ◌∷◌, ◌++◌, inl, inr, refl, sym, ap, ◌∙◌, codes}
+use Rattle.std.proofs.Common.{◌≡◌, ℕ, List, [], ◌∷◌, ◌++◌, inl, inr, refl, sym, ap, ◌∙◌, codes}
 use Rattle.std.proofs.lemmas.List.Elements.{All-head}
-use Rattle.odd_reader.proofs.InList.{first_or_later}
+use Rattle.odd_reader.proofs.InList.{first_or_later, only_item}
 use Rattle.odd_reader.specs.Elements.{StandsIn}
 use Rattle.odd_reader.specs.declared.tree.Attr.{Attr}
 use Rattle.odd_reader.specs.declared.tree.Tree.{Tree, out-Tree}
-use Rattle.odd_tokens.proofs.Ascii.{ascii_name, ascii_ncname, is_ascii_name}
-use Rattle.odd_tokens.specs.Characters.{IsNCName}
-use Rattle.rng_patterns.proofs.Examples.{apart, only_item}
+use Rattle.odd_reader.proofs.StandsNames.{apart}
+use Rattle.odd_tokens.proofs.Ascii.{is_name}
 use Rattle.rng_patterns.proofs.SchemaTrees.{element, empty, parts_are, rng, start}
 use Rattle.rng_patterns.specs.Denoting as denoting
 use Rattle.rng_patterns.specs.Denoting.{AreDefines, HasNames, IsDefine, StandsFor, parts_of}
+use Rattle.rng_patterns.specs.Names.{datatype_library}
 use Rattle.rng_patterns.specs.declared.grammar.Define.{Define}
 use Rattle.rng_patterns.specs.declared.grammar.Grammar.{Grammar}
 use Rattle.rng_patterns.specs.declared.grammar.NameClass.TheVariants as class
 
 -- an attribute without a namespace
-abbrev attribute : List ℕ → List ℕ → Attr
+abbrev pub attribute : List ℕ → List ℕ → Attr
 attribute local value = record { name = record { ns = []; local = local }; value = value }
-
-is_name : (name : List ℕ) → is_ascii_name name ≡ true → IsNCName name
-is_name name h = (name, ascii_name name h, ascii_ncname name h)
 
 -- an `element` is in the grammar's namespace
 abbrev element_a : Tree
@@ -63,6 +60,10 @@ with_combine g parts s =
       | inl e ↦ cc
       | inr later ↦ apart (codes "combine") (codes "datatypeLibrary") refl (only_item _ _ later)
     ]
+
+-- nor one whose datatypes are of another library
+with_other_datatypes : (g : Grammar) (parts : List Tree) → StandsFor (grammar (attribute (codes "datatypeLibrary") (codes "urn:x") ∷ []) parts) g → ⊥
+with_other_datatypes g parts s = apart (codes "urn:x") datatype_library refl (s.datatypes (codes "urn:x") refl)
 
 -- a `start` is no `define`
 no_define : (t : Tree) (d : Define) → t ≡ start_e → IsDefine [] t d → ⊥

@@ -6,7 +6,7 @@ use Rattle.odd_reader.specs.declared.tree.Node.{Node, Node-F, out-Node, Text}
 use Rattle.odd_reader.specs.declared.tree.Node.TheOpen as shown
 use Rattle.odd_reader.specs.declared.tree.Node as N
 use Rattle.odd_reader.specs.declared.tree.Tree.{Tree}
-use Rattle.rng_patterns.specs.Denoting.{AreExcepted, AreOnePattern, ArePatterns, AreSpaceParts, HasAttributes, HasExcept, HasName, HasNames, IsAnyAttributes, IsElementOf, IsNameClass, IsNameOf, IsPart, IsPattern, IsSpaceOf, IsSpacePart, parts_of}
+use Rattle.rng_patterns.specs.Denoting.{AreExcepted, AreOnePattern, AreSpaceParts, HasAttributes, HasExcept, HasNames, IsAnyAttributes, IsElementOf, IsNameClass, IsNameOf, IsPattern, IsSpacePart, parts_of}
 use Rattle.rng_patterns.specs.Denoting as denoting
 use Rattle.rng_patterns.specs.declared.grammar.AttrPart.{AttrPart}
 use Rattle.rng_patterns.specs.declared.grammar.Body.{Body}
@@ -60,11 +60,12 @@ module _ (default : List ℕ) where
   one_except ts s r n m denoting.none denoting.none = record { same_spaces = refl; same_names = refl }
   one_except ts s r n m (denoting.one h e hs) (denoting.one k f ks) = one_excepted _ s r n m (subst (λ us. AreExcepted default us s n) (sym e ∙ f) hs) ks
 
+module _ (default : List ℕ) where
   -- a `nsName` is one part
   one_part : (t : Tree) (p q : NsPart) → IsSpacePart default t p → IsSpacePart default t q → p ≡ q
   one_part t p q h k =
       let spaces : p.ns ≡ q.ns = h.space ∙ sym k.space in
-      let same = one_except (parts_of t) [] [] p.but q.but h.but k.but in
+      let same = one_except p.ns (parts_of t) [] [] p.but q.but h.but (subst (λ ns. HasExcept ns (parts_of t) [] q.but) (sym spaces) k.but) in
       λ i. record { ns = spaces i; but = same.same_names i }
 
   -- several are one list of parts
@@ -74,7 +75,7 @@ module _ (default : List ℕ) where
 
   -- an element is one name class
   one_class : (t : Tree) (n m : NameClass) → IsNameClass default t n → IsNameClass default t m → n ≡ m
-  one_class t n m (denoting.any h but) (denoting.any k other) = let same = one_except _ _ _ _ _ but other in λ i. class.AnyBut (same.same_spaces i) (same.same_names i)
+  one_class t n m (denoting.any h but) (denoting.any k other) = let same = one_except default _ _ _ _ _ but other in λ i. class.AnyBut (same.same_spaces i) (same.same_names i)
   one_class t n m (denoting.any h but) (denoting.space k) = two_names _ _ _ _ _ refl h.is_named k.is_part.is_named
   one_class t n m (denoting.any h but) (denoting.spaces k ks) = two_names _ _ _ _ _ refl h.is_named k.is_named
   one_class t n m (denoting.space h) (denoting.any k other) = two_names _ _ _ _ _ refl h.is_part.is_named k.is_named

@@ -4,12 +4,12 @@ use Rattle.std.specs.Prelude.{IsTrue}
 use Rattle.std.proofs.lemmas.Bool.{false≢true}
 use Rattle.std.proofs.lemmas.List.Elements.{All-nil, All-cons, All-head}
 use Rattle.odd_base.specs.declared.name.Name.{Name}
-use Rattle.odd_reader.proofs.InList.{nothing_stands, stands_first, stands_later}
+use Rattle.odd_reader.proofs.InList.{nothing_stands, only_item, stands_first, stands_later}
 use Rattle.odd_reader.specs.Significant.{Marking, is_element}
 use Rattle.odd_reader.specs.declared.tree.Attr.{Attr}
 use Rattle.odd_reader.specs.declared.tree.Node as N
 use Rattle.odd_reader.specs.declared.tree.Node.{Node, Text}
-use Rattle.rng_patterns.proofs.Examples.{apart, only_item}
+use Rattle.odd_reader.proofs.StandsNames.{apart}
 use Rattle.rng_patterns.proofs.Told.{told}
 use Rattle.rng_patterns.specs.Acceptance.{AreMatched, AreRuled, HasRule, IsThere}
 use Rattle.rng_patterns.specs.Patterns as patterns
@@ -75,6 +75,12 @@ another_rule : (needed : Bool) → AreRuled (rule needed ∷ []) (attribute (cod
 another_rule needed m =
     let h = All-head (HasRule (rule needed ∷ [])) (attribute (codes "m")) [] m.ruled in
     apart (codes "n") (codes "m") refl (ap (λ (r : AttrRule). r.name.local) (sym (only_item _ _ h.1)) ∙ ap (λ (n : Name). n.local) h.2)
+
+-- nor one of another namespace
+another_namespace : (needed : Bool) → AreRuled (rule needed ∷ []) (record { name = record { ns = codes "urn:x"; local = codes "n" }; value = codes "v" } ∷ []) → ⊥
+another_namespace needed m =
+    let h = All-head (HasRule (rule needed ∷ [])) _ [] m.ruled in
+    apart [] (codes "urn:x") refl (ap (λ (r : AttrRule). r.name.ns) (sym (only_item _ _ h.1)) ∙ ap (λ (n : Name). n.ns) h.2)
 
 -- but where any attributes may stand, each may
 any_taken : (attrs : List Attr) → AreMatched attributes.AnyAttributes attrs

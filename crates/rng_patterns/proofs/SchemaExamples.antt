@@ -1,23 +1,19 @@
--- Which grammars small schemas stand for, and which schemas stand for none.
+-- Which grammar a small schema stands for.
 use Rattle.std.proofs.Common.{◌≡◌, ℕ, Bool, true, false, cond, List, [], ◌∷◌, map, Some, None, inl, inr, refl, sym, ap, subst, ◌∙◌, codes}
 use Rattle.std.specs.FinMap.{find, slice_cmp-IsAntisymmetric, nat_cmp-IsAntisymmetric}
-use Rattle.std.specs.Ordering.{is_eq, eq_by_cmp}
-use Rattle.std.specs.declared.cmp.Ordering.TheVariants.{Less, Equal, Greater}
-use Rattle.std.specs.declared.cmp.Ordering.{Ordering}
+use Rattle.std.specs.Ordering.{eq_by_cmp}
+use Rattle.std.proofs.lemmas.Map.Views.{tells_apart}
 use Rattle.odd_base.specs.Text.{text_cmp}
-use Rattle.odd_reader.proofs.InList.{first_or_later, nothing_stands, stands_first, stands_later}
-use Rattle.odd_reader.proofs.Spelling.{one_tree}
+use Rattle.odd_reader.proofs.InList.{first_or_later, nothing_stands, only_item, stands_first, stands_later}
 use Rattle.odd_reader.specs.Elements.{StandsIn}
-use Rattle.odd_reader.specs.Spelled.{Spells}
 use Rattle.odd_reader.specs.declared.tree.Tree.{Tree}
 use Rattle.odd_tokens.proofs.Distinct.{none_twice}
-use Rattle.rng_patterns.proofs.Examples.{apart, only_item}
-use Rattle.rng_patterns.proofs.OneGrammar.{Says, one_order, said, said_once}
+use Rattle.odd_reader.proofs.StandsNames.{apart}
 use Rattle.rng_patterns.proofs.Told.{empty_shown, group_shown, optional_shown, ref_shown, refers, text_shown}
 use Rattle.rng_patterns.specs.Denoting as denoting
-use Rattle.rng_patterns.specs.Denoting.{Denotes, IsPattern, StandsFor, entry_of}
+use Rattle.rng_patterns.specs.Denoting.{IsPattern, StandsFor, entry_of}
 use Rattle.rng_patterns.specs.Linked as linked
-use Rattle.rng_patterns.specs.Linked.{IsLinked, Reaches, RefersTo, names_of, pattern_of}
+use Rattle.rng_patterns.specs.Linked.{IsLinked, Reaches, RefersTo, pattern_of}
 use Rattle.rng_patterns.specs.Names.{datatype_library, relax_ng_namespace}
 use Rattle.rng_patterns.specs.Patterns.{IsDefined}
 use Rattle.rng_patterns.specs.declared.grammar.Body.TheVariants as body
@@ -26,7 +22,7 @@ use Rattle.rng_patterns.specs.declared.grammar.Expr.TheOpen as shape
 use Rattle.rng_patterns.specs.declared.grammar.Expr.TheVariants as expr
 use Rattle.rng_patterns.specs.declared.grammar.Expr.{Expr}
 use Rattle.rng_patterns.specs.declared.grammar.Grammar.{Grammar}
-use Rattle.rng_patterns.proofs.SchemaTrees.{bare_part, define, define_is, element, element_body, element_is, empty, empty_is, one_pattern, parts_are, ref, ref_is, rng, start, start_is, text, text_is}
+use Rattle.rng_patterns.proofs.SchemaTrees.{bare_part, define, define_is, element, element_body, element_is, empty, empty_is, parts_are, ref, ref_is, rng, start, start_is, text, text_is}
 
 -- the namespaces, written out once more
 
@@ -66,7 +62,7 @@ abbrev two_defines : Grammar
 two_defines = record { start = expr.Ref (codes "a"); defines = define_a ∷ define_b ∷ [] }
 
 -- a reference refers to its name alone
-only_ref : (name other : List ℕ) → RefersTo name (expr.Ref other) → name ≡ other
+pub only_ref : (name other : List ℕ) → RefersTo name (expr.Ref other) → name ≡ other
 only_ref name other r = elim (refers name _ (shape.Ref other) (ref_shown other) r) [ inl e ↦ cc | inr part ↦ absurd (nothing_stands _ part.1) ]
 
 -- what it refers to is defined
@@ -120,21 +116,12 @@ exchanged true false x y z h = refl
 exchanged false true x y z h = refl
 exchanged false false x y z h = refl
 
--- two names that tie are equal
-equal_only : (r : Ordering) → is_eq r ≡ true → r ≡ Equal
-equal_only Less e = cc
-equal_only Equal e = refl
-equal_only Greater e = cc
-
-tied : (q k : List ℕ) → eq_by_cmp text_cmp q k ≡ true → q ≡ k
-tied q k e = slice_cmp-IsAntisymmetric nat_cmp-IsAntisymmetric q k (equal_only _ e)
-
 -- so the order of the two defines says nothing
 found_alike : (q : List ℕ) → find text_cmp q (map entry_of (define_a ∷ define_b ∷ [])) ≡ find text_cmp q (map entry_of (define_b ∷ define_a ∷ []))
-found_alike q = exchanged (eq_by_cmp text_cmp q (codes "a")) (eq_by_cmp text_cmp q (codes "b")) _ _ _ (λ e f. apart (codes "a") (codes "b") refl (sym (tied q _ e) ∙ tied q _ f))
+found_alike q = exchanged (eq_by_cmp text_cmp q (codes "a")) (eq_by_cmp text_cmp q (codes "b")) _ _ _ (λ e f. let tied = tells_apart (slice_cmp-IsAntisymmetric nat_cmp-IsAntisymmetric) q in apart (codes "a") (codes "b") refl (sym (tied _ e) ∙ tied _ f))
 
 -- no attribute tells of datatypes
-not_given : {R : Type 0} (value : List ℕ) → None ≡ Some value → R
+pub not_given : {R : Type 0} (value : List ℕ) → None ≡ Some value → R
 not_given value e = cc
 
 schema_stands : StandsFor schema two_defines
@@ -153,93 +140,4 @@ schema_stands = record {
   rising = refl;
   same = found_alike;
   linked = is_linked;
-}
-
--- a `ref` without a define stands for no grammar
-
-abbrev lone : Tree
-lone = rng (codes "grammar") [] (start (codes "a") ∷ [])
-
-lone_says : Says lone (expr.Ref (codes "a")) []
-lone_says = record { start = start (codes "a"); before = []; after = []; parts = parts_are (start (codes "a") ∷ []) refl; is_start = start_is (codes "a") refl; are_defines = denoting.none }
-
-lone_stands : (g : Grammar) → StandsFor lone g → ⊥
-lone_stands g s =
-    let once = said_once lone g.start (expr.Ref (codes "a")) s.defines [] (said lone g s) lone_says in
-    let found : (name : List ℕ) → find text_cmp name (map entry_of g.defines) ≡ None = λ name. s.same name ∙ ap (λ ds. find text_cmp name (map entry_of ds)) once.one_list in
-    let none : g.defines ≡ [] = one_order g.defines [] s.rising refl found in
-    let defined : StandsIn (names_of g.defines) (codes "a") = s.linked.start (codes "a") (subst (RefersTo (codes "a")) (sym once.one_pattern) linked.here) in
-    nothing_stands (codes "a") (subst (λ ds. StandsIn (names_of ds) (codes "a")) none defined)
-
--- nor does a define that reaches itself
-
-abbrev round : Tree
-round = rng (codes "grammar") [] (start (codes "a") ∷ define (codes "a") (ref (codes "a")) ∷ [])
-
-abbrev itself : Define
-itself = record { name = codes "a"; body = body.Part (expr.Ref (codes "a")) }
-
-round_says : Says round (expr.Ref (codes "a")) (itself ∷ [])
-round_says = record {
-  start = start (codes "a");
-  before = [];
-  after = define (codes "a") (ref (codes "a")) ∷ [];
-  parts = parts_are (start (codes "a") ∷ define (codes "a") (ref (codes "a")) ∷ []) refl;
-  is_start = start_is (codes "a") refl;
-  are_defines = denoting.more (define_is (codes "a") _ _ refl refl (denoting.part (one_pattern _ _ (ref_is (codes "a") refl)))) denoting.none;
-}
-
-round_stands : (g : Grammar) → StandsFor round g → ⊥
-round_stands g s =
-    let once = said_once round g.start (expr.Ref (codes "a")) s.defines (itself ∷ []) (said round g s) round_says in
-    let found : (name : List ℕ) → find text_cmp name (map entry_of g.defines) ≡ find text_cmp name (map entry_of (itself ∷ [])) =
-    λ name. s.same name ∙ ap (λ ds. find text_cmp name (map entry_of ds)) once.one_list in
-    let one : g.defines ≡ itself ∷ [] = one_order g.defines (itself ∷ []) s.rising refl found in
-    s.linked.apart (codes "a") (linked.at_once (subst (λ ds. StandsIn ds itself) (sym one) (stands_first _ _)) linked.here)
-
--- so no bytes that spell one of the two denote a grammar
-
-denotes_none : (t : Tree) → ((g : Grammar) → StandsFor t g → ⊥) → (bytes : List ℕ) (g : Grammar) → Spells bytes t → Denotes bytes g → ⊥
-denotes_none t none bytes g s d = none g (subst (λ u. StandsFor u g) (one_tree bytes d.tree t d.spelled s) d.stands)
-
-lone_denotes : (bytes : List ℕ) (g : Grammar) → Spells bytes lone → Denotes bytes g → ⊥
-lone_denotes = denotes_none lone lone_stands
-
-round_denotes : (bytes : List ℕ) (g : Grammar) → Spells bytes round → Denotes bytes g → ⊥
-round_denotes = denotes_none round round_stands
-
--- an element may hold itself: what a define reaches through an `element` is no round
-
-abbrev inside_itself : Grammar
-inside_itself = record { start = expr.Ref (codes "a"); defines = record { name = codes "a"; body = element_body (codes "a") (expr.Ref (codes "a")) } ∷ [] }
-
-abbrev itself_parts : List Tree
-itself_parts = start (codes "a") ∷ define (codes "a") (element (codes "a") (ref (codes "a"))) ∷ []
-
-itself_linked : IsLinked inside_itself
-itself_linked = record { start = λ name r. first_defined name r; patterns = λ name d s r. first_defined name (subst (λ (x : Define). RefersTo name (pattern_of x.body)) (only_item _ _ s) r); apart = λ name r. no_round name name r }
-  where
-    first_defined : (name : List ℕ) → RefersTo name (expr.Ref (codes "a")) → StandsIn (codes "a" ∷ []) name
-    first_defined name r = subst (StandsIn (codes "a" ∷ [])) (sym (only_ref name (codes "a") r)) (stands_first _ _)
-
-    no_round : (name other : List ℕ) → Reaches inside_itself name other → ⊥
-    no_round name other (linked.at_once {p = p} d r) = let e : body.Part p ≡ element_body (codes "a") (expr.Ref (codes "a")) = ap (λ (x : Define). x.body) (only_item _ _ d) in cc
-    no_round name other (linked.through r s) = no_round _ _ r
-
-itself_stands : StandsFor (rng (codes "grammar") [] itself_parts) inside_itself
-itself_stands = record {
-  is_part = bare_part (codes "grammar") (codes "ns" ∷ codes "datatypeLibrary" ∷ []) itself_parts;
-  datatypes = λ value e. not_given value e;
-  start = start (codes "a");
-  before = [];
-  after = define (codes "a") (element (codes "a") (ref (codes "a"))) ∷ [];
-  parts = parts_are itself_parts refl;
-  is_start = start_is (codes "a") refl;
-  defines = inside_itself.defines;
-  are_defines = denoting.more (define_is (codes "a") (element (codes "a") (ref (codes "a"))) _ refl refl
-      (denoting.element (element_is (codes "a") (ref (codes "a")) (expr.Ref (codes "a")) refl refl (ref_is (codes "a") refl)))) denoting.none;
-  once = none_twice (codes "a" ∷ []) (tt, tt);
-  rising = refl;
-  same = λ name. refl;
-  linked = itself_linked;
 }

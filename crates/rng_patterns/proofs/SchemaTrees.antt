@@ -11,7 +11,7 @@ use Rattle.odd_reader.specs.declared.tree.Attr.{Attr}
 use Rattle.odd_reader.specs.declared.tree.Node as N
 use Rattle.odd_reader.specs.declared.tree.Node.{Element}
 use Rattle.odd_reader.specs.declared.tree.Tree.{Tree, out-Tree, roll-Tree}
-use Rattle.odd_tokens.proofs.Ascii.{ascii_name, ascii_ncname, is_ascii_name}
+use Rattle.odd_tokens.proofs.Ascii.{is_ascii_name, is_name}
 use Rattle.odd_tokens.specs.Same.{is_same}
 use Rattle.rng_patterns.specs.Denoting as denoting
 use Rattle.rng_patterns.specs.Denoting.{AreOnePattern, HasName, IsBody, IsDefine, IsElementOf, IsPart, IsPattern, IsStart, parts_of}
@@ -43,7 +43,7 @@ parts_are (t ∷ ts) h =
     ∙ ap (λ c. cond c (t ∷ filter of_relax_ng (elements_of (map Element ts))) (filter of_relax_ng (elements_of (map Element ts)))) both.0 ∙ ap (λ us. t ∷ us) (parts_are ts both.1)
 
 -- an element is no text
-element_passes : (t : Tree) → (is_element (Element t) || is_blank (Element t)) ≡ true
+pub element_passes : (t : Tree) → (is_element (Element t) || is_blank (Element t)) ≡ true
 element_passes t = search (rules, N.the_lemmas)
 
 -- nor are several
@@ -65,9 +65,8 @@ named_part local name more parts = record {
   blank = elements_pass parts;
 }
 
--- a name of ASCII
 has_name : (local name : List ℕ) (parts : List Tree) → is_ascii_name name ≡ true → HasName (rng local (named name) parts) name
-has_name local name parts h = record { is_given = refl; is_ncname = (name, ascii_name name h, ascii_ncname name h) }
+has_name local name parts h = record { is_given = refl; is_ncname = is_name name h }
 
 -- elements without parts, and what they stand for
 abbrev pub ref : List ℕ → Tree

@@ -50,7 +50,7 @@ pub record HasName (t : Tree) (name : List ℕ) : Type 0 where
   pub is_given : given t (codes "name") ≡ Some name
   pub is_ncname : IsNCName name
 
--- several patterns where one stands are a group (section 4.12)
+-- several patterns where one stands are a group (section 7.13)
 abbrev pub grouped : Expr → List Expr → Expr
 grouped first [] = first
 grouped first (next ∷ more) = expr.Group (first ∷ next ∷ more)
@@ -107,11 +107,11 @@ pub data HasExcept (default : List ℕ) : List Tree → List (List ℕ) → List
   one : {t u : Tree} {us : List Tree} {spaces : List (List ℕ)} {names : List Name} → IsPart (codes "except") [] t → parts_of t ≡ u ∷ us → AreExcepted default (u ∷ us) spaces names
       → HasExcept default (t ∷ []) spaces names
 
--- a `nsName`, of whose `except` the names are left out
+-- a `nsName`, of whose `except` the names are left out: one without `ns` is of the namespace of the `nsName` around it
 pub record IsSpacePart (default : List ℕ) (t : Tree) (part : NsPart) : Type 0 where
   pub is_part : IsPart (codes "nsName") (codes "ns" ∷ []) t
   pub space : part.ns ≡ unwrap_or (given t (codes "ns")) default
-  pub but : HasExcept default (parts_of t) [] part.but
+  pub but : HasExcept part.ns (parts_of t) [] part.but
 
 pub data AreSpaceParts (default : List ℕ) : List Tree → List NsPart → Type 0 where
   none : AreSpaceParts default [] []

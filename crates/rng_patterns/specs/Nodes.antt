@@ -34,8 +34,8 @@ body_nodes count None = zero
 body_nodes count (Some (body.Element names attrs content)) = 1
 body_nodes count (Some (body.Part p)) = count p
 
--- A reference to a define that holds an `element` is one node, and to another what that define has. No define comes back to itself, so no more
--- steps are needed than there are defines.
+-- A reference to a define that holds an `element` is one node, and to another what that define has. Where the grammar is linked no define comes
+-- back to itself, so no more steps are needed than there are defines.
 abbrev pub reference_nodes : ℕ → Grammar → List ℕ → ℕ
 reference_nodes zero g name = zero
 reference_nodes (suc steps) g name = body_nodes (nodes (reference_nodes steps g)) (find text_cmp name (map entry_of g.defines))
