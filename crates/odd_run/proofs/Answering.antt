@@ -14,6 +14,7 @@ use Rattle.odd_run.specs.Words.{Compiles, WordsMean, compile}
 use Rattle.odd_run.specs.declared.words.Job.{Job}
 use Rattle.odd_run.specs.declared.status.Status.{Status}
 use Rattle.odd_run.specs.declared.status.Status.TheVariants as status
+use Rattle.odd_run.proofs.OneReply.{names_one}
 use Rattle.odd_run.proofs.Reading.{all_begun, stopped_begins}
 
 -- the files that words name: how many there are, and that they are those of the job
@@ -38,6 +39,13 @@ usage_named words s (NamesFiles.too_many chain c many) e = cc
 pub named_usage : (words : List (List ℕ)) (s : Status) → NamesFiles words (answers s) → ((job : Job) → WordsMean words job → ⊥) → s ≡ status.Usage
 named_usage words s (NamesFiles.no_job none) e = refl
 named_usage words s (NamesFiles.too_many chain c many) none = absurd (none _ (compile chain c refl))
+
+-- they answer one status, and none where they name files
+pub named_answer : (words : List (List ℕ)) (s r : Status) → NamesFiles words (answers s) → NamesFiles words (answers r) → s ≡ r
+named_answer words s r n m = let same = names_one words (answers s) (answers r) n m in cc
+
+pub named_none : (words names : List (List ℕ)) (s : Status) → NamesFiles words (gives names) → NamesFiles words (answers s) → ⊥
+named_none words names s n m = let no = names_one words (gives names) (answers s) n m in cc
 
 module _ (holds : Option FileMap) (words names : List (List ℕ)) (chain : Chain) (n : NamesFiles words (gives names)) (r : IsChainRead holds names chain) where
   pub few_read : HasFewDocs chain

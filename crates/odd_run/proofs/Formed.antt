@@ -2,116 +2,35 @@
 use Rattle.std.proofs.Common.{◌≡◌, ℕ, List, [], ◌∷◌, Option, Some, None, refl, ap, subst, sym, ◌∙◌}
 use Rattle.std.proofs.lemmas.List.Elements.{All-nil, All-cons}
 use Rattle.std.specs.Option.{IfSome}
-use Rattle.std.specs.Prelude.{All, codes, unwrap_or}
-use Rattle.odd_base.specs.declared.key.Key.{Key}
-use Rattle.odd_base.specs.declared.key.Kind.{Kind}
+use Rattle.std.specs.Prelude.{All}
 use Rattle.odd_base.specs.declared.key.Kind.TheVariants as kind
 use Rattle.odd_base.specs.declared.name.Bind.{Bind}
-use Rattle.odd_tokens.proofs.Legal.{ascii_legal}
-use Rattle.odd_tokens.specs.Characters.{IsLegal, IsNCName}
-use Rattle.odd_reader.specs.Elements.{StandsIn, given, children_of, within}
-use Rattle.odd_reader.specs.Formed.{IsFormedTag}
+use Rattle.odd_tokens.specs.Characters.{IsLegal}
+use Rattle.odd_reader.specs.Elements.{StandsIn, children_of, within}
 use Rattle.odd_reader.specs.declared.tree.Tree.{Tree}
 use Rattle.odd_reader.proofs.FormedBindings.{BindLegally}
 use Rattle.odd_reader.proofs.InList.{stands_first, stands_later}
 use Rattle.odd_forms.specs.Children.{GivesOne}
-use Rattle.odd_forms.specs.Names.{tei_namespace}
 use Rattle.odd_forms.specs.declared.element.Element.{Element}
 use Rattle.odd_forms.specs.declared.element.Element.TheVariants as element
 use Rattle.odd_content.specs.Giving.{IsContentOf}
 use Rattle.odd_content.specs.declared.content.Content.{Content}
-use Rattle.odd_content.specs.declared.content.Content.TheVariants as content
-use Rattle.odd_decls.specs.Declares.{Declares, IsEntryOf, IsReadAs, mode_given, namespace_given, namespace_in, namespace_of}
-use Rattle.odd_decls.specs.Library.{component_as, component_of}
+use Rattle.odd_decls.specs.Declares.{Declares, IsEntryOf, IsReadAs}
 use Rattle.odd_decls.specs.Offences.{IsItem, ItemFault, ItemOffends, Offends, kind_declared}
-use Rattle.odd_decls.specs.declared.library.Component.{Component}
-use Rattle.odd_decls.specs.declared.library.Component.TheVariants as component
 use Rattle.odd_decls.specs.declared.library.Library.{Library}
 use Rattle.odd_decls.specs.declared.odd.Entry.TheVariants as entry
 use Rattle.odd_decls.specs.declared.odd.OddDoc.{OddDoc}
-use Rattle.odd_decls.specs.declared.spec.Mode.{Mode}
-use Rattle.odd_decls.specs.declared.spec.Mode.TheVariants as mode
 use Rattle.odd_decls.specs.declared.spec.Spec.{Spec}
 use Rattle.odd_decls.proofs.FoundFormed.{IsFormedSomewhere, found_formed}
 use Rattle.odd_modes.proofs.Held.{EachSpec, held_from}
-use Rattle.odd_modes.specs.After.{laid_over}
 use Rattle.odd_chain.specs.Files.{AreDeclared, Gives}
-use Rattle.compile_core.specs.Schema.{IsFormed, IsFormedCondition, IsFormedContent, IsFormedPart}
+use Rattle.compile_core.specs.Schema.{IsFormed, IsFormedContent}
 use Rattle.odd_run.proofs.AroundLegal.{around_legal}
 use Rattle.odd_run.proofs.BoundsOrdered.{bounds_ordered}
 use Rattle.odd_run.proofs.ConditionsFormed.{conditions_formed}
-use Rattle.odd_run.proofs.GivenLegal.{child_formed, legal_given, tag_formed, within_legal}
-
--- what a spec gives is formed, and it is of no datatype
-record IsFormedSpec (spec : Spec) : Type 0 where
-  named : IsNCName spec.key.ident
-  no_datatype : spec.key.kind ≡ kind.Datatype → ⊥
-  ns : IfSome spec.ns IsLegal
-  content : IfSome spec.content IsFormedContent
-
--- what is held at a key is formed
-abbrev IsFormedAt : Key → Component → Type 0
-IsFormedAt key part = IsNCName key.ident × IsFormedPart key.kind part
-
--- what is given, or else a default
-given_or : {A : Type 0} (P : A → Type 0) (o : Option A) (default : A) → IfSome o P → P default → P (unwrap_or o default)
-given_or P None default given h = h
-given_or P (Some value) default given h = given
-
--- no content is formed
-empty_formed : IsFormedContent content.Empty
-empty_formed = record { conditions = All-nil IsFormedCondition; ordered = tt }
-
--- the component of a spec, of the kind of its key
-made_of : (spec : Spec) → IsFormedSpec spec → (k : Kind) → spec.key.kind ≡ k → IsFormedPart k (component_as k spec)
-made_of spec f kind.Element e =
-    record { legal = given_or IsLegal spec.ns tei_namespace f.ns (ascii_legal tei_namespace refl); content = given_or IsFormedContent spec.content content.Empty f.content empty_formed }
-made_of spec f kind.Class e = tt
-made_of spec f kind.Macro e = given_or IsFormedContent spec.content content.Empty f.content empty_formed
-made_of spec f kind.Datatype e = absurd (f.no_datatype e)
-
--- as a component
-made_formed : (spec : Spec) → IsFormedSpec spec → IsFormedAt spec.key (component_of spec)
-made_formed spec f = (f.named, made_of spec f spec.key.kind refl)
-
--- a spec laid over a component of a kind
-over_of : (k : Kind) (part : Component) (spec : Spec) → IsFormedSpec spec → IsFormedPart k part → IsFormedPart k (laid_over part spec)
-over_of kind.Element (component.Element part) spec f h =
-    record { legal = given_or IsLegal spec.ns part.ns f.ns h.legal; content = given_or IsFormedContent spec.content part.content f.content h.content }
-over_of kind.Class (component.Class part) spec f h = tt
-over_of kind.Macro (component.Macro part) spec f h = given_or IsFormedContent spec.content part.content f.content h
-over_of k part spec f h = absurd h
-
--- laid over a component
-over_formed : (key : Key) (part : Component) (spec : Spec) → IsFormedSpec spec → IsFormedAt key part → IsFormedAt key (laid_over part spec)
-over_formed key part spec f h = (h.0, over_of key.kind part spec f h.1)
-
--- the namespace that an element gives
-ns_legal : (t : Tree) → IsFormedTag t → IfSome (given t (codes "ns")) IsLegal
-ns_legal t f = by (given t (codes "ns")) (λ v e. legal_given t (codes "ns") v f e)
-  where
-    by : (o : Option (List ℕ)) → ((value : List ℕ) → o ≡ Some value → IsLegal value) → IfSome o IsLegal
-    by None legal = tt
-    by (Some value) legal = legal value refl
-
--- the namespace of an element in documents
-legal_namespace : (schema item : Tree) → IsFormedTag schema → IsFormedTag item → IsLegal (namespace_given schema item)
-legal_namespace schema item f g =
-    given_or IsLegal (given item (codes "ns")) _ (ns_legal item g) (given_or IsLegal (given schema (codes "ns")) tei_namespace (ns_legal schema f) (ascii_legal tei_namespace refl))
-
--- the one that a declaration gives
-legal_in : (m : Mode) (schema item : Tree) → IsFormedTag schema → IsFormedTag item → IfSome (namespace_in m schema item) IsLegal
-legal_in mode.Add schema item f g = legal_namespace schema item f g
-legal_in mode.Replace schema item f g = legal_namespace schema item f g
-legal_in mode.Change schema item f g = ns_legal item g
-legal_in mode.Delete schema item f g = ns_legal item g
-
--- which is none but for an element
-legal_of : (k : Kind) (schema item : Tree) → IsFormedTag schema → IsFormedTag item → IfSome (namespace_of k schema item) IsLegal
-legal_of kind.Element schema item f g = legal_in (mode_given item) schema item f g
-legal_of kind.Class schema item f g = tt
-legal_of kind.Macro schema item f g = tt
-legal_of kind.Datatype schema item f g = tt
+use Rattle.odd_run.proofs.GivenLegal.{child_formed, tag_formed, within_legal}
+use Rattle.odd_run.proofs.FormedSpecs.{IsFormedAt, IsFormedSpec, made_formed, over_formed}
+use Rattle.odd_run.proofs.NamespacesLegal.{legal_of}
 
 -- no element declares a datatype so far
 declares_none : (e : Element) → kind_declared e ≡ Some kind.Datatype → ⊥

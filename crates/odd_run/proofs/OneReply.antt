@@ -34,7 +34,7 @@ no_job_but words chain none c = none _ (compile chain c refl)
 many_but : (words f g : List (List ℕ)) → Compiles words f → Compiles words g → 16 < length f → length g ≤ 16 → ⊥
 many_but words f g p q long short = omega (arith, long, short, ap length (one_chain words f g p q))
 
-names_one : IsOne NamesFiles
+pub names_one : IsOne NamesFiles
 names_one words o p (no_job n) (no_job m) = refl
 names_one words o p (no_job n) (too_many g q l) = absurd (no_job_but words g n q)
 names_one words o p (no_job n) (named {chain = g} q l) = absurd (no_job_but words g n q)

@@ -5,11 +5,11 @@ use Rattle.odd_base.specs.Shelf.{FileMap, NotHeld}
 use Rattle.odd_reader.specs.Elements.{StandsIn}
 use Rattle.odd_reader.specs.declared.tree.Tree.{Tree}
 use Rattle.odd_run.specs.Outcome.{answers, gives}
-use Rattle.odd_run.specs.Reply.{NamesFiles, ReadsChain, Reply, WordsComeTo, all_spelled, answered, done, named}
+use Rattle.odd_run.specs.Reply.{ReadsChain, Reply, WordsComeTo, all_spelled, answered, done}
 use Rattle.odd_run.specs.Running.{IsComplete, IsReadPlace, IsReplied, IsSilent}
-use Rattle.odd_run.specs.Words.{Compiles}
 use Rattle.odd_run.specs.declared.status.Status.{Status}
 use Rattle.odd_run.specs.declared.status.Status.TheVariants as status
+use Rattle.odd_run.proofs.Answering.{named_compile}
 use Rattle.odd_run.proofs.OneFile.{gives_each, read_absent}
 use Rattle.odd_run.proofs.OneReply.{one_chain, words_one}
 use Rattle.odd_run.proofs.Statuses.{never_done}
@@ -48,14 +48,11 @@ reached_held : (files : FileMap) (chain : List (List ℕ)) (trees : List Tree) (
 reached_held files chain trees name (all_spelled g) s absent =
     let each = gives_each files chain trees name g s in read_absent files name each.1.bytes each.1.is_read absent
 
-names_chain : (words chain : List (List ℕ)) → NamesFiles words (gives chain) → Compiles words chain
-names_chain words chain (named c l) = c
-
 -- and over a steady shelf none of them fails to be read
 pub reads_steady : (words : List (List ℕ)) (files : FileMap) (text : List ℕ) (number : ℕ) (rest : Option (List ℕ)) (steady : Bool) → Reply words files text status.Done
     → IsReadPlace words files number rest steady → IsTrue steady → ⊥
 reads_steady words files text number rest steady d p is =
     let w = done_gives words files text d in
-    let chains = one_chain words p.chain w.0 p.compiles (names_chain words w.0 w.1) in
+    let chains = one_chain words p.chain w.0 p.compiles (named_compile words w.0 w.1) in
     let reached = p.place.reached in
     reached_held files w.0 w.2.0 p.place.name w.2.1 (reached.earlier, reached.later, sym chains ∙ reached.parts) (p.place.not_held is)

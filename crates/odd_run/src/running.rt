@@ -47,12 +47,13 @@ pub fn run<F: Shelf, W: Sink, N: Sink>(
     ensures reply { (files : FileMap) (before : List ℕ) → F.holds shelf.old ≡ Some files → W.written out.old ≡ Some before → IsReplied result → ((text : List ℕ) × (W.written out.new ≡ Some (before ++ text)) × Reply words.now files text result) }
     ensures accepts { (files : FileMap) (before : List ℕ) → F.holds shelf.old ≡ Some files → W.written out.old ≡ Some before → result ≡ Status.Done → ((text : List ℕ) × (W.written out.new ≡ Some (before ++ text)) × AcceptsOfWords words.now files text) }
     ensures usage { (result ≡ Status.Usage) ↔ ((job : AJob) → WordsMean words.now job → ⊥) }
+    ensures files { (result ≡ Status.Limit LimitKind.Files) ↔ NamesFiles words.now (answers (Status.Limit LimitKind.Files)) }
     ensures silent { IsSilent result → W.written out.new ≡ W.written out.old }
     ensures partial { (files : FileMap) (before : List ℕ) → F.holds shelf.old ≡ Some files → W.written out.old ≡ Some before → result ≡ Status.WriteFault → ((text : List ℕ) × Reply words.now files text Status.Done × IsPartWritten before text (W.written out.new)) }
     ensures read_cause { (file : ℕ) → result ≡ Status.ReadFault file → HasRisen (F.faults shelf.old) (F.faults shelf.new) }
     ensures write_cause { result ≡ Status.WriteFault → HasRisen (W.faults out.old) (W.faults out.new) }
     ensures read_place { (files : FileMap) (file : ℕ) → F.holds shelf.old ≡ Some files → result ≡ Status.ReadFault file → IsReadPlace words.now files file (F.rest shelf.new) (F.steady shelf.old) }
-    ensures room { (files : FileMap) (text : List ℕ) → F.holds shelf.old ≡ Some files → Reply words.now files text Status.Done → IsTrue (W.steady out.old) → length text ≤ W.room out.old → result ≢ Status.WriteFault }
+    ensures room { (files : FileMap) (text : List ℕ) (status : AStatus) → F.holds shelf.old ≡ Some files → Reply words.now files text status → IsTrue (W.steady out.old) → length text ≤ W.room out.old → result ≢ Status.WriteFault }
     ensures few_reads { F.reads shelf.new ≤ F.reads shelf.old + (length words.now - 1) * (file_bytes + 1) }
     ensures begins { BeginsFiles result (length words.now - 1) (F.begins shelf.old) (F.begins shelf.new) }
     ensures to_the_end { (files : FileMap) → F.holds shelf.old ≡ Some files → result ≡ Status.Done → F.rest shelf.new ≡ Some [] }
@@ -95,6 +96,7 @@ fn reply_text<F: Shelf>(alloc: Global, words: &Words, shelf: &mut F) -> Result<T
     ensures err { (files : FileMap) → F.holds shelf.old ≡ Some files → IfErr result (λ status. IsReplied status → Reply words.now files [] status) }
     ensures early { IfErr result IsSilent }
     ensures usage { (result ≡ Err Status.Usage) ↔ ((job : AJob) → WordsMean words.now job → ⊥) }
+    ensures files { (result ≡ Err (Status.Limit LimitKind.Files)) ↔ NamesFiles words.now (answers (Status.Limit LimitKind.Files)) }
     ensures read_cause { (file : ℕ) → result ≡ Err (Status.ReadFault file) → HasRisen (F.faults shelf.old) (F.faults shelf.new) }
     ensures read_place { (files : FileMap) (file : ℕ) → F.holds shelf.old ≡ Some files → result ≡ Err (Status.ReadFault file) → IsReadPlace words.now files file (F.rest shelf.new) (F.steady shelf.old) }
     ensures few_reads { F.reads shelf.new ≤ F.reads shelf.old + (length words.now - 1) * (file_bytes + 1) }

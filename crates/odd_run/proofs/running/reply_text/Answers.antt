@@ -1,8 +1,10 @@
 use Rattle.std.proofs.Common.{◌≡◌, Err, ap, inl, subst}
 use Rattle.odd_run.specs.Reading.{IsOfFile}
-use Rattle.odd_run.specs.Reply.{answered}
+use Rattle.odd_run.specs.Outcome.{answers}
+use Rattle.odd_run.specs.Reply.{NamesFiles, answered}
+use Rattle.odd_run.specs.declared.status.LimitKind.TheVariants as limit
 use Rattle.odd_run.specs.declared.status.Status.TheVariants as status
-use Rattle.odd_run.proofs.Answering.{begun_on_err, begun_stopped, fault_placed, few_read, named_compile, named_job, named_usage, on_any, status_comes, stop_comes, text_accepts, text_comes, trees_not, usage_named}
+use Rattle.odd_run.proofs.Answering.{begun_on_err, begun_stopped, fault_placed, few_read, named_answer, named_compile, named_job, named_none, named_usage, on_any, status_comes, stop_comes, text_accepts, text_comes, trees_not, usage_named}
 use Rattle.odd_run.proofs.running.reply_text.Goals as goal
 
 pub schema_of_chain-requires : goal.schema_of_chain-requires
@@ -13,6 +15,12 @@ returns-in-Err-clause-err g c = λ files h replied. answered (inl c.in-Err.ensur
 
 pub returns-in-Err-clause-usage : goal.returns-in-Err-clause-usage
 returns-in-Err-clause-usage g c = (λ is. usage_named c.args.words.now c.in-Err.status c.in-Err.ensures.err (cc), λ none. ap Err (named_usage c.args.words.now c.in-Err.status c.in-Err.ensures.err none))
+
+pub returns-in-Err-clause-files : goal.returns-in-Err-clause-files
+returns-in-Err-clause-files g c = (
+  λ is. subst (λ s. NamesFiles c.args.words.now (answers s)) (cc) c.in-Err.ensures.err,
+  λ n. ap Err (named_answer c.args.words.now c.in-Err.status _ c.in-Err.ensures.err n),
+)
 
 pub returns-in-Ok-read_chain-clause-ok : goal.returns-in-Ok-read_chain-clause-ok
 returns-in-Ok-read_chain-clause-ok g c = λ files h.
@@ -30,6 +38,12 @@ pub returns-in-Ok-read_chain-clause-usage : goal.returns-in-Ok-read_chain-clause
 returns-in-Ok-read_chain-clause-usage g c = (
   λ is. absurd (trees_not c.schema_of_chain.result status.Usage (λ of. of) c.schema_of_chain.ensures.of_trees is),
   λ none. absurd (named_job c.args.words.now c.in-Ok.names.now c.in-Ok.ensures.ok none),
+)
+
+pub returns-in-Ok-read_chain-clause-files : goal.returns-in-Ok-read_chain-clause-files
+returns-in-Ok-read_chain-clause-files g c = (
+  λ is. absurd (trees_not c.schema_of_chain.result (status.Limit limit.Files) (λ of. of) c.schema_of_chain.ensures.of_trees is),
+  λ n. absurd (named_none c.args.words.now c.in-Ok.names.now _ c.in-Ok.ensures.ok n),
 )
 
 pub returns-in-Ok-read_chain-clause-begins_err : goal.returns-in-Ok-read_chain-clause-begins_err
@@ -58,4 +72,12 @@ returns-in-Err-read_chain-clause-usage g c = (
       let usage : c.in-Err-read_chain.status ≡ status.Usage = cc in
       absurd (subst (IsOfFile stops.0) usage stops.2),
   λ none. absurd (named_job c.args.words.now c.in-Ok.names.now c.in-Ok.ensures.ok none),
+)
+
+pub returns-in-Err-read_chain-clause-files : goal.returns-in-Err-read_chain-clause-files
+returns-in-Err-read_chain-clause-files g c = (
+  λ is. let stops = c.in-Err-read_chain.ensures.begins_err in
+      let files : c.in-Err-read_chain.status ≡ status.Limit limit.Files = cc in
+      absurd (subst (IsOfFile stops.0) files stops.2),
+  λ n. absurd (named_none c.args.words.now c.in-Ok.names.now _ c.in-Ok.ensures.ok n),
 )

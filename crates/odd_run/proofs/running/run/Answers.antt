@@ -7,8 +7,11 @@ use Rattle.odd_run.specs.Running.{IsReplied, IsSilent, IsComplete}
 use Rattle.odd_run.proofs.running.run.Goals as goal
 
 pub returns-in-Ok-clause-room : goal.returns-in-Ok-clause-room
-returns-in-Ok-clause-room g c = λ files text h reply steady fits is.
-    let same : text ≡ c.as_bytes.result.now = one_text c.args.words.now files text c.in-Ok.text reply (c.in-Ok.ensures.ok files h) ∙ sym (c.as_bytes.ensures.value ∙ c.as_str.ensures) in
+returns-in-Ok-clause-room g c = λ files text s h reply steady fits is.
+    let is_done : status.Done ≡ s = one_status c.args.words.now files c.in-Ok.text text status.Done s (c.in-Ok.ensures.ok files h) reply in
+    let same : text ≡ c.as_bytes.result.now =
+    one_text c.args.words.now files text c.in-Ok.text (subst (Reply c.args.words.now files text) (sym is_done) reply) (c.in-Ok.ensures.ok files h)
+    ∙ sym (c.as_bytes.ensures.value ∙ c.as_str.ensures) in
     let wrong : false ≡ true = c.in-Err-write_whole.ensures.room steady (subst (λ x. length x ≤ g.W.Sink.room c.args.out.now) same fits) in
     cc
 
