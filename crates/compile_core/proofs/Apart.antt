@@ -25,7 +25,7 @@ use Rattle.compile_core.specs.Contents.{class_name, condition_name, content_patt
 use Rattle.compile_core.proofs.ClosedContents.{content_good}
 use Rattle.compile_core.proofs.ClosedPatterns.{references_good}
 use Rattle.compile_core.proofs.Filtered.{stands_filter}
-use Rattle.compile_core.proofs.HeldParts.{macro_held}
+use Rattle.compile_core.proofs.Holds.{macro_found}
 use Rattle.compile_core.proofs.Leading.{Leads, led_on, level, lower, none_led, reached}
 use Rattle.compile_core.proofs.PlainDefines.{IsBodyOf, condition_body_is, element, nothing}
 use Rattle.compile_core.proofs.PlainPatterns.{RefersOnly, refers_closed, refers_known}
@@ -49,7 +49,7 @@ module _ (library : Library) (conditions : List Condition) (members : Members) w
         classes = λ key idents e. below (class_name key) (omega arith);
         each_member = λ key idents member e s. below (define_name member) (omega arith);
         macros = λ key s h.
-            let at = macro_held library key h in
+            let at = macro_found library key h in
             let linked : IsLinked macros_of library (macro_key ident) (macro_key key) = record {
               part = component.Macro part;
               held = held;

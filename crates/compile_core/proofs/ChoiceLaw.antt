@@ -1,6 +1,6 @@
 -- A choice of patterns matches what one of them matches, whatever they are.
 use Rattle.std.proofs.Common.{◌↔◌, ◌⊎◌, inl, inr, ℕ, List, [], ◌∷◌, map, refl, subst, rules}
-use Rattle.odd_reader.proofs.InList.{first_or_later, nothing_stands, stands_first, stands_later}
+use Rattle.odd_reader.proofs.InList.{first_or_later, map_stands, nothing_stands, stands_first, stands_later, stands_map}
 use Rattle.odd_reader.specs.Elements.{StandsIn}
 use Rattle.odd_reader.specs.Significant.{Marking}
 use Rattle.odd_reader.specs.declared.tree.Node.{Node}
@@ -16,7 +16,6 @@ use Rattle.compile_core.specs.Compiled.{references_pattern}
 use Rattle.compile_core.specs.Contents.{reference}
 use Rattle.compile_core.specs.Repeating.{choice_pattern}
 use Rattle.compile_core.proofs.Pieces.{Same}
-use Rattle.compile_core.proofs.Standing.{map_stands, stands_map}
 
 module _ (g : Grammar) (marks : Marking (List ℕ)) where
   -- nothing matches `notAllowed`

@@ -29,7 +29,7 @@ use Rattle.compile_core.proofs.ChoiceLaw.{none_matched, references_law}
 use Rattle.compile_core.proofs.HeldParts.{element_of}
 use Rattle.compile_core.proofs.Filtered.{filter_passed, stands_filter}
 use Rattle.compile_core.proofs.HeldDefines.{class_law}
-use Rattle.compile_core.proofs.Holds.{part_found}
+use Rattle.odd_classes.proofs.Linked.{held}
 use Rattle.compile_core.proofs.Pieces.{Same}
 use Rattle.compile_core.proofs.Standing.{filter_stands}
 
@@ -37,7 +37,7 @@ use Rattle.compile_core.proofs.Standing.{filter_stands}
 member_model : (library : Library) → IsFormed library → (class ident : List ℕ) → (IsOfAttributes library class → ⊥) → IsMember library class (element_key ident) → IsModel library class
 member_model library f class ident other m =
     let s = (last_step (IsLinked classes_of library) (element_key ident) (class_key class) m).1 in
-    let h = part_found library (class_key class) s.other_held in
+    let h = held (class_key class) library s.other_held in
     by h.0 h.1
   where
     of_class : (part : ClassPart) → find key_cmp (class_key class) library.parts ≡ Some (component.Class part) → (gives : Bool) → part.gives ≡ gives → IsModel library class

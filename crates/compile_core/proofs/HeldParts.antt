@@ -1,5 +1,5 @@
--- What a library holds where a test finds an element or a macro, where a class is listed, and where a member of a class is.
-use Rattle.std.proofs.Common.{◌≡◌, ℕ, true, List, Option, Some, None, refl}
+-- What a library holds where a class is listed, and where a member of a class is.
+use Rattle.std.proofs.Common.{◌≡◌, ℕ, List, Some}
 use Rattle.std.proofs.lemmas.Bool.{false≢true}
 use Rattle.std.specs.FinMap.{find}
 use Rattle.odd_base.specs.Key.{key_cmp}
@@ -10,60 +10,28 @@ use Rattle.odd_graph.proofs.Chains.{first_step}
 use Rattle.odd_decls.specs.Odd.{element_key}
 use Rattle.odd_decls.specs.declared.library.Component.{Component}
 use Rattle.odd_decls.specs.declared.library.Component.TheVariants as component
-use Rattle.odd_decls.specs.declared.library.ElementPart.{ElementPart}
 use Rattle.odd_decls.specs.declared.library.Library.{Library}
-use Rattle.odd_decls.specs.declared.library.OtherPart.{OtherPart}
 use Rattle.odd_meaning.specs.Classes.{AreMembers, IsElementOf, IsListed, IsMember, Members}
-use Rattle.odd_meaning.specs.Links.{IsLinked, class_key, classes_of, macro_key}
-use Rattle.compile_core.specs.Contents.{holds_element, holds_macro}
+use Rattle.odd_meaning.specs.Links.{IsLinked, class_key, classes_of}
 use Rattle.compile_core.specs.Schema.{IsFormed}
+use Rattle.compile_core.proofs.Holds.{HoldsElementAt}
 use Rattle.compile_core.proofs.Standing.{held_stands}
 
 -- what is found at a key is an entry of the library
 pub entry_stands : (library : Library) (key : Key) (part : Component) → find key_cmp key library.parts ≡ Some part → StandsIn library.parts (key, part)
 entry_stands library key part e = held_stands key_cmp key_total key_exact key part library.parts e
 
--- the library holds an element at the ident, or a macro
-
-abbrev pub ElementAt : Library → List ℕ → Type 0
-ElementAt library ident = (part : ElementPart) × (find key_cmp (element_key ident) library.parts ≡ Some (component.Element part))
-
-abbrev pub MacroAt : Library → List ℕ → Type 0
-MacroAt library ident = (part : OtherPart) × (find key_cmp (macro_key ident) library.parts ≡ Some (component.Macro part))
-
--- it does so where the test finds one
-
-pub element_held : (library : Library) (ident : List ℕ) → holds_element library ident ≡ true → ElementAt library ident
-element_held library ident h = by (find key_cmp (element_key ident) library.parts) refl
-  where
-    by : (o : Option Component) → find key_cmp (element_key ident) library.parts ≡ o → ElementAt library ident
-    by None e = absurd (false≢true (rw e at h))
-    by (Some (component.Element part)) e = (part, e)
-    by (Some (component.Class part)) e = absurd (false≢true (rw e at h))
-    by (Some (component.Macro part)) e = absurd (false≢true (rw e at h))
-    by (Some (component.Datatype part)) e = absurd (false≢true (rw e at h))
-
-pub macro_held : (library : Library) (ident : List ℕ) → holds_macro library ident ≡ true → MacroAt library ident
-macro_held library ident h = by (find key_cmp (macro_key ident) library.parts) refl
-  where
-    by : (o : Option Component) → find key_cmp (macro_key ident) library.parts ≡ o → MacroAt library ident
-    by None e = absurd (false≢true (rw e at h))
-    by (Some (component.Element part)) e = absurd (false≢true (rw e at h))
-    by (Some (component.Class part)) e = absurd (false≢true (rw e at h))
-    by (Some (component.Macro part)) e = (part, e)
-    by (Some (component.Datatype part)) e = absurd (false≢true (rw e at h))
-
 -- the class of listed members is one of type `model`, and these are its members
 pub listed_is : (library : Library) (members : Members) (class : List ℕ) (idents : List (List ℕ)) → AreMembers library members → members class ≡ Some idents → IsListed library class (Some idents)
 listed_is library members class idents are e = rw e at (are class)
 
 -- a member of a class of a formed library is a held element
-member_held : (library : Library) (class ident : List ℕ) → IsFormed library → IsMember library class (element_key ident) → ElementAt library ident
+member_held : (library : Library) (class ident : List ℕ) → IsFormed library → IsMember library class (element_key ident) → HoldsElementAt library ident
 member_held library class ident f m =
     let first = first_step (IsLinked classes_of library) (element_key ident) (class_key class) m in
     of_kind first.1.part first.1.held
   where
-    of_kind : (part : Component) → find key_cmp (element_key ident) library.parts ≡ Some part → ElementAt library ident
+    of_kind : (part : Component) → find key_cmp (element_key ident) library.parts ≡ Some part → HoldsElementAt library ident
     of_kind (component.Element part) e = (part, e)
     of_kind (component.Class part) e = absurd (f.formed (element_key ident) (component.Class part) e).1
     of_kind (component.Macro part) e = absurd (f.formed (element_key ident) (component.Macro part) e).1

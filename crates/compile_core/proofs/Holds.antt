@@ -1,17 +1,15 @@
 -- A library holds an element, or a macro, where an element or a macro is found at its key.
-use Rattle.std.proofs.Common.{◌≡◌, ℕ, List, true, false, Option, Some, None, refl, sym, ◌∙◌}
+use Rattle.std.proofs.Common.{◌≡◌, ℕ, List, true, false, Option, Some, refl, sym, ◌∙◌}
 use Rattle.std.proofs.lemmas.Bool.{false≢true}
 use Rattle.std.specs.FinMap.{find}
-use Rattle.std.specs.Prelude.{IsSome}
 use Rattle.odd_base.specs.Key.{key_cmp}
-use Rattle.odd_base.specs.declared.key.Key.{Key}
 use Rattle.odd_decls.specs.Odd.{element_key}
 use Rattle.odd_decls.specs.declared.library.Component.{Component}
 use Rattle.odd_decls.specs.declared.library.Component.TheVariants as component
 use Rattle.odd_decls.specs.declared.library.ElementPart.{ElementPart}
 use Rattle.odd_decls.specs.declared.library.Library.{Library}
 use Rattle.odd_decls.specs.declared.library.OtherPart.{OtherPart}
-use Rattle.odd_meaning.specs.Links.{IsHeld, macro_key}
+use Rattle.odd_meaning.specs.Links.{macro_key}
 use Rattle.compile_core.specs.Contents.{holds_element, holds_macro}
 
 -- the element is found at its key, and the macro
@@ -21,13 +19,9 @@ IsElementAt library ident part = find key_cmp (element_key ident) library.parts 
 abbrev pub IsMacroAt : Library → List ℕ → OtherPart → Type 0
 IsMacroAt library ident part = find key_cmp (macro_key ident) library.parts ≡ Some (component.Macro part)
 
--- at a key at which a component is held one is found
-pub part_found : (library : Library) (key : Key) → IsHeld library key → (part : Component) × (find key_cmp key library.parts ≡ Some part)
-part_found library key h = by (find key_cmp key library.parts) h
-  where
-    by : (at : Option Component) → IsSome at → (part : Component) × (at ≡ Some part)
-    by None h = cc
-    by (Some part) h = (part, refl)
+-- an element is
+abbrev pub HoldsElementAt : Library → List ℕ → Type 0
+HoldsElementAt library ident = (part : ElementPart) × IsElementAt library ident part
 
 module _ (library : Library) (ident : List ℕ) where
   -- what is found is held
@@ -38,7 +32,7 @@ module _ (library : Library) (ident : List ℕ) where
   macro_held part e = rw e refl
 
   -- and what is held is found
-  pub element_found : holds_element library ident ≡ true → (part : ElementPart) × IsElementAt library ident part
+  pub element_found : holds_element library ident ≡ true → HoldsElementAt library ident
   element_found holds = by (find key_cmp (element_key ident) library.parts) refl
     where
       by : (at : Option Component) → find key_cmp (element_key ident) library.parts ≡ at → (part : ElementPart) × IsElementAt library ident part

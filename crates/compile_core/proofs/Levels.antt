@@ -10,11 +10,11 @@ use Rattle.odd_reader.specs.Significant.{IsSignificant, Marking, beside_elements
 use Rattle.odd_decls.specs.declared.library.Library.{Library}
 use Rattle.odd_meaning.specs.Admission.{IsValid, IsValidBy, IsValidWithin, counting}
 use Rattle.odd_meaning.specs.Labels.{Label, condition, element}
-use Rattle.odd_reader.proofs.InList.{first_or_later, nothing_stands}
+use Rattle.odd_reader.proofs.InList.{first_or_later, map_stands, nothing_stands}
 use Rattle.rng_patterns.specs.Acceptance.{IsAcceptedWithin}
 use Rattle.rng_patterns.specs.declared.grammar.Grammar.{Grammar}
 use Rattle.compile_core.proofs.SameMarkings.{admits_same, matched_on}
-use Rattle.compile_core.proofs.Standing.{each_stands, filter_stands, map_stands}
+use Rattle.compile_core.proofs.Standing.{each_stands, filter_stands}
 
 -- the greatest of some numbers is none less
 from_start : (start : ℕ) (ns : List ℕ) → start ≤ fold max start ns

@@ -20,6 +20,7 @@ pub mod Correct
 pub mod Counts
 pub mod Deciding
 pub mod DefineCounts
+pub mod Examples
 pub mod Filtered
 pub mod GroupCounts
 pub mod HeldDefines

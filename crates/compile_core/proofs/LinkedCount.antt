@@ -22,7 +22,8 @@ use Rattle.compile_core.specs.Compiled as compiled
 use Rattle.compile_core.specs.Compiled.{IsDefineOf, class_define, condition_body, condition_define, content_throughout, define_cmp, element_define, macro_define, references_pattern}
 use Rattle.compile_core.specs.Contents.{class_name, condition_name, content_pattern, define_name, macro_name}
 use Rattle.compile_core.specs.Linking.{IsLinkedCount}
-use Rattle.compile_core.proofs.HeldParts.{element_held, listed_is}
+use Rattle.compile_core.proofs.HeldParts.{listed_is}
+use Rattle.compile_core.proofs.Holds.{element_found}
 use Rattle.compile_core.proofs.LinkedNames.{FoundIn}
 use Rattle.compile_core.proofs.NodeMeasure.{nodes_measure}
 use Rattle.compile_core.proofs.PlainDefines.{IsBodyOf, condition_body_is, element, nothing}
@@ -51,7 +52,7 @@ module _ (library : Library) (conditions : List Condition) (members : Members) (
 
   pub linked_count : IsLinkedCount library conditions members count
   linked_count = record {
-    elements = λ ident h. let at = element_held library ident h in held_one ident at.0 at.1;
+    elements = λ ident h. let at = element_found library ident h in held_one ident at.0 at.1;
     members = λ class idents ident e s. let at = (listed_is library members class idents are_members e).1.none_else ident s in held_one ident at.part at.held;
     conditions = λ c s.
         let name = condition_name conditions c in

@@ -22,7 +22,8 @@ use Rattle.compile_core.specs.Counted.{counted}
 use Rattle.compile_core.specs.Linking.{AreWeightsOf, HoldsConditions, IsLinkedCount, StandsAfter}
 use Rattle.compile_core.specs.Weights.{AreWeighed, weight_in}
 use Rattle.compile_core.proofs.Filtered.{stands_filter}
-use Rattle.compile_core.proofs.HeldParts.{entry_stands, macro_held}
+use Rattle.compile_core.proofs.HeldParts.{entry_stands}
+use Rattle.compile_core.proofs.Holds.{macro_found}
 use Rattle.compile_core.proofs.NodeMeasure.{nodes_measure, ref_nodes}
 
 module _ (library : Library) (conditions : List Condition) (members : Members) (count : List ℕ → ℕ) (linked : IsLinkedCount library conditions members count) where
@@ -35,7 +36,7 @@ module _ (library : Library) (conditions : List Condition) (members : Members) (
     -- what stands for a macro has the macro's weight, where it is known
     macro_counted : (key : List ℕ) (held : Bool) → holds_macro library key ≡ held → (held ≡ true → Is key)
         → counted (nodes count (if held then expr.Ref (macro_name key) else expr.NotAllowed)) ≡ weight_in weights (macro_name key)
-    macro_counted key true e known = let at = macro_held library key e in ap counted (ref_nodes count (macro_name key)) ∙ sym (are.macros key at.0 (known refl) at.1)
+    macro_counted key true e known = let at = macro_found library key e in ap counted (ref_nodes count (macro_name key)) ∙ sym (are.macros key at.0 (known refl) at.1)
     macro_counted key false e known = ap counted (nodes_measure count).not_allowed ∙ sym (are.absent key e)
 
     -- a content among whose macros the weight of each held one is known
@@ -62,7 +63,7 @@ module _ (library : Library) (conditions : List Condition) (members : Members) (
         part = whole;
         held = held;
         among = stands_filter (λ k. is_macro k.kind) (named_in part.content) (macro_key key) s refl;
-        other_held = ap is_some (macro_held library key h).1;
+        other_held = ap is_some (macro_found library key h).1;
       }))
 
   -- the define of an element has the nodes of its content

@@ -4,12 +4,11 @@ use Rattle.std.proofs.lemmas.List.{length-append, length-map}
 use Rattle.odd_base.specs.Key.{key_cmp}
 use Rattle.odd_base.specs.KeyOrder.{key_total, key_exact}
 use Rattle.odd_base.specs.declared.key.Key.{Key}
-use Rattle.odd_base.specs.declared.key.Kind.{Kind}
 use Rattle.odd_base.specs.declared.key.Kind.TheVariants as kind
 use Rattle.odd_graph.specs.Graph.{Chained}
 use Rattle.odd_graph.proofs.Chains.{last_step}
 use Rattle.odd_graph.proofs.Ranked.{by_rank}
-use Rattle.odd_reader.proofs.InList.{stands_around}
+use Rattle.odd_reader.proofs.InList.{map_stands, stands_around}
 use Rattle.odd_reader.proofs.InList as around
 use Rattle.odd_reader.specs.Elements.{StandsIn}
 use Rattle.odd_reader.specs.Significant.{Marking}
@@ -26,16 +25,11 @@ use Rattle.compile_core.specs.Contents.{holds_macro}
 use Rattle.compile_core.specs.Schema.{IsFormed}
 use Rattle.compile_core.proofs.ContentLaw.{AreLeavesKept}
 use Rattle.compile_core.proofs.Filtered.{filter_passed}
-use Rattle.compile_core.proofs.Holds.{macro_found, part_found}
+use Rattle.odd_classes.proofs.Linked.{held}
+use Rattle.compile_core.proofs.Holds.{macro_found}
 use Rattle.compile_core.proofs.MacroLaw.{BreaksNone, IsKept, IsKeptBy, held_kept, unheld_kept}
-use Rattle.compile_core.proofs.Standing.{held_stands, map_stands, stands_left, stands_right}
-
--- a kind of macros
-macro_kind : (k : Kind) → is_macro k ≡ true → k ≡ kind.Macro
-macro_kind kind.Element h = cc
-macro_kind kind.Class h = cc
-macro_kind kind.Macro h = refl
-macro_kind kind.Datatype h = cc
+use Rattle.compile_core.proofs.Standing.{held_stands, stands_left, stands_right}
+use Rattle.odd_classes.proofs.CycleRules.{macro_kind}
 
 -- the keys of entries
 abbrev keys_of : List (Key × Component) → List Key
@@ -61,7 +55,7 @@ module _ (library : Library) (none : BreaksNone library) where
   among_others : (key : Key) (part : Component) (before after : List (Key × Component)) → library.parts ≡ before ++ (key, part) ∷ after
       → (other : Key) → Chained Step key other → StandsIn (keys_of before ++ keys_of after) other
   among_others key part before after e other c =
-      let h = part_found library other (last_step Step key other c).1.other_held in
+      let h = held other library (last_step Step key other c).1.other_held in
       let s = held_stands key_cmp key_total key_exact other h.0 library.parts h.1 in
       let entry : Key × Component = (other, h.0) in
       elim (stands_around before (key, part) after s.0 entry s.1 (sym e ∙ s.2)) [

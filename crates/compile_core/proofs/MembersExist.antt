@@ -18,9 +18,10 @@ use Rattle.odd_meaning.specs.Links.{class_key}
 use Rattle.odd_meaning.specs.Rules.{Breaks}
 use Rattle.compile_core.specs.Contents.{holds_element}
 use Rattle.compile_core.proofs.Filtered.{filter_passed, stands_filter}
-use Rattle.compile_core.proofs.HeldParts.{element_held, entry_stands}
+use Rattle.compile_core.proofs.HeldParts.{entry_stands}
+use Rattle.compile_core.proofs.Holds.{element_found}
 use Rattle.compile_core.proofs.Membership.{member_decided}
-use Rattle.compile_core.proofs.Standing.{map_stands}
+use Rattle.odd_reader.proofs.InList.{map_stands}
 
 module _ (library : Library) (unbroken : (key : Key) (rule : ℕ) → Breaks library key rule → ⊥) where
   -- an ident of a held element that is a member of the class
@@ -41,7 +42,7 @@ module _ (library : Library) (unbroken : (key : Key) (rule : ℕ) → Breaks lib
         rising = set.rising;
         none_else = λ ident s.
             let passed = and_parts _ _ (filter_passed (is_in class) idents ident (set.none_else ident s)) in
-            let at = element_held library ident passed.0 in
+            let at = element_found library ident passed.0 in
             record { part = at.0; held = at.1; member = (member_decided library unbroken class (element_key ident)).1.0 passed.1 };
         each = λ ident h.
             let stands = map_stands (λ (e : Key × Component). e.0.ident) library.parts (element_key ident, component.Element h.part) (entry_stands library (element_key ident) (component.Element h.part) h.held) in

@@ -16,7 +16,7 @@ use Rattle.std.specs.declared.cmp.Ordering.{Ordering}
 use Rattle.std.specs.declared.cmp.Ordering.TheVariants.{Less, Equal, Greater}
 use Rattle.odd_content.specs.declared.content.Condition.{Condition}
 use Rattle.odd_reader.specs.Elements.{StandsIn}
-use Rattle.odd_reader.proofs.InList.{contained, standing, stands_first, stands_later}
+use Rattle.odd_reader.proofs.InList.{contained, map_stands, standing, stands_first, stands_later, stands_map}
 use Rattle.odd_forms.proofs.OneSet.{first_below, rest_rising}
 use Rattle.odd_forms.specs.Sorted.{AreRising, IsSet}
 use Rattle.rng_patterns.specs.declared.grammar.Define.{Define}
@@ -25,7 +25,8 @@ use Rattle.compile_core.specs.Compiled.{condition_define, define_cmp}
 use Rattle.compile_core.specs.ConditionOrder.{condition_total}
 use Rattle.compile_core.specs.Conditions.{condition_cmp}
 use Rattle.compile_core.specs.Contents.{condition_name, number_of}
-use Rattle.compile_core.proofs.Standing.{is_less, map_stands, stands_map}
+use Rattle.compile_core.proofs.Standing.{is_less}
+use Rattle.std.proofs.lemmas.Bool.{false_from_ne_true}
 
 -- what neither falls nor ties is less
 less_left : (r : Ordering) → is_lt (ordering_reverse r) ≡ false → is_eq r ≡ false → r ≡ Less
@@ -53,11 +54,6 @@ images_all P f (x ∷ xs) h = (h x (stands_first x xs), images_all P f xs (λ y 
 one_at_most : (b c : Bool) → (b ≡ true → c ≡ true) → cond {A = ℕ} b 1 0 ≤ cond {A = ℕ} c 1 0
 one_at_most true c h = let is : cond {A = ℕ} c 1 0 ≡ 1 = ap (λ t. cond {A = ℕ} t 1 0) (h refl) in omega arith
 one_at_most false c h = omega arith
-
--- what is not true is false
-not_true : (b : Bool) → (b ≡ true → ⊥) → b ≡ false
-not_true true h = absurd (h refl)
-not_true false h = refl
 
 -- the first define's name is below the other's
 abbrev pub is_lower : Define → Define → Bool
@@ -111,7 +107,7 @@ module _ (conditions : List Condition) (rising : AreRising condition_cmp conditi
   unfolding IsDistinct
   defines_apart [] among up = tt
   defines_apart (x ∷ xs) among up = (
-    images_all (λ d. eq_by_cmp define_cmp (define x) d ≡ false) define xs (λ y s. not_true _ (λ e.
+    images_all (λ d. eq_by_cmp define_cmp (define x) d ≡ false) define xs (λ y s. false_from_ne_true _ (λ e.
         names_apart x y (among x (stands_first x xs)) (first_below condition_cmp condition_total x xs up y s) (same_text _ _ (sym e ∙ sym (texts_ties (define x).name (define y).name))))),
     defines_apart xs (λ c s. among c (stands_later x c xs s)) (rest_rising condition_cmp condition_total x xs up),
   )

@@ -25,13 +25,14 @@ use Rattle.compile_core.specs.Contents.{condition_name, content_pattern, holds_e
 use Rattle.compile_core.specs.Schema.{HoldsStart, IsFormed}
 use Rattle.compile_core.proofs.ClosedContents.{IsGoodFor, content_good}
 use Rattle.compile_core.proofs.ClosedPatterns.{IsClosed, references_good}
-use Rattle.compile_core.proofs.HeldParts.{ElementAt, element_held, entry_stands, listed_is, macro_held}
+use Rattle.compile_core.proofs.HeldParts.{entry_stands, listed_is}
+use Rattle.compile_core.proofs.Holds.{HoldsElementAt, element_found, macro_found}
 use Rattle.compile_core.proofs.PlainDefines.{IsBodyOf, condition_body_is, element, nothing, throughout_good}
 
 module _ (library : Library) (conditions : List Condition) (members : Members) (are_conditions : IsSet condition_cmp (IsConditionOf library) conditions) (are_members : AreMembers library members)
     (f : IsFormed library) (Good : Expr → Type 0) (closed : IsClosed Good) (defined : (d : Define) → IsDefineOf library conditions members d → Good (expr.Ref d.name)) where
   -- a reference to a held element
-  held_good : (ident : List ℕ) → ElementAt library ident → Good (reference ident)
+  held_good : (ident : List ℕ) → HoldsElementAt library ident → Good (reference ident)
   held_good ident at = defined (element_define library conditions members ident at.0) (compiled.of_element ident at.0 at.1 refl)
 
   -- a reference to a member of a class
@@ -41,10 +42,10 @@ module _ (library : Library) (conditions : List Condition) (members : Members) (
   -- all references in a content whose conditions are the library's
   references_in : (named : List Key) (inside : List Condition) → ((c : Condition) → StandsIn inside c → StandsIn conditions c) → IsGoodFor Good library conditions members named inside
   references_in named inside among = record {
-    elements = λ key h. held_good key (element_held library key h);
+    elements = λ key h. held_good key (element_found library key h);
     classes = λ key idents e. defined (class_define key idents) (compiled.of_class key idents e refl);
     each_member = member_good;
-    macros = λ key s h. let at = macro_held library key h in defined (macro_define library conditions members key at.0) (compiled.of_macro key at.0 at.1 refl);
+    macros = λ key s h. let at = macro_found library key h in defined (macro_define library conditions members key at.0) (compiled.of_macro key at.0 at.1 refl);
     each_condition = λ c s. defined (condition_define conditions c) (compiled.of_condition c (among c s) refl);
   }
 
@@ -79,7 +80,7 @@ module _ (library : Library) (conditions : List Condition) (members : Members) (
   word_good start h word s = by (holds_element library word) refl
     where
       by : (b : Bool) → holds_element library word ≡ b → Good (reference word)
-      by true e = held_good word (element_held library word e)
+      by true e = held_good word (element_found library word e)
       by false e = absurd (h word s e)
 
   -- the start

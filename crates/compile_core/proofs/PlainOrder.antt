@@ -16,7 +16,7 @@ use Rattle.rng_patterns.specs.declared.grammar.Define.{Define}
 use Rattle.compile_core.specs.Compiled.{define_cmp}
 use Rattle.compile_core.proofs.NamedDefines.{define_total}
 use Rattle.compile_core.proofs.Standing as standing
-use Rattle.compile_core.proofs.Standing.{map_stands}
+use Rattle.odd_reader.proofs.InList.{map_stands}
 
 -- the name is below those of some defines
 abbrev IsBelow : List ℕ → List Define → Type 0

@@ -11,7 +11,7 @@ use Rattle.odd_reader.specs.Elements.{StandsIn}
 use Rattle.odd_reader.proofs.InList.{stands_first, stands_later}
 use Rattle.odd_forms.proofs.OneSet.{first_below, rest_rising}
 use Rattle.odd_forms.specs.Sorted.{AreRising}
-use Rattle.odd_classes.proofs.Rising.{first_rises}
+use Rattle.odd_forms.proofs.SetOf.{rising_more}
 use Rattle.compile_core.proofs.Collected.{collected_stands}
 use Rattle.compile_core.proofs.Standing.{is_less, stands_either}
 
@@ -29,7 +29,7 @@ module _ {A : Type 0} (order : A → A → Ordering) (total : IsTotalOrder order
   both_rise (x ∷ xs) ys r q below =
       let first : (y : A) → StandsIn (xs ++ ys) y → order x y ≡ Less =
       λ y s. elim (stands_either xs ys y s) [ inl h ↦ first_below order total x xs r y h | inr h ↦ below x y (stands_first x xs) h ] in
-      first_rises order x (xs ++ ys) first (both_rise xs ys (rest_rising order total x xs r) q (λ a b s t. below a b (stands_later x a xs s) t))
+      rising_more order x (xs ++ ys) first (both_rise xs ys (rest_rising order total x xs r) q (λ a b s t. below a b (stands_later x a xs s) t))
 
   -- lists of at most one item, made of items that rise, where what is made of a lesser item is less
   pub made_rise : {X : Type 0} (keyed : X → X → Ordering) → IsTotalOrder keyed → (f : X → List A) → ((x : X) → length (f x) ≤ 1)

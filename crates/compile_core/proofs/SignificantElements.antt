@@ -2,7 +2,7 @@
 use Rattle.std.proofs.Common.{◌≡◌, ℕ, true, false, not, List, [], ◌∷◌, ◌++◌, filter, inl, inr, refl, sym, ap, subst, ◌∙◌, ⊎_elim, rules}
 use Rattle.std.proofs.lemmas.Bool.{cases_Bool, false≢true, not_from_false, or_parts}
 use Rattle.std.specs.List.{list_any}
-use Rattle.odd_reader.proofs.AmongChildren.{element_shown, elements_append, text_shown}
+use Rattle.odd_reader.proofs.AmongChildren.{elements_append, with_element, with_text}
 use Rattle.odd_reader.proofs.InList.{first_or_later, nothing_stands, stands_first, stands_later}
 use Rattle.odd_reader.specs.Elements.{StandsIn, elements_of}
 use Rattle.odd_reader.specs.Significant.{IsSignificant, beside_elements, blank, is_blank, is_element, whole}
@@ -34,13 +34,6 @@ kind_of n = elim (out-Node n) as (λ q. out-Node n ≡ q → IsOfKind n) [
   | shown.Element t ↦ λ e. subst IsOfKind (sym (rolls-Element t) ∙ ap roll-Node (sym e) ∙ roll-out-Node n) (element t)
   | shown.Text x ↦ λ e. subst IsOfKind (sym (rolls-Text x) ∙ ap roll-Node (sym e) ∙ roll-out-Node n) (text x)
 ] refl
-
--- the elements of a list with one child more
-pub with_element : (t : Tree) (nodes : List Node) → elements_of (Element t ∷ nodes) ≡ t ∷ elements_of nodes
-with_element t nodes = ap (λ ts. ts ++ elements_of nodes) (element_shown (Element t) t refl)
-
-with_text : (x : List ℕ) (nodes : List Node) → elements_of (Text x ∷ nodes) ≡ elements_of nodes
-with_text x nodes = ap (λ ts. ts ++ elements_of nodes) (text_shown (Text x) x refl)
 
 -- what stands among the elements of a list stands in the list
 pub element_stands : (nodes : List Node) (u : Tree) → StandsIn (elements_of nodes) u → StandsIn nodes (Element u)

@@ -1,14 +1,15 @@
 -- What stands in a list that was made from another, and in the entries of a map.
-use Rattle.std.proofs.Common.{◌≡◌, ◌⊎◌, Bool, true, false, List, [], ◌∷◌, ◌++◌, filter, map, Some, cond, inl, inr, refl, sym, ap, subst, ◌∙◌}
+use Rattle.std.proofs.Common.{◌≡◌, ◌⊎◌, Bool, true, false, List, [], ◌∷◌, ◌++◌, filter, Some, cond, inl, inr, refl, sym, ap, subst, ◌∙◌}
 use Rattle.std.specs.Prelude.{All, IsTrue}
 use Rattle.std.proofs.lemmas.Bool.{and_parts}
 use Rattle.std.proofs.lemmas.List.Elements.{All-nil, All-cons, Contains-append_cases, Contains-append_left, Contains-append_right}
 use Rattle.std.specs.Cmp.{IsTotalOrder, tied_itself}
 use Rattle.std.specs.FinMap.{find, is_sorted}
 use Rattle.std.specs.FinMap.Entries.{below_all}
-use Rattle.std.specs.Ordering.{is_eq, is_lt, ordering_reverse}
+use Rattle.std.specs.Ordering.{is_lt, ordering_reverse}
 use Rattle.std.specs.declared.cmp.Ordering.{Ordering}
 use Rattle.std.specs.declared.cmp.Ordering.TheVariants.{Less, Equal, Greater}
+use Rattle.odd_base.proofs.Entries.{found_contained}
 use Rattle.odd_reader.specs.Elements.{StandsIn}
 use Rattle.odd_reader.proofs.InList.{contained, first_or_later, nothing_stands, standing, stands_first, stands_later}
 
@@ -16,21 +17,6 @@ pub is_less : (o : Ordering) → IsTrue (is_lt o) → o ≡ Less
 is_less Less h = refl
 is_less Equal h = cc
 is_less Greater h = cc
-
--- what stands in a list of images is the image of an item
-pub stands_map : {A B : Type 0} (f : A → B) (xs : List A) (y : B) → StandsIn (map f xs) y → (x : A) × StandsIn xs x × (y ≡ f x)
-stands_map f [] y s = absurd (nothing_stands y s)
-stands_map f (x ∷ xs) y s = elim (first_or_later (f x) y (map f xs) s) [
-  | inl e ↦ (x, stands_first x xs, e)
-  | inr later ↦ let h = stands_map f xs y later in (h.0, stands_later x h.0 xs h.1, h.2)
-]
-
-pub map_stands : {A B : Type 0} (f : A → B) (xs : List A) (x : A) → StandsIn xs x → StandsIn (map f xs) (f x)
-map_stands f [] x s = absurd (nothing_stands x s)
-map_stands f (w ∷ xs) x s = elim (first_or_later w x xs s) [
-  | inl e ↦ rw e (stands_first (f w) (map f xs))
-  | inr later ↦ stands_later (f w) (f x) (map f xs) (map_stands f xs x later)
-]
 
 -- what stands in a list and a list after it stands in one of them
 pub stands_either : {A : Type 0} (xs ys : List A) (x : A) → StandsIn (xs ++ ys) x → StandsIn xs x ⊎ StandsIn ys x
@@ -77,13 +63,4 @@ module _ {K V : Type 0} (R : K → K → Ordering) (total : IsTotalOrder R) (exa
 
   -- and what is found at a key is the entry there
   pub held_stands : (k : K) (v : V) (es : List (K × V)) → find R k es ≡ Some v → StandsIn es (k, v)
-  held_stands k v [] e = cc
-  held_stands k v (x ∷ es) e =
-      elim (R k x.0) as (λ r. R k x.0 ≡ r → cond (is_eq r) (Some x.1) (find R k es) ≡ Some v → StandsIn (x ∷ es) (k, v)) [
-        | Less ↦ λ p h. stands_later x (k, v) es (held_stands k v es h)
-        | Equal ↦ λ p h.
-            let here : x.1 ≡ v = cc in
-            let same : x ≡ (k, v) = λ i. (sym (exact k x.0 p) i, here i) in
-            subst (λ y. StandsIn (x ∷ es) y) same (stands_first x es)
-        | Greater ↦ λ p h. stands_later x (k, v) es (held_stands k v es h)
-      ] refl e
+  held_stands k v es e = standing es (k, v) (found_contained R total exact k v es e)

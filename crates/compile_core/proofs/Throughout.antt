@@ -16,7 +16,8 @@ use Rattle.rng_patterns.specs.declared.grammar.Expr.TheVariants as expr
 use Rattle.rng_patterns.specs.declared.grammar.Expr.{Expr}
 use Rattle.rng_patterns.specs.declared.grammar.Grammar.{Grammar}
 use Rattle.compile_core.specs.Compiled.{content_throughout}
-use Rattle.compile_core.proofs.SignificantElements.{element, kind_of, no_element, stands_element, text, text_is_none, with_element}
+use Rattle.odd_reader.proofs.AmongChildren.{with_element}
+use Rattle.compile_core.proofs.SignificantElements.{element, kind_of, no_element, stands_element, text, text_is_none}
 use Rattle.compile_core.proofs.Standing.{stands_either, stands_left}
 
 -- the kind of `notAllowed`

@@ -1,4 +1,4 @@
--- The conditions of `anyElement` in the contents of a library's elements.
+-- The conditions of `anyElement` in the contents of a library's components.
 use Rattle.std.specs.Prelude.{List, [], ◌∷◌, ◌++◌, Option, Some, None}
 use Rattle.std.specs.Cmp.Lexicographic.{slice_cmp}
 use Rattle.std.specs.Ordering.{ordering_then}

@@ -60,8 +60,8 @@ const MOST_NODES: u64 = 4_000_000;
 
 /// The grammar of a library and a list of start words: a define for each condition of `anyElement` by its number, one for
 /// each class of type `model`, one for each element and one for each macro by its ident, and a start that refers to the start
-/// words (docs/schema.md). It accepts the documents that the library admits, and no other (docs/admission.md; ISO/IEC 19757-2,
-/// section 9). The library must break none of the rules on classes and macros.
+/// words (docs/schema.md). That of a formed library, as files give it, accepts the documents that the library admits, and no
+/// other (docs/admission.md; ISO/IEC 19757-2, section 9). The library must break none of the rules on classes and macros.
 ///
 /// Offence comes where a start word is no held element, and only there. It names the least of these words in the order
 /// of bytes, and its file is 0. TooLarge comes where each is one and the schema's text has more than 1,000,000 elements or

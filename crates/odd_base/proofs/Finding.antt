@@ -1,31 +1,22 @@
-use Rattle.std.proofs.Common.{◌≡◌, ℕ, zero, suc, Bool, true, false, ◌+◌, ◌<◌, List, [], ◌∷◌, cond, length, get_or, drop, Some, None, refl, ap, sym, subst, ◌∙◌, arith}
+use Rattle.std.proofs.Common.{◌≡◌, ℕ, zero, suc, true, false, ◌+◌, ◌<◌, List, [], ◌∷◌, cond, length, get_or, drop, Some, None, refl, ap, sym, subst, ◌∙◌, arith}
 use Rattle.std.proofs.lemmas.Cmp.{nat_list_cmp_total}
 use Rattle.odd_base.specs.Shelf.{FileMap, Opened, NotHeld}
 use Rattle.std.proofs.lemmas.List.{at_drop_more}
+use Rattle.std.proofs.lemmas.Bool.{false_from_ne_true}
+use Rattle.std.proofs.lemmas.Map.Views.{tells_apart}
 use Rattle.std.specs.FinMap as finite
 use Rattle.odd_base.specs.Text.{text_cmp}
-use Rattle.std.specs.Ordering.{is_eq, eq_by_cmp}
+use Rattle.std.specs.Ordering.{eq_by_cmp}
 use Rattle.std.specs.Cmp.{eq_by_cmp_equiv}
 use Rattle.std.specs.FinMap.{slice_cmp-IsAntisymmetric, nat_cmp-IsAntisymmetric}
-use Rattle.std.specs.declared.cmp.Ordering.{Ordering}
-use Rattle.std.specs.declared.cmp.Ordering.TheVariants.{Less, Equal, Greater}
 use Rattle.odd_base.specs.Memory.{pairs_of, bytes_at, rest_of, files_of}
 use Rattle.odd_base.specs.declared.mem_shelf.File.{File}
-
-equal_only : (r : Ordering) → is_eq r ≡ true → r ≡ Equal
-equal_only Less e = cc
-equal_only Equal e = refl
-equal_only Greater e = cc
-
-not_true : (b : Bool) → (b ≡ true → ⊥) → b ≡ false
-not_true true h = absurd (h refl)
-not_true false h = refl
 
 eq_same : (k x : List ℕ) → x ≡ k → eq_by_cmp text_cmp k x ≡ true
 eq_same k x e = rw e ((eq_by_cmp_equiv nat_list_cmp_total).refl k)
 
 eq_other : (k x : List ℕ) → (x ≡ k → ⊥) → eq_by_cmp text_cmp k x ≡ false
-eq_other k x h = not_true _ (λ e. h (sym (slice_cmp-IsAntisymmetric nat_cmp-IsAntisymmetric k x (equal_only _ e))))
+eq_other k x h = false_from_ne_true _ (λ e. h (sym (tells_apart (slice_cmp-IsAntisymmetric nat_cmp-IsAntisymmetric) k x e)))
 
 pub file_hit : (k : List ℕ) (fs : List File) (i : ℕ) (d : File) → i < length fs → (get_or fs i d).name ≡ k
     → bytes_at fs (Some i) ≡ finite.find text_cmp k (pairs_of (drop i fs))

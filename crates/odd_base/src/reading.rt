@@ -23,7 +23,9 @@ const PIECE: usize = 8192;
 
 /// The bytes of a file. `limit` is the greatest number of bytes that it may have.
 ///
-/// ReadFault comes where the shelf faults, and TooLong where the file has more bytes than the limit.
+/// ReadFault comes only where the shelf's count of faults rose; always where no file of the name is held, and over a steady
+/// shelf nowhere else. TooLong comes only where the file has more bytes than the limit, which is then never read as Ok.
+/// NoMemory is answered for want of memory.
 pub fn slurp<F: Shelf>(
     alloc: Global,
     shelf: &mut F,
@@ -35,7 +37,7 @@ pub fn slurp<F: Shelf>(
     ensures to_the_end { (files : FileMap) → F.holds shelf.old ≡ Some files → OnOk result (F.rest shelf.new ≡ Some []) }
     ensures too_long { (files : FileMap) → F.holds shelf.old ≡ Some files → result ≡ Err SlurpRefusal.TooLong → IsTooLong files name.now limit }
 
-    // A fault of the shelf, and nothing else, is a ReadFault.
+    // ReadFault comes only where the count of faults rose.
     ensures rose { result ≡ Err SlurpRefusal.ReadFault → HasRisen (F.faults shelf.old) (F.faults shelf.new) }
     ensures not_held { (files : FileMap) → F.holds shelf.old ≡ Some files → NotHeld files name.now → result ≡ Err SlurpRefusal.ReadFault }
     ensures steady_fault { (files : FileMap) → F.holds shelf.old ≡ Some files → IsTrue (F.steady shelf.old) → result ≡ Err SlurpRefusal.ReadFault → NotHeld files name.now }

@@ -4,8 +4,8 @@ ghost use Rattle.odd_base.specs.Sink.{IsPartWritten};
 
 use crate::sink::{Sink, SinkFault};
 
-/// Writes all of the bytes. Each `put` is given all of them that are not yet written. After a fault a front of
-/// them is written, and not the whole.
+/// Writes all of the bytes. Each `put` is given all of them that are not yet written, which no clause says. After a fault a
+/// front of them is written, and not the whole.
 pub fn write_whole<W: Sink>(out: &mut W, bytes: &[u8]) -> Result<(), SinkFault>
     ensures whole { (before : List ℕ) → W.written out.old ≡ Some before → OnOk result (W.written out.new ≡ Some (before ++ bytes.now)) }
     ensures part { (before : List ℕ) → W.written out.old ≡ Some before → OnErr result (IsPartWritten before bytes.now (W.written out.new)) }

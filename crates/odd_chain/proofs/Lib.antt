@@ -1,4 +1,5 @@
 pub mod Declared
+pub mod Examples
 pub mod Files
 pub mod Merged
 pub mod OneChain

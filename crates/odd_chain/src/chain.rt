@@ -47,8 +47,8 @@ impl Chain {
         }
     }
 
-    /// The chain with one file more, of which this is the tree. `file` is its number. The only error is NoMemory, for want
-    /// of memory.
+    /// The chain with one file more, of which this is the tree, a formed one as `spell` gives it. `file` is its number: one
+    /// more than there are files so far. The only error is NoMemory, for want of memory.
     pub fn with(self, alloc: Global, tree: &Tree, file: u32) -> Result<Chain, NoMemory>
         ensures { IfOk result (λ made. (trees : List ATree) (first end : ℕ) → IsFormed first end tree.now → IsChainOf self trees → file ≡ suc (length trees) → IsChainOf made (trees ++ tree.now ∷ [])) }
     {

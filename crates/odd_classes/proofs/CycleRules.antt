@@ -19,18 +19,19 @@ class_among words key s =
     let is = λ (k : Key). k ≡ class_key k.ident in
     All-contains is (map class_key words) key (All-map is class_key words (All-from_get_or (λ w. is (class_key w)) words [] (λ i h. refl))) (contained (map class_key words) key s)
 
+-- a kind of macros
+pub macro_kind : (k : Kind) → is_macro k ≡ true → k ≡ kind.Macro
+macro_kind kind.Element h = cc
+macro_kind kind.Class h = cc
+macro_kind kind.Macro h = refl
+macro_kind kind.Datatype h = cc
+
 -- and what stands among those that are macros is one
 pub macro_among : (keys : List Key) (key : Key) → StandsIn (filter (λ k. is_macro k.kind) keys) key → key ≡ macro_key key.ident
 macro_among keys key s =
     let test = λ (k : Key). is_macro k.kind in
     let passed = All-contains (λ k. test k ≡ true) (filter test keys) key (filter_passes test keys) (contained (filter test keys) key s) in
-    ap (λ (k : Kind). record { kind = k; ident = key.ident }) (is key.kind passed)
-  where
-    is : (k : Kind) → is_macro k ≡ true → k ≡ kind.Macro
-    is kind.Element h = cc
-    is kind.Class h = cc
-    is kind.Macro h = refl
-    is kind.Datatype h = cc
+    ap (λ (k : Kind). record { kind = k; ident = key.ident }) (macro_kind key.kind passed)
 
 module _ (library : Library) where
   -- a class that leads to itself is a member of itself

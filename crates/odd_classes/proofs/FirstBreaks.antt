@@ -5,7 +5,7 @@ use Rattle.odd_decls.specs.declared.library.Library.{Library}
 use Rattle.odd_meaning.specs.Links.{IsHeld, class_key, macro_key}
 use Rattle.odd_meaning.specs.Rules.{Breaks, BreaksByCycle, IsFirstBreak, Names, macro_not_held, of_attributes, own_member, reaches_itself}
 use Rattle.odd_classes.specs.Placing.{IsFirstAmong, NamesWrongly}
-use Rattle.odd_classes.specs.declared.rules.Wrong.TheVariants as wrong
+use Rattle.odd_classes.specs.declared.rules.WrongReference.TheVariants as wrong
 
 module _ (library : Library) where
   -- an offence is of one of three sorts

@@ -1,19 +1,22 @@
 mod ArrowsFound
-mod CycleRules
+pub mod CycleRules
 mod ElementsAmong
 mod Filled
 mod FirstBreaks
-mod Linked
+pub mod Linked
 mod Listed
 mod ListedEach
+mod ListedMembers
 mod Looping
 mod MacroRanks
 mod MacrosOrdered
 mod MembersReached
+mod ModelPlaces
 pub mod NamedParts
 mod OneMore
 mod Places
 mod PlacesPut
 pub mod Rising
 mod TableMade
+mod TableMembers
 mod WrongNames

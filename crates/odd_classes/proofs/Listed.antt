@@ -1,5 +1,5 @@
 -- The lists of the classes of a library, filled element by element in rising order.
-use Rattle.std.proofs.Common.{◌≡◌, ◌↔◌, ◌⊎◌, ◌<◌, ◌≤◌, ◌+◌, ℕ, List, [], ◌∷◌, ◌++◌, length, get_or, replicate, Some, inl, inr, sym, subst, ap, ⊎_elim, ◌∙◌, arith}
+use Rattle.std.proofs.Common.{◌≡◌, ◌↔◌, ◌⊎◌, ◌<◌, ◌+◌, ℕ, List, [], ◌∷◌, ◌++◌, length, get_or, replicate, Some, inl, inr, sym, subst, ap, ⊎_elim, ◌∙◌, arith}
 use Rattle.std.specs.Prelude.{IsTrue, sum_by}
 use Rattle.std.specs.List.{Contains}
 use Rattle.std.specs.FinMap.{is_sorted}
@@ -19,14 +19,11 @@ use Rattle.odd_decls.specs.Odd.{element_key}
 use Rattle.odd_decls.specs.declared.library.Component.{Component}
 use Rattle.odd_decls.specs.declared.library.Component.TheVariants as component
 use Rattle.odd_decls.specs.declared.library.ElementPart.{ElementPart}
-use Rattle.odd_decls.specs.declared.library.Library.{Library}
-use Rattle.odd_meaning.specs.Classes.{IsElementOf}
-use Rattle.odd_meaning.specs.Links.{class_key, classes_of}
-use Rattle.odd_classes.specs.Listing.{AreListed, AreListsOf, AreModelLists, HasListed, IsListedBefore, IsModelAt}
-use Rattle.odd_classes.specs.Placing.{IsEntryAt, IsGraphOf}
-use Rattle.odd_classes.proofs.Linked.{chains_agree}
+use Rattle.odd_meaning.specs.Links.{class_key}
+use Rattle.odd_classes.specs.Listing.{AreModelLists, HasListed, IsListedBefore, IsModelAt}
+use Rattle.odd_classes.specs.Placing.{IsEntryAt}
 use Rattle.odd_classes.proofs.MembersReached.{no_set, set_same}
-use Rattle.odd_classes.proofs.Places.{entry_held, held_at, places_rise}
+use Rattle.odd_classes.proofs.Places.{places_rise}
 use Rattle.odd_classes.proofs.Rising.{last_rises}
 
 -- the lists after the elements among the first entries
@@ -119,34 +116,3 @@ module _ (entries : List (Key × Component)) (arrows : List (List ℕ)) (i : ℕ
             ⊎_elim (λ h. subst (IsSet text_cmp (IsListedBefore entries arrows (i + 1) place)) (sym h.1) (with_it place class m ((are place).0 h.0.0)))
             (λ h. subst (IsSet text_cmp (IsListedBefore entries arrows (i + 1) place)) (sym h.1) (same_listed place class m (λ ident n. h.0 ((are place).1 n.2, (class, m))))) (has.each place inside);
       }
-
-module _ (library : Library) (up : IsTrue (is_sorted key_cmp library.parts)) (arrows : List (List ℕ)) (graph : IsGraphOf classes_of library.parts arrows) (count : ℕ) (lists : List (List (List ℕ)))
-    (made : ListedSoFar library.parts arrows count lists) where
-  -- what is listed is a member
-  listed_is : (place : ℕ) (class ident : List ℕ) → IsModelAt library.parts place class → IsListedBefore library.parts arrows count place ident → IsElementOf library class ident
-  listed_is place class ident m l = record {
-    part = l.1;
-    held = entry_held library.parts up l.0 (element_key ident) (component.Element l.1) l.2;
-    member = (chains_agree classes_of library up arrows graph l.0 place (element_key ident) (class_key class) (component.Element l.1, l.2) (component.Class m.part, m.here)).0 l.3;
-  }
-
-  -- so the lists hold some of the members
-  pub are_listed : AreListed library lists
-  are_listed = record {
-    models = made.models;
-    rising = λ place class m. (made.sets place class m).rising;
-    members = λ place class ident m s. listed_is place class ident m ((made.sets place class m).none_else ident s);
-  }
-
-  -- and at the end all
-  pub all_listed : length library.parts ≤ count → AreListsOf library lists
-  all_listed end = record {
-    models = made.models;
-    sets = λ place class m. set_same text_cmp _ _ _ (λ ident. (λ l. listed_is place class ident m l, λ e. listed place class ident m e)) (made.sets place class m);
-  }
-    where
-      listed : (place : ℕ) (class ident : List ℕ) → IsModelAt library.parts place class → IsElementOf library class ident → IsListedBefore library.parts arrows count place ident
-      listed place class ident m e =
-          let at = held_at library.parts (element_key ident) (component.Element e.part) e.held in
-          let inside : at.0 < length library.parts = slice_get_within library.parts at.0 (element_key ident, component.Element e.part) at.1 in
-          (at.0, e.part, at.1, (chains_agree classes_of library up arrows graph at.0 place (element_key ident) (class_key class) (component.Element e.part, at.1) (component.Class m.part, m.here)).1 e.member, omega (arith, inside, end))

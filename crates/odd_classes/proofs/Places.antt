@@ -1,31 +1,19 @@
 -- What a library holds at a key, and the places of its entries.
-use Rattle.std.proofs.Common.{◌≡◌, ◌⊎◌, inl, inr, ℕ, ◌<◌, true, cond, List, [], ◌∷◌, get_or, length, Some, refl, sym, ap, ◌∙◌}
+use Rattle.std.proofs.Common.{◌≡◌, ◌⊎◌, inl, inr, ℕ, ◌<◌, List, [], get_or, length, Some, sym, ap, ◌∙◌}
 use Rattle.std.specs.Prelude.{IsTrue}
-use Rattle.std.specs.Cmp.{Equal-is, tied_itself}
+use Rattle.std.specs.Cmp.{tied_itself}
 use Rattle.std.specs.FinMap.{find, is_sorted}
-use Rattle.std.specs.Map.{lookup}
-use Rattle.std.specs.Ordering.{eq_by_cmp}
 use Rattle.std.specs.declared.cmp.Ordering.TheVariants.{Less}
 use Rattle.std.proofs.lemmas.Bool.{cases_order}
 use Rattle.std.proofs.lemmas.Option.{get_or_from_slice_get, slice_get-get_or, slice_get_within}
-use Rattle.std.proofs.lemmas.Map.Views.{Contains-from_lookup}
 use Rattle.odd_base.specs.Key.{key_cmp}
 use Rattle.odd_base.specs.KeyOrder.{key_exact, key_total}
 use Rattle.odd_base.specs.Map.{IsAfter}
 use Rattle.odd_base.specs.declared.key.Key.{Key}
-use Rattle.odd_base.proofs.Entries.{as_T, find_at, rising}
+use Rattle.odd_base.proofs.Entries.{as_T, find_at, found_contained, rising}
 use Rattle.odd_forms.proofs.OneSet.{not_below, turned}
 use Rattle.odd_decls.specs.declared.library.Component.{Component}
 use Rattle.odd_classes.specs.Placing.{IsEntryAt}
-
--- keys that tie are one key
-pub one_key : (a b : Key) → eq_by_cmp key_cmp a b ≡ true → a ≡ b
-one_key a b h = key_exact a b ((Equal-is (key_cmp a b)).0 h)
-
--- what is found at a key is the value of an entry there
-found_looked_up : (key : Key) (es : List (Key × Component)) → find key_cmp key es ≡ lookup (eq_by_cmp key_cmp key) es
-found_looked_up key [] = refl
-found_looked_up key (e ∷ es) = ap (cond (eq_by_cmp key_cmp key e.0) (Some e.1)) (found_looked_up key es)
 
 -- what is found at a place is the entry there
 pub found_here : (es : List (Key × Component)) (place : ℕ) (here : Key × Component) → (place < length es) × ((d : Key × Component) → here ≡ get_or es place d) → IsEntryAt es place here.0 here.1
@@ -34,7 +22,7 @@ found_here es place here found = slice_get-get_or es place here found.0 ∙ ap S
 -- what is held has a place
 pub held_at : (es : List (Key × Component)) (key : Key) (part : Component) → find key_cmp key es ≡ Some part → (place : ℕ) × IsEntryAt es place key part
 held_at es key part h =
-    let there = Contains-from_lookup one_key key part es (sym (found_looked_up key es) ∙ h) in
+    let there = found_contained key_cmp key_total key_exact key part es h in
     (there.0, slice_get-get_or es there.0 (key, part) there.1 ∙ ap Some there.2)
 
 module _ (es : List (Key × Component)) (up : IsTrue (is_sorted key_cmp es)) where

@@ -4,13 +4,14 @@ use Rattle.std.specs.Prelude.{IsTrue}
 use Rattle.std.specs.FinMap.{is_sorted}
 use Rattle.std.proofs.lemmas.Option.{same_Some, slice_get-get_or, slice_get_within}
 use Rattle.odd_base.specs.Key.{key_cmp}
-use Rattle.odd_base.specs.KeyOrder.{key_total}
+use Rattle.odd_base.specs.KeyOrder.{key_exact, key_total}
 use Rattle.odd_base.specs.Map.{SetsOnly}
 use Rattle.odd_base.specs.declared.key.Key.{Key}
 use Rattle.odd_decls.specs.declared.library.Component.{Component}
 use Rattle.odd_classes.specs.Placing.{ArePlacesOf, IsEntryAt}
 use Rattle.odd_classes.proofs.Filled.{IsFilled, filled_more}
-use Rattle.odd_classes.proofs.Places.{one_key, one_place}
+use Rattle.odd_classes.proofs.Places.{one_place}
+use Rattle.std.proofs.lemmas.Map.Views.{tells_apart}
 
 -- what stands at a place is the entry there
 pub entry_here : (entries : List (Key × Component)) (i : ℕ) (here : Key × Component) → i < length entries → here ≡ get_or entries i here → IsEntryAt entries i here.0 here.1
@@ -29,7 +30,7 @@ module _ (entries : List (Key × Component)) where
   pub places_more : IsTrue (is_sorted key_cmp entries) → (i : ℕ) (old new : List (Key × ℕ)) (here : Key × Component) (key : Key) → PlacesSoFar i old → i < length entries
       → here ≡ get_or entries i here → key ≡ here.0 → SetsOnly key_cmp old new key i → PlacesSoFar (i + 1) new
   places_more up i old new here key before within is same sets =
-      filled_more key_cmp IsPlaceAt key_total one_key i old new key i before sets (refl, (here.1, there)) (λ other w a. ap (λ p. p.0) (same_Some _ _ (sym a.1.1 ∙ there)))
+      filled_more key_cmp IsPlaceAt key_total (tells_apart key_exact) i old new key i before sets (refl, (here.1, there)) (λ other w a. ap (λ p. p.0) (same_Some _ _ (sym a.1.1 ∙ there)))
       (λ place w a. one_place entries up i place key here.1 a.1.0 there a.1.1 ∙ sym a.0)
     where
       there : IsEntryAt entries i key here.1

@@ -9,26 +9,15 @@ use Rattle.odd_reader.specs.Elements.{StandsIn}
 use Rattle.odd_reader.proofs.InList.{first_or_later, nothing_stands, stands_first, stands_later, stands_push}
 use Rattle.odd_forms.proofs.OneSet.{first_below, not_below, rest_rising}
 use Rattle.odd_forms.specs.Sorted.{AreRising}
+use Rattle.odd_forms.proofs.SetOf.{none_rising, rising_more}
 
 module _ {A : Type 0} (order : A → A → Ordering) where
-  -- an item that is below all of a list that rises
-  pub first_rises : (x : A) (xs : List A) → ((y : A) → StandsIn xs y → order x y ≡ Less) → AreRising order xs → AreRising order (x ∷ xs)
-  first_rises x xs below r [] after item next e =
-      let here : x ≡ item = cc in
-      let rest : next ∷ after ≡ xs = cc in
-      subst (λ w. order w next ≡ Less) here (below next (subst (λ ys. StandsIn ys next) rest (stands_first next after)))
-  first_rises x xs below r (w ∷ before) after item next e = r before after item next cc
-
-  -- nothing rises
-  nothing_rises : AreRising order []
-  nothing_rises before after item next e = absurd (nothing_stands item (before, next ∷ after, e))
-
   module _ (total : IsTotalOrder order) where
     -- an item more that is above all of a list that rises
     pub last_rises : (xs : List A) (y : A) → ((x : A) → StandsIn xs x → order x y ≡ Less) → AreRising order xs → AreRising order (xs ++ y ∷ [])
-    last_rises [] y above r = first_rises y [] (λ z s. absurd (nothing_stands z s)) nothing_rises
+    last_rises [] y above r = rising_more order y [] (λ z s. absurd (nothing_stands z s)) (none_rising order)
     last_rises (x ∷ xs) y above r =
-        first_rises x (xs ++ y ∷ []) (λ z s. ⊎_elim (first_below order total x xs r z) (λ e. subst (λ w. order x w ≡ Less) e (above x (stands_first x xs))) ((stands_push xs y z).0 s))
+        rising_more order x (xs ++ y ∷ []) (λ z s. ⊎_elim (first_below order total x xs r z) (λ e. subst (λ w. order x w ≡ Less) e (above x (stands_first x xs))) ((stands_push xs y z).0 s))
         (last_rises xs y (λ z s. above z (stands_later x z xs s)) (rest_rising order total x xs r))
 
     -- of two lists that rise the one that is part of the other is no longer

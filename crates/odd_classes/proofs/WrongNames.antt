@@ -17,8 +17,8 @@ use Rattle.odd_decls.specs.declared.library.Component.TheVariants as component
 use Rattle.odd_decls.specs.declared.library.Library.{Library}
 use Rattle.odd_meaning.specs.Links.{named_by}
 use Rattle.odd_classes.specs.Placing.{IsEntryAt, IsFirstAmong, IsWrong, NamesWrongly}
-use Rattle.odd_classes.specs.declared.rules.Wrong.{Wrong}
-use Rattle.odd_classes.specs.declared.rules.Wrong.TheVariants as wrong
+use Rattle.odd_classes.specs.declared.rules.WrongReference.{WrongReference}
+use Rattle.odd_classes.specs.declared.rules.WrongReference.TheVariants as wrong
 use Rattle.odd_classes.proofs.Places.{entry_held, held_at, places_rise}
 
 -- a macro that is not held is wrong
@@ -37,11 +37,11 @@ class_wrong library key part is held = (
     same = ap (λ k. record { kind = k; ident = key.ident }) is
 
 -- the content of a component names such a key
-abbrev pub NamesOne : Library → Wrong → Component → Type 0
+abbrev pub NamesOne : Library → WrongReference → Component → Type 0
 NamesOne library w part = StandsOnce (IsWrong library w) (named_by part)
 
 -- no component before a place does
-abbrev pub NoneBefore : Library → Wrong → ℕ → Type 0
+abbrev pub NoneBefore : Library → WrongReference → ℕ → Type 0
 NoneBefore library w at = (place : ℕ) (key : Key) (part : Component) → place < at → IsEntryAt library.parts place key part → NamesOne library w part → ⊥
 
 -- a place has one component
@@ -50,7 +50,7 @@ one_part : (library : Library) (place : ℕ) (key other : Key) (part others : Co
 one_part library place key other part others a b = same_Some _ _ (sym a ∙ b)
 
 -- where the component at the next place does not either, none up to there does
-pub none_more : (library : Library) (w : Wrong) (at : ℕ) (key : Key) (part : Component) → NoneBefore library w at → IsEntryAt library.parts at key part
+pub none_more : (library : Library) (w : WrongReference) (at : ℕ) (key : Key) (part : Component) → NoneBefore library w at → IsEntryAt library.parts at key part
     → (NamesOne library w part → ⊥) → NoneBefore library w (at + 1)
 none_more library w at key part before is not place other others less there names = by_order (cases_order place at)
   where
@@ -62,21 +62,21 @@ none_more library w at key part before is not place other others less there name
     by_order (inr (inr later)) = absurd (omega arith)
 
 -- what names such a key has a place
-placed : (library : Library) (w : Wrong) (key : Key) → NamesWrongly library w key
+placed : (library : Library) (w : WrongReference) (key : Key) → NamesWrongly library w key
     → (place : ℕ) × (part : Component) × IsEntryAt library.parts place key part × NamesOne library w part
 placed library w key n =
     let there = held_at library.parts key n.1.part n.1.held in
     (there.0, n.1.part, there.1, (n.0, n.1.among, n.2))
 
 -- where none up to the end does, there is none
-pub none_of_all : (library : Library) (w : Wrong) (at : ℕ) → length library.parts ≤ at → NoneBefore library w at → (key : Key) → NamesWrongly library w key → ⊥
+pub none_of_all : (library : Library) (w : WrongReference) (at : ℕ) → length library.parts ≤ at → NoneBefore library w at → (key : Key) → NamesWrongly library w key → ⊥
 none_of_all library w at end before key n =
     let there = placed library w key n in
     let within = slice_get_within library.parts there.0 (key, there.1) there.2 in
     before there.0 key there.1 (omega arith) there.2 there.3
 
 -- where none before a place does and the one there does, that is the first
-pub first_at : (library : Library) (w : Wrong) (at : ℕ) (key : Key) (part : Component) → IsTrue (is_sorted key_cmp library.parts) → NoneBefore library w at
+pub first_at : (library : Library) (w : WrongReference) (at : ℕ) (key : Key) (part : Component) → IsTrue (is_sorted key_cmp library.parts) → NoneBefore library w at
     → IsEntryAt library.parts at key part → NamesOne library w part → IsFirstAmong (NamesWrongly library w) key
 first_at library w at key part up before is names = record {
   is_one = (names.0, record { part = part; held = entry_held library.parts up at key part is; among = names.1 }, names.2);

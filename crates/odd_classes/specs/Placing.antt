@@ -15,8 +15,8 @@ use Rattle.odd_meaning.specs.Links.{IsHeld, IsLinked, class_key, classes_of, mac
 use Rattle.odd_meaning.specs.Rules.{IsOfAttributes, Names}
 use Rattle.odd_classes.specs.declared.links.Link.{Link}
 use Rattle.odd_classes.specs.declared.links.Link.TheVariants as link
-use Rattle.odd_classes.specs.declared.rules.Wrong.{Wrong}
-use Rattle.odd_classes.specs.declared.rules.Wrong.TheVariants as wrong
+use Rattle.odd_classes.specs.declared.rules.WrongReference.{WrongReference}
+use Rattle.odd_classes.specs.declared.rules.WrongReference.TheVariants as wrong
 
 -- the keys that a component names by a link
 abbrev pub keys_by : Link → Component → List Key
@@ -52,12 +52,12 @@ abbrev pub IsReachedFrom : List (Key × Component) → List (List ℕ) → ℕ �
 IsReachedFrom entries arrows place ident = (from : ℕ) × (part : ElementPart) × IsEntryAt entries from (element_key ident) (component.Element part) × Leads arrows place from
 
 -- a content may not name the key
-abbrev pub IsWrong : Library → Wrong → Key → Type 0
+abbrev pub IsWrong : Library → WrongReference → Key → Type 0
 IsWrong library wrong.MacroNotHeld key = (ident : List ℕ) × (key ≡ macro_key ident) × (IsHeld library key → ⊥)
 IsWrong library wrong.OfAttributes key = (ident : List ℕ) × (key ≡ class_key ident) × IsOfAttributes library ident
 
 -- the content of what is held at the key names such a key
-abbrev pub NamesWrongly : Library → Wrong → Key → Type 0
+abbrev pub NamesWrongly : Library → WrongReference → Key → Type 0
 NamesWrongly library w key = (other : Key) × Names library key other × IsWrong library w other
 
 -- of those that are such the first

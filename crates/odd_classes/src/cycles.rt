@@ -10,7 +10,7 @@ use odd_decls::Library;
 use odd_graph::first_on_cycle;
 use std::alloc::Global;
 
-/// Why the cycles of a library are none.
+/// Why a library is not known to have no cycle.
 #[derive(Debug, Drop)]
 pub enum CycleRefusal {
     /// The component at the key is on a cycle, and breaks the rule.

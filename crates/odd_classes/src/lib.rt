@@ -1,5 +1,6 @@
-//! Which elements are members of a class, in which order macros stand in one another, and which libraries have a class that is
-//! a member of itself, or a macro that reaches itself.
+//! Which elements are members of a class, in which order macros stand in one another, and which libraries break a rule on
+//! classes and macros: a class that is a member of itself, a macro that reaches itself, a content that names a macro that is
+//! not held or a class of attributes.
 #![tactic(auto)]
 
 mod class_members;

@@ -9,7 +9,7 @@ use odd_graph::ordered;
 use std::alloc::Global;
 
 /// The idents of the macros of a library that reach no macro which reaches itself, each once, in an order in which each stands
-/// after those that its content names (TEI Guidelines, the chapter Documentation Elements). The only error is NoMemory, for
+/// after those held ones that its content names (TEI Guidelines, the chapter Documentation Elements). The only error is NoMemory, for
 /// want of memory.
 pub fn in_macro_order(alloc: Global, library: &Library) -> Result<Words, NoMemory>
     ensures { IfOk result (IsMacroOrder library.now) }

@@ -21,9 +21,9 @@ pub enum LibraryRefusal {
     NoMemory,
 }
 
-// What a content may not name.
+/// A reference that a content may not have.
 #[derive(Clone, Copy, Drop)]
-pub enum Wrong {
+pub enum WrongReference {
     /// A macro that is not held.
     MacroNotHeld,
     /// A class of type `atts`.
@@ -44,20 +44,20 @@ pub fn check_library(alloc: Global, library: &Library) -> Result<(), LibraryRefu
     ensures none { IsOk result → (key : AKey) (rule : ℕ) → Breaks library.now key rule → ⊥ }
     ensures first { (key : AKey) (rule : ℕ) → result ≡ Err (LibraryRefusal.Rule key rule) → IsFirstBreak (Breaks library.now) key rule }
 {
-    check_names(alloc, library, Wrong::MacroNotHeld, MACRO_NOT_HELD)?;
+    check_names(alloc, library, WrongReference::MacroNotHeld, MACRO_NOT_HELD)?;
     match check_cycles(alloc, library) {
         Ok(()) => {}
         Err(CycleRefusal::Loop { key, rule }) => return Err(LibraryRefusal::Rule { key, rule }),
         Err(CycleRefusal::NoMemory) => return Err(LibraryRefusal::NoMemory),
     }
-    check_names(alloc, library, Wrong::OfAttributes, OF_ATTRIBUTES)
+    check_names(alloc, library, WrongReference::OfAttributes, OF_ATTRIBUTES)
 }
 
 // Whether a content names what it may not.
 fn check_names(
     alloc: Global,
     library: &Library,
-    wrong: Wrong,
+    wrong: WrongReference,
     rule: u8,
 ) -> Result<(), LibraryRefusal>
     ensures none { IsOk result → (key : AKey) → NamesWrongly library.now wrong key → ⊥ }
@@ -74,7 +74,12 @@ fn check_names(
 }
 
 // Whether the content of a component names what it may not.
-fn names(alloc: Global, library: &Library, wrong: Wrong, part: &Component) -> Result<bool, NoMemory>
+fn names(
+    alloc: Global,
+    library: &Library,
+    wrong: WrongReference,
+    part: &Component,
+) -> Result<bool, NoMemory>
     ensures { IfOk result (λ names. IsTrue names ↔ ((key : AKey) × StandsIn (named_by part.now) key × IsWrong library.now wrong key)) }
 {
     for key in named(alloc, part)?.as_slice() {
@@ -86,12 +91,12 @@ fn names(alloc: Global, library: &Library, wrong: Wrong, part: &Component) -> Re
 }
 
 // Whether a content may not name a key.
-fn is_wrong(library: &Library, wrong: Wrong, key: &Key) -> bool
+fn is_wrong(library: &Library, wrong: WrongReference, key: &Key) -> bool
     ensures { IsTrue result ↔ IsWrong library.now wrong key.now }
 {
     match (wrong, key.kind, library.find(key)) {
-        (Wrong::MacroNotHeld, Kind::Macro, None) => true,
-        (Wrong::OfAttributes, Kind::Class, Some(part)) => is_of_attributes(part),
+        (WrongReference::MacroNotHeld, Kind::Macro, None) => true,
+        (WrongReference::OfAttributes, Kind::Class, Some(part)) => is_of_attributes(part),
         _ => false,
     }
 }

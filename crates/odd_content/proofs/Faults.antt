@@ -58,14 +58,6 @@ any_inner left around t o is = least_same (UnboundFault around t) (InnerFault le
     back rule (InnerFault.condition also f) = f
     back rule (InnerFault.level d also h f) = absurd (level_other d h (one_part t element.AnyElement d is also))
 
--- and any other part breaks nothing
-pub none_inner : (left : ℕ) (around : List Bind) (t : Tree) (e : Element) → part_of t ≡ Some e → e ≢ element.AnyElement → (IsLevel e → ⊥) → IsLeast (InnerFault left around t) None
-none_inner left around t e is other flat = never
-  where
-    never : (rule : ℕ) → InnerFault left around t rule → ⊥
-    never rule (InnerFault.condition also f) = other (one_part t element.AnyElement e also is)
-    never rule (InnerFault.level d also h f) = flat (subst IsLevel (one_part t e d is also) h)
-
 -- no level is left
 abbrev Deep : ℕ → ℕ → Type 0
 Deep left rule = (left ≡ 0) × (rule ≡ 2)

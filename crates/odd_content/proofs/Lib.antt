@@ -1,3 +1,4 @@
+mod Examples
 pub mod Faults
 pub mod OneContent
 pub mod PartKinds

@@ -55,6 +55,12 @@ space_split word prefix local before after h same alike fails = λ p l is.
     let e = split_after 58 word p l (Some (before, after)) h (lit< tt) (at_colon word p l is) (free_name p is.prefix_named) in
     fails (subst IsNCName (sym e.0 ∙ sym same) is.prefix_named) (subst IsNCName (sym e.1 ∙ sym alike) is.local_named)
 
+-- so is one of a name, a colon and what is no name
+pub space_around : (front rest : List ℕ) → IsNCName front → (IsNCName rest → ⊥) → IsSpace (front ++ codes ":" ++ rest)
+space_around front rest named fails = λ prefix local is.
+    let e = same_until (codes ":") IsFree free_later colon_apart front prefix rest local (free_name front named) (free_name prefix is.prefix_named) (sym (append_assoc front (codes ":") rest) ∙ at_colon _ prefix local is) in
+    fails (subst IsNCName (sym e.1) is.local_named)
+
 -- any other is the two names
 pub prefixed_split : (word prefix local : List ℕ) (before after : Bor (List ℕ)) → IsSplitOnceResult 58 word (Some (before, after)) → prefix ≡ before.now → local ≡ after.now
     → IsNCName prefix → IsNCName local → IsPrefixed word prefix local

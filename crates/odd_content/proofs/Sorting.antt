@@ -2,7 +2,6 @@
 use Rattle.odd_forms.specs.Words.{words_given}
 use Rattle.std.proofs.Common.{◌≡◌, ◌↔◌, ℕ, Bool, true, false, List, [], ◌∷◌, ◌++◌, refl, sym, subst, ◌∙◌, ⊎_elim, inl, inr}
 use Rattle.std.specs.Prelude.{IsTrue, codes}
-use Rattle.std.specs.declared.cmp.Ordering.{Ordering}
 use Rattle.odd_base.specs.declared.name.Bind.{Bind}
 use Rattle.odd_base.specs.declared.name.Name.{Name}
 use Rattle.odd_base.specs.NameOrder.{name_cmp}
@@ -11,6 +10,7 @@ use Rattle.odd_reader.specs.Elements.{StandsIn}
 use Rattle.odd_reader.specs.declared.tree.Tree.{Tree}
 use Rattle.odd_reader.proofs.InList.{StandsOnce, nothing_stands, once_push, stands_push}
 use Rattle.odd_forms.specs.Sorted.{IsSet}
+use Rattle.odd_forms.proofs.SetOf.{set_same}
 use Rattle.odd_content.specs.Excepting.{IsExceptedName, IsExceptedSpace, IsNameOf, IsReadAs, IsSpace, IsUnbound}
 use Rattle.odd_content.specs.declared.excepted.Excepted.TheVariants as excepted
 use Rattle.odd_content.proofs.Prefixed.{name_bound, one_name}
@@ -110,14 +110,6 @@ unbound_sorted binds words spaces names b word before read =
       names_picked = picked_same (IsNameOf binds) words names word before.names_picked (λ n g. name_bound binds word n g u);
       some_unbound = (λ _. (once_push (IsUnbound binds) words word).1 (inr u), λ _. refl);
     }
-
--- the set of what is such is that of what is such by other words
-set_same : {A : Type 0} (order : A → A → Ordering) (P Q : A → Type 0) (items : List A) → ((x : A) → P x ↔ Q x) → IsSet order P items → IsSet order Q items
-set_same order P Q items same h = record {
-  rising = h.rising;
-  none_else = λ x s. (same x).0 (h.none_else x s);
-  each = λ x q. h.each x ((same x).1 q);
-}
 
 -- the namespaces and the names of all words, as sets
 pub spaces_set : (binds : List Bind) (t : Tree) (spaces sorted : List (List ℕ)) (names : List Name) (b : Bool) → AreSorted binds (words_given t (codes "except")) spaces names b

@@ -46,7 +46,7 @@ const ONCE: Bounds = Bounds {
 /// The content model that a `content` says, under the namespace declarations outside it (docs/content.md). Rule is
 /// answered where it breaks a rule of form, with the least that it breaks: 1, a needed attribute is absent or one is
 /// malformed, or a prefix is not bound; 2, a form that is left out, or a sixty-first level; 3, a child that may not stand
-/// there, or a maximum below the minimum; 4, twice. NoMemory is answered for want of memory.
+/// there, a maximum below the minimum, or words in both `include` and `except`. NoMemory is answered for want of memory.
 pub fn read_content(alloc: Global, tree: &Tree, scope: &Scope) -> Result<Content, ContentRefusal>
     ensures ok { IfOk result (IsContentOf scope.now tree.now) }
     ensures sound { IsOk result → (rule : ℕ) → ContentFault scope.now tree.now rule → ⊥ }

@@ -1,18 +1,18 @@
 -- The elements of a formed tree, and what the search finds in it, are formed, and lie one after another.
-use Rattle.std.proofs.Common.{◌≡◌, ℕ, suc, ◌≤◌, Bool, true, false, codes, if◌then◌else◌, List, [], ◌∷◌, ◌++◌, map, ⊎_elim, refl, sym, ap, subst, ◌∙◌, arith}
+use Rattle.std.proofs.Common.{◌≡◌, ℕ, suc, ◌≤◌, Bool, true, false, codes, if◌then◌else◌, List, [], ◌∷◌, ◌++◌, ⊎_elim, sym, ap, subst, ◌∙◌, arith}
 use Rattle.std.proofs.lemmas.List.{map-append}
 use Rattle.odd_base.specs.declared.name.Bind.{Bind}
 use Rattle.odd_reader.specs.Formed.{AreFormed, IsFormed}
 use Rattle.odd_reader.specs.Formed as formed
-use Rattle.odd_reader.specs.declared.tree.Node.{Node, Element, Text}
+use Rattle.odd_reader.specs.declared.tree.Node.{Node}
 use Rattle.odd_reader.specs.declared.tree.Tree.{Tree, out-Tree}
 use Rattle.odd_reader.specs.Elements.{StandsIn, elements_of}
 use Rattle.odd_decls.specs.Search.{Finds, FindsAmong, Found}
 use Rattle.odd_forms.specs.Names.{is_one_of}
 use Rattle.odd_decls.specs.Search as search
-use Rattle.odd_reader.proofs.AmongChildren.{element_shown, text_shown}
+use Rattle.odd_reader.proofs.AmongChildren.{with_element, with_text}
 use Rattle.odd_decls.proofs.Searched.{FoundWith, found_with, none_found, schemas_of}
-use Rattle.odd_reader.proofs.InList.{first_or_later, nothing_stands}
+use Rattle.odd_reader.proofs.InList.{first_or_later, map_stands, nothing_stands}
 
 -- the element is formed, between some places
 abbrev pub IsFormedSomewhere : Tree → Type 0
@@ -57,18 +57,10 @@ mutual
   nodes_room (formed.text later) = nodes_room later
   nodes_room (formed.child between one later) = let h = room_from (element_begins one) (element_room one) in let k = nodes_room later in omega (arith, h, k)
 
--- the elements among nodes that begin with a text
-after_text : (bytes : List ℕ) (nodes : List Node) → elements_of (Text bytes ∷ nodes) ≡ elements_of nodes
-after_text bytes nodes = ap (λ ts. ts ++ elements_of nodes) (text_shown (Text bytes) bytes refl)
-
--- the elements among nodes that begin with an element
-with_element : (t : Tree) (nodes : List Node) → elements_of (Element t ∷ nodes) ≡ t ∷ elements_of nodes
-with_element t nodes = ap (λ ts. ts ++ elements_of nodes) (element_shown (Element t) t refl)
-
 -- the elements among formed nodes lie there
 pub nodes_lie : {first end : ℕ} {nodes : List Node} → AreFormed first end nodes → LieIn first end (elements_of nodes)
 nodes_lie (formed.nothing h) = h
-nodes_lie {first = first} {end = end} (formed.text {bytes = bytes} {nodes = nodes} later) = subst (LieIn first end) (sym (after_text bytes nodes)) (nodes_lie later)
+nodes_lie {first = first} {end = end} (formed.text {bytes = bytes} {nodes = nodes} later) = subst (LieIn first end) (sym (with_text bytes nodes)) (nodes_lie later)
 nodes_lie {first = first} {end = end} (formed.child {t = t} {nodes = nodes} between one later) =
     subst (LieIn first end) (sym (with_element t nodes))
     (element_begins one, (first, between, one), lie_after (suc (out-Tree t).at) between end (elements_of nodes) (element_room one) (nodes_lie later))
@@ -94,7 +86,7 @@ mutual
   among_lie {around = around} {first = first} {end = end} {found = found} (formed.nothing h) among =
       subst (λ fs. LieIn first end (schemas_of fs)) (sym (none_found around found among)) h
   among_lie {around = around} {found = found} (formed.text {bytes = bytes} {nodes = nodes} later) among =
-      among_lie later (subst (λ ts. FindsAmong around ts found) (after_text bytes nodes) among)
+      among_lie later (subst (λ ts. FindsAmong around ts found) (with_text bytes nodes) among)
   among_lie {around = around} {first = first} {end = end} {found = found} (formed.child {t = t} {nodes = nodes} between one later) among =
       let f : FoundWith around t (elements_of nodes) found = found_with around t (elements_of nodes) found (subst (λ ts. FindsAmong around ts found) (with_element t nodes) among) in
       subst (LieIn first end) (sym (ap schemas_of f.4 ∙ map-append (λ g. g.schema) f.0 f.1))
@@ -104,12 +96,8 @@ mutual
 pub children_formed : (nodes : List Node) (first end : ℕ) → AreFormed first end nodes → (u : Tree) → StandsIn (elements_of nodes) u → IsFormedSomewhere u
 children_formed nodes first end f = each_formed first end (elements_of nodes) (nodes_lie f)
 
--- what stands in a list, seen by a map, stands in what the map gives
-seen_stands : {X Y : Type 0} (f : X → Y) (xs : List X) (x : X) → StandsIn xs x → StandsIn (map f xs) (f x)
-seen_stands f xs x s = (map f s.0, map f s.1, ap (map f) s.2 ∙ map-append f s.0 (x ∷ s.1))
-
 -- what the search finds in a formed element is formed
 pub found_formed : (around : List Bind) (t : Tree) (found : List Found) (first end : ℕ) → IsFormed first end t → Finds around t found
     → (f : Found) → StandsIn found f → IsFormedSomewhere f.schema
 found_formed around t found first end formed finds f s =
-    each_formed first end (schemas_of found) (found_lie formed finds) f.schema (seen_stands (λ g. g.schema) found f s)
+    each_formed first end (schemas_of found) (found_lie formed finds) f.schema (map_stands (λ g. g.schema) found f s)

@@ -11,7 +11,7 @@ use Rattle.odd_decls.specs.Reading.{AreItemsRead, AreRead, GivesEntry}
 use Rattle.odd_decls.specs.Search.{Found}
 use Rattle.odd_decls.specs.declared.odd.Entry.{Entry}
 use Rattle.odd_decls.specs.declared.reading.ReadItems.TheVariants as items
-use Rattle.odd_decls.proofs.FirstFaults.{NoneOffends, first_broken, none_more, none_offends}
+use Rattle.odd_decls.proofs.ItemOffences.{NoneOffends, first_broken, none_more, none_offends}
 use Rattle.odd_decls.proofs.ReadAs.{entry_read, none_read, other_read}
 use Rattle.odd_decls.proofs.Repeats.{BreaksAfter, no_keys}
 

@@ -1,6 +1,8 @@
--- The order of offences by place and rule.
-use Rattle.std.proofs.Common.{◌≡◌, ℕ, inl, inr, arith}
+-- The order of offences by place and rule, and which of them is the first.
+use Rattle.std.proofs.Common.{◌≡◌, ℕ, inl, inr, ◌∙◌, arith}
+use Rattle.odd_decls.specs.declared.fault.Fault.{Fault}
 use Rattle.odd_decls.specs.Offences.{IsNotAfter}
+use Rattle.odd_decls.specs.Reading.{IsFirstFault}
 
 -- two offences, neither of which comes after the other, are one
 pub neither_after : (p r q s : ℕ) → IsNotAfter p r q s → IsNotAfter q s p r → (p ≡ q) × (r ≡ s)
@@ -8,3 +10,16 @@ neither_after p r q s (inl a) (inl b) = omega (arith, a, b)
 neither_after p r q s (inl a) (inr b) = let e = b.0 in omega (arith, a, e)
 neither_after p r q s (inr a) (inl b) = let e = a.0 in omega (arith, b, e)
 neither_after p r q s (inr a) (inr b) = let h = a.1 in let k = b.1 in (a.0, omega (arith, h, k))
+
+-- by place and then by rule: what is not before one is not before another that is not before it
+pub not_after_through : (place rule between between_rule other others_rule : ℕ) → IsNotAfter place rule between between_rule → IsNotAfter between between_rule other others_rule
+    → IsNotAfter place rule other others_rule
+not_after_through place rule between between_rule other others_rule (inl h) (inl k) = inl (omega arith)
+not_after_through place rule between between_rule other others_rule (inl h) (inr k) = inl (omega (arith, k.0))
+not_after_through place rule between between_rule other others_rule (inr h) (inl k) = inl (omega (arith, h.0))
+not_after_through place rule between between_rule other others_rule (inr h) (inr k) = inr (h.0 ∙ k.0, omega (arith, h.1, k.1))
+
+-- an offence that comes after no other where places rise is the first fault
+pub first_fault : (HasOne : ℕ → ℕ → Type 0) (AreRising : Type 0) (fault : Fault) → HasOne fault.at fault.rule
+    → (AreRising → (place rule : ℕ) → HasOne place rule → IsNotAfter fault.at fault.rule place rule) → IsFirstFault HasOne AreRising fault
+first_fault HasOne AreRising fault one not_after = record { is_one = one; first = λ r. record { is_one = one; first = not_after r } }

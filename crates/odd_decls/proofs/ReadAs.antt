@@ -5,14 +5,14 @@ use Rattle.odd_reader.specs.declared.tree.Tree.{Tree, out-Tree}
 use Rattle.odd_reader.proofs.InList.{nothing_stands, stands_around, stands_push}
 use Rattle.odd_reader.proofs.InList as standing
 use Rattle.odd_forms.specs.declared.element.Element.{Element}
-use Rattle.odd_decls.specs.Declares.{AreEntriesOf, IsEntryOf, PlacesRise}
+use Rattle.odd_decls.specs.Declares.{IsEntryOf, PlacesRise}
 use Rattle.odd_decls.specs.Declares as entries
 use Rattle.odd_decls.specs.Odd.{place_of}
 use Rattle.odd_decls.specs.Offences.{IsItem}
 use Rattle.odd_decls.specs.Reading.{AreRead, Rises}
 use Rattle.odd_decls.specs.Search.{Found}
 use Rattle.odd_decls.specs.declared.odd.Entry.{Entry}
-use Rattle.odd_decls.proofs.FirstFaults.{before_last, rises_first}
+use Rattle.odd_decls.proofs.RisingPlaces.{before_last, rises_first}
 
 -- an entry is at the place of its item
 entry_place : (first : Found) (item : Tree) (e : Entry) → IsEntryOf first item e → place_of e ≡ (out-Tree item).at

@@ -22,7 +22,7 @@ same_key : (a b : Key) → eq_by_cmp key_cmp a b ≡ true → a ≡ b
 same_key a b h = (tied_is_same a b (key_cmp a b) refl).0 h
 
 -- one key ties with itself
-key_itself : (a b : Key) → a ≡ b → eq_by_cmp key_cmp a b ≡ true
+pub key_itself : (a b : Key) → a ≡ b → eq_by_cmp key_cmp a b ≡ true
 key_itself a b e = (tied_is_same a b (key_cmp a b) refl).1 e
 
 -- an item declares at one key
@@ -89,9 +89,3 @@ least_after around items item own repeated least again h told is e =
     let Again : ℕ → Type 0 = λ rule. IsAgain items item × (rule ≡ 4) in
     subst (IsLeast (BreaksAfter around items item)) (ap (lesser_rule own) (sym is) ∙ e)
     (least_or (ItemFault around item) Again own (if again then Some 4 else None) h (least_if Again again 4 (λ t. (told.0 t, refl)) (λ other f. (told.1 f.0, f.1))))
-
--- where the lesser of two rules is none, the first is none
-pub none_alone : (own other : Option ℕ) → lesser_rule own other ≡ None → own ≡ None
-none_alone None other e = refl
-none_alone (Some rule) None e = e
-none_alone (Some rule) (Some other) e = cc

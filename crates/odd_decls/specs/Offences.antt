@@ -1,5 +1,6 @@
 -- The offences of form of an ODD file: rule 1, a needed attribute is absent or one is malformed; 2, a form that is left out; 3, a child that may not
--- stand there; 4, twice. An offence is of an item, wherever inside the item the fault is.
+-- stand there, a `mode` or a `type` that is unknown, or what contradicts itself; 4, twice. An offence is of an item, wherever inside the item the
+-- fault is.
 use Rattle.std.specs.Prelude.{◌≡◌, ◌⊎◌, ◌≤◌, ◌<◌, ℕ, List, [], ◌∷◌, Option, Some, None, codes}
 use Rattle.odd_base.specs.declared.key.Key.{Key}
 use Rattle.odd_base.specs.declared.key.Kind.{Kind}

@@ -25,10 +25,10 @@ use odd_reader::{Bindings, Tree, attribute, elements};
 use std::alloc::Global;
 use std::collections::BTreeSet;
 
-/// Why a file declares nothing.
+/// Why a file declares nothing, or a chain of files gives no library.
 #[derive(Debug, Drop, PartialEq, Eq)]
 pub enum OddRefusal {
-    /// The first offence of form.
+    /// The first offence: of form where a file is read, of any rule where files are merged.
     Offence(Offence),
     /// The file has a form that is not read yet.
     NotYet,
@@ -52,7 +52,7 @@ const TWICE: u8 = 4;
 /// taken out; that comes later.
 ///
 /// NotYet comes where the file has a form that is not read yet (docs/odd-files.md), and before any offence. Offence
-/// comes at the first offence of form, by place and then by rule.
+/// comes at an offence of form; of a formed tree, as `spell` gives it, at the first one, by place and then by rule.
 pub fn read_odd(alloc: Global, tree: &Tree, file: u32, _aside: bool) -> Result<OddDoc, OddRefusal>
     ensures ok { IfOk result (λ doc. (first end : ℕ) → IsFormed first end tree.now → Declares tree.now doc) }
     ensures offends { (offence : AnOffence) → result ≡ Err (OddRefusal.Offence offence) → IsOffenceOf tree.now file offence }

@@ -10,7 +10,7 @@ pub enum Mode {
     Add,
     /// There is none any more.
     Delete,
-    /// It has another of each field that is given.
+    /// What is given is laid over it (docs/merging.md): its module stays, as does the type of a class.
     Change,
     /// There is a new component in its place.
     Replace,

@@ -1,5 +1,6 @@
 pub mod AnyWord
 pub mod Children
+mod Examples
 pub mod Forms
 pub mod Least
 pub mod Lists
@@ -7,7 +8,9 @@ pub mod Named
 pub mod Numbers
 pub mod OneSet
 pub mod SetOf
+pub mod SmallElements
 pub mod SortedItems
 pub mod Spaced
 pub mod Twice
+pub mod Values
 pub mod WordsLegal

@@ -1,5 +1,5 @@
 -- The set of the items of a list.
-use Rattle.std.proofs.Common.{◌≡◌, if◌then◌else◌, List, [], ◌∷◌, ⊎_elim, refl, sym, subst, ◌∙◌}
+use Rattle.std.proofs.Common.{◌≡◌, ◌↔◌, if◌then◌else◌, List, [], ◌∷◌, ⊎_elim, refl, sym, subst, ◌∙◌}
 use Rattle.std.specs.Cmp.{IsTotalOrder}
 use Rattle.std.specs.Ordering.{is_eq, is_gt}
 use Rattle.std.specs.declared.cmp.Ordering.{Ordering}
@@ -21,6 +21,10 @@ module _ {A : Type 0} (order : A → A → Ordering) where
       let rest : xs ≡ next ∷ after = cc in
       subst (λ z. order z next ≡ Less) first (below next (subst (λ ys. StandsIn ys next) (sym rest) (stands_first next after)))
   rising_more x xs below r (z ∷ before) after item next e = r before after item next (cc)
+
+  -- the set of what is such is the set of what is such by other words
+  pub set_same : (Is Other : A → Type 0) (items : List A) → ((item : A) → Is item ↔ Other item) → IsSet order Is items → IsSet order Other items
+  set_same Is Other items same h = record { rising = h.rising; none_else = λ item s. (same item).0 (h.none_else item s); each = λ item o. h.each item ((same item).1 o) }
 
 module _ {A : Type 0} (order : A → A → Ordering) (total : IsTotalOrder order) (exact : (x y : A) → order x y ≡ Equal → x ≡ y) where
   -- an item is inserted into items that rise

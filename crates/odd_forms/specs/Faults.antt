@@ -1,5 +1,5 @@
 -- What an element breaks by its form: rule 1, a needed attribute is absent or one is malformed; 2, a form that is left out; 3, a child that may not
--- stand there, or what contradicts itself; 4, twice in one place.
+-- stand there, a `mode` or a `type` that is unknown, or what contradicts itself; 4, twice in one place.
 use Rattle.std.specs.Prelude.{◌≡◌, ◌≢◌, ◌≤◌, ◌<◌, ℕ, true, false, ◌||◌, List, [], ◌∷◌, ◌++◌, find, count_by, Option, Some, None, IsSome, IsTrue}
 use Rattle.odd_reader.specs.Elements.{StandsIn, children_of, given}
 use Rattle.odd_reader.specs.declared.tree.Tree.{Tree}

@@ -1,4 +1,5 @@
--- The form of each element. An attribute that is not listed is passed over, and so is text.
+-- The form of each element. An attribute that is not listed breaks nothing here, and no more does text. (`ns` is read with the declarations, and
+-- what `anyElement` asks with its content.)
 use Rattle.std.specs.Prelude.{ℕ, true, false, List, [], ◌∷◌, codes}
 use Rattle.odd_forms.specs.Form.{AttributeForm, Demand, Form, Kind, name, names, any_names, digits, count, one_of, in_order, needed_unless, not_both}
 use Rattle.odd_forms.specs.declared.element.Element.TheVariants as elements

@@ -20,7 +20,7 @@ use std::alloc::Global;
 pub const MALFORMED: u8 = 1;
 /// A form that is left out.
 pub const LEFT_OUT: u8 = 2;
-/// A child that may not stand there, or what contradicts itself.
+/// A child that may not stand there, a `mode` or a `type` that is unknown, or what contradicts itself.
 pub const UNKNOWN: u8 = 3;
 /// Twice in one place.
 pub const TWICE: u8 = 4;

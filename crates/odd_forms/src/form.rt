@@ -54,7 +54,8 @@ impl AttributeForm {
 /// What must also hold of an element.
 #[derive(Clone, Copy)]
 pub enum Demand {
-    /// The number of the second attribute is not below that of the first. An absent one is 1.
+    /// The number of the second attribute is not below that of the first. An absent one is 1; of what is no number nothing
+    /// is asked.
     InOrder(&'static str, &'static str),
     /// One of the two attributes at most has a word.
     NotBoth(&'static str, &'static str),

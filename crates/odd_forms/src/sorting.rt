@@ -5,7 +5,7 @@ ghost use Rattle.odd_forms.specs.Sorted.{IsSet};
 use odd_base::{ExactOrd, NoMemory, Seq};
 use std::alloc::Global;
 
-/// The items in rising order, each once.
+/// The items in rising order, each once. The only error is NoMemory, for want of memory.
 pub fn sorted<T: ExactOrd + Drop>(alloc: Global, items: Seq<T>) -> Result<Seq<T>, NoMemory>
     ensures { IfOk result (IsSet T.cmp (StandsIn items)) }
 {

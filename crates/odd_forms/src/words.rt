@@ -6,7 +6,8 @@ use odd_reader::{Tree, attribute};
 use odd_tokens::is_space;
 use std::alloc::Global;
 
-/// The words of an attribute's value: what stands between white space (XML 1.0, section 2.3).
+/// The words of an attribute's value: what stands between white space (XML 1.0, section 2.3). The only error is NoMemory,
+/// for want of memory.
 pub fn words_of(alloc: Global, value: &str) -> Result<Words, NoMemory>
     ensures { IfOk result (λ words. words ≡ the_words_of value.now) }
 {
@@ -24,7 +25,8 @@ pub fn words_of(alloc: Global, value: &str) -> Result<Words, NoMemory>
     Ok(words)
 }
 
-/// The words that an element has in an attribute, and none where it is absent.
+/// The words that an element has in an attribute, and none where it is absent. The only error is NoMemory, for want of
+/// memory.
 pub fn words_given(alloc: Global, tree: &Tree, local: &str) -> Result<Words, NoMemory>
     ensures { IfOk result (λ words. words ≡ the_words_given tree.now local.now) }
 {

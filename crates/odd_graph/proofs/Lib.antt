@@ -1,6 +1,7 @@
 mod AllPlaced
 mod ArrowsTurned
 pub mod Chains
+mod Examples
 mod Leads
 mod NodeAdded
 mod NodesMarked

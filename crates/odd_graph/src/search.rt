@@ -15,8 +15,8 @@ pub fn unmarked(alloc: Global, arrows: &[Nodes]) -> Result<Vec<bool>, NoMemory>
     Ok(marks)
 }
 
-/// The nodes that a node leads to, by one arrow or more, each once. The marks are those of `unmarked`, and none is set
-/// afterwards, so that they serve many searches. The only error is NoMemory, for want of memory.
+/// The nodes that a node leads to, by one arrow or more, each once. The marks are those of `unmarked`, and where the nodes
+/// are answered none is set afterwards, so that they serve many searches. The only error is NoMemory, for want of memory.
 pub fn reached(
     alloc: Global,
     arrows: &[Nodes],

@@ -14,7 +14,8 @@ use Rattle.odd_reader.specs.Significant.{Marking, depth}
 use Rattle.odd_reader.specs.declared.tree.Tree.{Tree, out-Tree}
 use Rattle.odd_meaning.specs.Admission.{Admits, IsValidBy, IsValidWithin, name_in_documents}
 use Rattle.odd_meaning.specs.Labels.{Label}
-use Rattle.odd_meaning.proofs.ExampleTrees.{apart, bare_depth, childless_depth, element, element_in, leaf, none_counts, words}
+use Rattle.odd_reader.proofs.StandsNames.{apart}
+use Rattle.odd_meaning.proofs.ExampleTrees.{bare_depth, childless_depth, element, element_in, leaf, none_counts, words}
 use Rattle.odd_meaning.proofs.ValidityExamples.{holding, none_there, one_part, opened, part_in, text_with_words}
 
 -- one of the start words is enough

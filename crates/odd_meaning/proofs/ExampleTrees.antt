@@ -3,24 +3,12 @@ use Rattle.std.proofs.Common.{◌≡◌, ⊎_elim, ℕ, true, false, not, ◌||�
 use Rattle.std.specs.List.{list_any}
 use Rattle.std.proofs.lemmas.Bool.{false≢true}
 use Rattle.odd_forms.specs.Names.{tei}
-use Rattle.odd_reader.proofs.InList.{first_or_later, nothing_stands}
-use Rattle.odd_reader.proofs.StandsNames.{same_from}
-use Rattle.odd_reader.specs.Elements.{StandsIn}
 use Rattle.odd_reader.specs.Significant.{IsSignificant, beside_elements, blank, depth, is_blank, is_element, whole}
 use Rattle.odd_reader.specs.declared.tree.Attr.{Attr}
 use Rattle.odd_reader.specs.declared.tree.Node as N
 use Rattle.odd_reader.specs.declared.tree.Node.{Node, Element, Text}
 use Rattle.odd_reader.specs.declared.tree.Tree as T
 use Rattle.odd_reader.specs.declared.tree.Tree.{Tree, roll-Tree}
-use Rattle.odd_tokens.specs.Same.{is_same}
-
--- two texts that differ are not equal
-pub apart : {R : Type 0} (x y : List ℕ) → is_same x y ≡ false → x ≡ y → R
-apart x y e same = absurd (false≢true (sym e ∙ same_from x y same))
-
--- what stands in a list of one item is that item
-pub only_item : {A : Type 0} (x y : A) → StandsIn (x ∷ []) y → y ≡ x
-only_item x y s = ⊎_elim (λ e. e) (λ rest. absurd (nothing_stands y rest)) (first_or_later x y [] s)
 
 -- nodes and trees
 

@@ -1,4 +1,5 @@
 pub mod AdmissionExamples
+pub mod ClassExamples
 pub mod ConditionExamples
 pub mod ExampleTrees
 pub mod Examples

@@ -19,7 +19,8 @@ use Rattle.odd_meaning.specs.Admission.{IsValid, IsValidBy, IsValidWithin, count
 use Rattle.odd_meaning.specs.Contents as contents
 use Rattle.odd_meaning.specs.Labels.{Label}
 use Rattle.odd_meaning.specs.Offers.{AreOffered, IsOffered}
-use Rattle.odd_meaning.proofs.ExampleTrees.{apart, attribute, bare_depth, branch, branch_depth, childless_depth, element, element_in, leaf, leaf_alone_counts, leaf_element}
+use Rattle.odd_reader.proofs.StandsNames.{apart}
+use Rattle.odd_meaning.proofs.ExampleTrees.{attribute, bare_depth, branch, branch_depth, childless_depth, element, element_in, leaf, leaf_alone_counts, leaf_element}
 use Rattle.odd_meaning.proofs.ExampleTrees.{none_counts, space, space_alone, space_counts, space_depth, space_is_passed, words, words_alone, words_count, words_depth}
 
 -- a namespace and a content, with no module and in no class

@@ -71,7 +71,7 @@ MacroAdmits zero library m key w = ⊥
 MacroAdmits (suc levels) library m key w =
     (part : OtherPart) × (find key_cmp (macro_key key) library.parts ≡ Some (component.Macro part)) × AdmitsBy (MacroAdmits levels library m) library m part.content w
 
--- No macro comes back to itself, so no more of them stand in one another than the library holds components.
+-- Where no macro comes back to itself, which a rule on libraries asks, no more of them stand in one another than the library holds components.
 abbrev pub IsOfMacro : Library → Marking Label → Macros
 IsOfMacro library m = MacroAdmits (length library.parts) library m
 

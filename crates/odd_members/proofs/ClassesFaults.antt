@@ -9,6 +9,7 @@ use Rattle.odd_forms.specs.Sorted.{IsSet}
 use Rattle.odd_forms.specs.Table.{form_at}
 use Rattle.odd_forms.specs.declared.element.Element.TheVariants as element
 use Rattle.odd_forms.proofs.Least.{least_or, least_same}
+use Rattle.odd_forms.proofs.SetOf.{set_same}
 use Rattle.odd_members.specs.Members.{ClassesFault, HasMarks, IsAddedBy, MembersFault, Names}
 
 -- the least rule that it breaks is the lesser of those by its form and by its `memberOf`
@@ -29,8 +30,4 @@ classes_least classes a b h k =
 -- the classes that the marks add are those that the children add
 pub added_named : (children : List Tree) (marks : List (List ℕ × Bool)) (words : List (List ℕ)) → HasMarks children marks → IsSet text_cmp (IsAddedBy marks) words
     → IsSet text_cmp (λ word. Names children word true) words
-added_named children marks words h s = record {
-  rising = s.rising;
-  none_else = λ word stands. (h.marked word true).0 (s.none_else word stands);
-  each = λ word named. s.each word ((h.marked word true).1 named);
-}
+added_named children marks words h = set_same text_cmp (IsAddedBy marks) (λ word. Names children word true) words (λ word. h.marked word true)

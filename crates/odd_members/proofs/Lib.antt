@@ -1,6 +1,9 @@
 mod AddedWords
 mod ClassesFaults
+mod Examples
 mod MarksCopied
+mod MarksPut
+pub mod MemberFaults
 mod MembersRead
 pub mod OneMembership
 mod WordsKept

@@ -8,7 +8,7 @@ use Rattle.std.specs.Ordering.{is_lt, ordering_reverse}
 use Rattle.std.specs.declared.cmp.Ordering.{Ordering}
 use Rattle.std.specs.declared.cmp.Ordering.TheVariants.{Less, Greater}
 use Rattle.odd_reader.proofs.InList.{begins, ends}
-use Rattle.odd_members.proofs.AddedWords.{first, is_less, second}
+use Rattle.odd_base.proofs.Entries.{first, is_less, second}
 
 module _ {K V : Type 0} (order : K → K → Ordering) (total : IsTotalOrder order) where
   -- a key that is below all is below one of them

@@ -29,9 +29,13 @@ pub record IsMemberOf (word : List ℕ) (child : Tree) : Type 0 where
   pub key : given child (codes "key") ≡ Some word
   pub named : IsNCName word
 
--- one of the children adds the class, or takes it away
+-- it adds the class, or takes it away
+abbrev pub IsMarked : List ℕ → Bool → Tree → Type 0
+IsMarked word is_added child = IsMemberOf word child × (adds child ≡ is_added)
+
+-- one of the children does
 abbrev pub Names : List Tree → List ℕ → Bool → Type 0
-Names children word is_added = (member : Tree) × StandsIn children member × IsMemberOf word member × (adds member ≡ is_added)
+Names children word is_added = (member : Tree) × StandsIn children member × IsMarked word is_added member
 
 -- the marks of the classes that children name, in rising order
 pub record HasMarks (children : List Tree) (marks : List (List ℕ × Bool)) : Type 0 where

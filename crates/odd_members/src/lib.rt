@@ -1,4 +1,4 @@
-//! Which classes a component is a member of, as a declaration gives them.
+//! The memberships of a component, as a declaration gives them.
 #![tactic(auto)]
 
 pub mod membership;

@@ -14,7 +14,7 @@ use odd_forms::{Element, TWICE, fault_where, form_fault, is_child, lesser};
 use odd_reader::{Tree, attribute, elements, is_ncname};
 use std::alloc::Global;
 
-/// What the `classes` of a declaration give, and the least rule that they break.
+/// What the `classes` of a declaration give, where they break no rule, and the least rule that they break.
 #[derive(Drop)]
 pub struct ReadClasses {
     pub classes: Option<Membership>,
@@ -28,8 +28,9 @@ struct ReadMembers {
     fault: Option<u8>,
 }
 
-/// What the `classes` of a declaration of this form give, and the least rule that they break. The only error is NoMemory,
-/// for want of memory.
+/// What the `classes` of a declaration of this form give, where they break no rule, and the least rule that they break. Of
+/// two `classes`, which the form of the declaration refuses, one of them gives it. The only error is NoMemory, for want of
+/// memory.
 pub fn read_classes(alloc: Global, form: Element, spec: &Tree) -> Result<ReadClasses, NoMemory>
     ensures fault { IfOk result (λ read. IsLeast (Among (ChildOfFault form the_element.Classes ClassesFault) (children_of spec.now)) read.fault) }
     ensures classes { IfOk result (λ read. read.fault ≡ None → GivesOne form the_element.Classes IsMembershipOf (children_of spec.now) read.classes) }

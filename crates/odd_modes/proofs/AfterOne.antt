@@ -19,7 +19,9 @@ use Rattle.odd_decls.specs.declared.spec.Spec.{Spec}
 use Rattle.odd_modes.specs.After.{after_one, held_by, kept, spec_at}
 use Rattle.odd_modes.specs.Choosing.{IsChosen, is_referred}
 use Rattle.odd_modes.specs.Index.{IsKeyOfSpec, over}
-use Rattle.odd_modes.proofs.HeldEntries.{key_itself, one_key}
+use Rattle.std.proofs.lemmas.Map.Views.{tells_apart}
+use Rattle.odd_base.specs.KeyOrder.{key_exact}
+use Rattle.odd_decls.proofs.Repeats.{key_itself}
 
 -- the entries hold at each of the keys what is to be held there, and nothing else
 abbrev pub HoldAt : (Key → Option Component) → List Key → List (Key × Component) → Type 0
@@ -40,7 +42,7 @@ module _ (at : Key → Option Component) (keys : List Key) (i : ℕ) (key : Key)
   pub one_put : (old new : List (Key × Component)) (part : Component) → at key ≡ Some part → HoldAt at (take i keys) old → SetsOnly key_cmp old new key part → HoldAt at (take (i + 1) keys) new
   one_put old new part here held puts asked =
       puts asked ∙ ap (cond (eq_by_cmp key_cmp asked key) (Some part)) (held asked)
-      ∙ put_or_none (list_any (eq_by_cmp key_cmp asked) (take i keys)) (eq_by_cmp key_cmp asked key) (Some part) (at asked) (λ t. sym here ∙ ap at (sym (one_key asked key t)))
+      ∙ put_or_none (list_any (eq_by_cmp key_cmp asked) (take i keys)) (eq_by_cmp key_cmp asked key) (Some part) (at asked) (λ t. sym here ∙ ap at (sym (tells_apart key_exact asked key t)))
       ∙ ap (λ b. cond b (at asked) None) (sym (among asked))
 
   none_or_none : (was tied : Bool) (there : Option Component) → (tied ≡ true → there ≡ None) → cond was there None ≡ cond (was || tied) there None
@@ -52,7 +54,7 @@ module _ (at : Key → Option Component) (keys : List Key) (i : ℕ) (key : Key)
   pub none_put : (old : List (Key × Component)) → at key ≡ None → HoldAt at (take i keys) old → HoldAt at (take (i + 1) keys) old
   none_put old here held asked =
       held asked
-      ∙ none_or_none (list_any (eq_by_cmp key_cmp asked) (take i keys)) (eq_by_cmp key_cmp asked key) (at asked) (λ t. ap at (one_key asked key t) ∙ here)
+      ∙ none_or_none (list_any (eq_by_cmp key_cmp asked) (take i keys)) (eq_by_cmp key_cmp asked key) (at asked) (λ t. ap at (tells_apart key_exact asked key t) ∙ here)
       ∙ ap (λ b. cond b (at asked) None) (sym (among asked))
 
 -- what is no component is none
@@ -68,7 +70,7 @@ among_all library doc chosen all ordered key choice either same =
     let stands = any_stands (eq_by_cmp key_cmp key) ordered in (
       λ t.
           let s = stands.0 t in
-          let there : StandsIn all key = subst (StandsIn all) (sym (one_key key s.0 s.2)) ((same s.0).0 s.1) in
+          let there : StandsIn all key = subst (StandsIn all) (sym (tells_apart key_exact key s.0 s.2)) ((same s.0).0 s.1) in
           ⊎_elim (λ c. inl (choice.0 c)) (λ k. inr k) (either.0 there),
       λ h. stands.1 (key, (same key).1 (either.1 (⊎_elim (λ c. inl (choice.1 c)) (λ k. inr k) h)), key_itself key key refl),
     )

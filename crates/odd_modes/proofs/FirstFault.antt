@@ -1,11 +1,10 @@
 -- The first of the faults of items, one item after another.
-use Rattle.std.proofs.Common.{◌≡◌, ◌⊎◌, ◌≤◌, ◌<◌, ◌+◌, ℕ, length, get_or, take, List, [], ◌∷◌, ◌++◌, Option, Some, None, inl, inr, ⊎_elim, refl, sym, subst, ◌∙◌, arith}
+use Rattle.std.proofs.Common.{◌≡◌, ◌⊎◌, ◌≤◌, ◌<◌, ◌+◌, ℕ, length, get_or, take, List, [], ◌∷◌, ◌++◌, Option, Some, None, inl, inr, ⊎_elim, refl, sym, subst, ◌∙◌}
 use Rattle.std.proofs.lemmas.List.{take_all}
 use Rattle.odd_reader.specs.Elements.{StandsIn}
 use Rattle.odd_reader.proofs.InList.{StandsOnce, ends, nothing_stands, once_push}
 use Rattle.odd_forms.specs.Least.{IsLeast}
 use Rattle.odd_decls.specs.Odd.{place_of}
-use Rattle.odd_decls.specs.Offences.{IsNotAfter}
 use Rattle.odd_decls.specs.declared.fault.Fault.{Fault}
 use Rattle.odd_decls.specs.declared.odd.Entry.{Entry}
 use Rattle.odd_decls.specs.declared.odd.OddDoc.{OddDoc}
@@ -13,21 +12,15 @@ use Rattle.odd_modes.specs.Index.{IsEarlierOf, IsFirst, fault_of}
 use Rattle.odd_modes.specs.Offences.{ItemFault, OffendsAt, ReferenceFault, SpecFault}
 use Rattle.odd_modes.specs.Offences as offences
 use Rattle.odd_decls.specs.declared.library.Library.{Library}
+use Rattle.odd_decls.proofs.OffenceOrder.{not_after_through}
 
 -- faults that are the same have the same first
 pub first_same : (P Q : ℕ → ℕ → Type 0) (o : Option Fault) → ((place rule : ℕ) → P place rule → Q place rule) → ((place rule : ℕ) → Q place rule → P place rule) → IsFirst P o → IsFirst Q o
 first_same P Q None into back h = λ place rule q. h place rule (back place rule q)
 first_same P Q (Some fault) into back h = record { is_one = into fault.at fault.rule h.is_one; first = λ place rule q. h.first place rule (back place rule q) }
 
--- what is not before one is not before another that is not before it
-through : (place rule between between_rule other others_rule : ℕ) → IsNotAfter place rule between between_rule → IsNotAfter between between_rule other others_rule → IsNotAfter place rule other others_rule
-through place rule between between_rule other others_rule (inl h) (inl k) = inl (omega arith)
-through place rule between between_rule other others_rule (inl h) (inr k) = inl (omega (arith, k.0))
-through place rule between between_rule other others_rule (inr h) (inl k) = inl (omega (arith, h.0))
-through place rule between between_rule other others_rule (inr h) (inr k) = inr (h.0 ∙ k.0, omega (arith, h.1, k.1))
-
 -- the first of faults of two kinds is the earlier of the first of each
-pub first_or : (P Q : ℕ → ℕ → Type 0) (a b c : Option Fault) → IsFirst P a → IsFirst Q b → IsEarlierOf a b c → IsFirst (λ place rule. P place rule ⊎ Q place rule) c
+first_or : (P Q : ℕ → ℕ → Type 0) (a b c : Option Fault) → IsFirst P a → IsFirst Q b → IsEarlierOf a b c → IsFirst (λ place rule. P place rule ⊎ Q place rule) c
 first_or P Q None b c h k e =
     first_same Q (λ place rule. P place rule ⊎ Q place rule) c (λ place rule q. inr q) (λ place rule f. ⊎_elim (λ p. absurd (h place rule p)) (λ q. q) f) (subst (IsFirst Q) (sym e) k)
 first_or P Q (Some one) None c h k e =
@@ -36,8 +29,8 @@ first_or P Q (Some one) (Some other) None h k e = absurd e
 first_or P Q (Some one) (Some other) (Some fault) h k e = record {
   is_one = ⊎_elim (λ s. inl (subst (λ f. P f.at f.rule) (sym s) h.is_one)) (λ s. inr (subst (λ f. Q f.at f.rule) (sym s) k.is_one)) e.0;
   first = λ place rule f.
-      ⊎_elim (λ p. through fault.at fault.rule one.at one.rule place rule e.1 (h.first place rule p))
-      (λ q. through fault.at fault.rule other.at other.rule place rule e.2 (k.first place rule q)) f;
+      ⊎_elim (λ p. not_after_through fault.at fault.rule one.at one.rule place rule e.1 (h.first place rule p))
+      (λ q. not_after_through fault.at fault.rule other.at other.rule place rule e.2 (k.first place rule q)) f;
 }
 
 -- one of the items has such a fault, at the place where it begins

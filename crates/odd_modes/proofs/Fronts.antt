@@ -1,5 +1,5 @@
 -- Keys beside their fronts tie where they are one key, and stand where the keys stand.
-use Rattle.std.proofs.Common.{◌≡◌, ◌↔◌, false, List, [], ◌∷◌, map, refl, sym, ap, subst, ⊎_elim, ◌∙◌}
+use Rattle.std.proofs.Common.{◌≡◌, ◌↔◌, false, List, [], map, refl, sym, ap, subst, ⊎_elim, ◌∙◌}
 use Rattle.std.proofs.lemmas.Cmp.{nat_cmp_total}
 use Rattle.std.specs.Cmp.{tied_itself}
 use Rattle.std.specs.Ordering.{eq_by_cmp, is_eq, nat_cmp, ordering_then}
@@ -9,10 +9,10 @@ use Rattle.odd_base.specs.Key.{key_cmp, kind_rank}
 use Rattle.odd_base.specs.KeyOrder.{key_exact}
 use Rattle.odd_base.specs.declared.key.Key.{Key}
 use Rattle.odd_reader.specs.Elements.{StandsIn}
-use Rattle.odd_reader.proofs.InList.{first_or_later, nothing_stands, stands_first, stands_later}
 use Rattle.odd_forms.specs.Sorted.{IsSet}
 use Rattle.odd_modes.specs.Fronts.{front_of, fronted, fronted_cmp, unfronted}
 use Rattle.odd_modes.specs.declared.fronted.FrontedKey.{FrontedKey}
+use Rattle.odd_reader.proofs.InList.{map_stands, stands_map}
 
 -- what comes after decides no tie that is not there
 no_tie : (r s : Ordering) → is_eq s ≡ false → is_eq (ordering_then r s) ≡ false
@@ -39,24 +39,12 @@ fronted_ties a b = by_order (key_cmp a b) refl
         λ i. is_eq (ordering_then (ranks i) (ordering_then (fronts i) Equal))
     by_order Greater e = untied a b Greater refl
 
--- what stands in a list stands as a value in the list of the values
-stands_mapped : {A B : Type 0} (f : A → B) (xs : List A) (x : A) → StandsIn xs x → StandsIn (map f xs) (f x)
-stands_mapped f [] x s = absurd (nothing_stands x s)
-stands_mapped f (y ∷ xs) x s =
-    ⊎_elim (λ e. subst (StandsIn (map f (y ∷ xs))) (ap f (sym e)) (stands_first (f y) (map f xs))) (λ t. stands_later (f y) (f x) (map f xs) (stands_mapped f xs x t)) (first_or_later y x xs s)
-
--- and what stands there is the value of what stands in the list
-mapped_stands : {A B : Type 0} (f : A → B) (xs : List A) (y : B) → StandsIn (map f xs) y → (x : A) × StandsIn xs x × (y ≡ f x)
-mapped_stands f [] y s = absurd (nothing_stands y s)
-mapped_stands f (x ∷ xs) y s =
-    ⊎_elim (λ e. (x, stands_first x xs, e)) (λ t. let from = mapped_stands f xs y t in (from.0, stands_later x from.0 xs from.1, from.2)) (first_or_later (f x) y (map f xs) s)
-
 -- the keys of the set of the rows are the keys
 pub in_order_stands : (keys made : List Key) (rows : List FrontedKey) → IsSet fronted_cmp (StandsIn (map fronted keys)) rows → made ≡ map unfronted rows → (key : Key) → StandsIn made key ↔ StandsIn keys key
 in_order_stands keys made rows set is key = (
   λ s.
-      let row = mapped_stands unfronted rows key (subst (λ ks. StandsIn ks key) is s) in
-      let from = mapped_stands fronted keys row.0 (set.none_else row.0 row.1) in
+      let row = stands_map unfronted rows key (subst (λ ks. StandsIn ks key) is s) in
+      let from = stands_map fronted keys row.0 (set.none_else row.0 row.1) in
       subst (StandsIn keys) (sym (row.2 ∙ ap unfronted from.2)) from.1,
-  λ s. subst (λ ks. StandsIn ks key) (sym is) (stands_mapped unfronted rows (fronted key) (set.each (fronted key) (stands_mapped fronted keys key s))),
+  λ s. subst (λ ks. StandsIn ks key) (sym is) (map_stands unfronted rows (fronted key) (set.each (fronted key) (map_stands fronted keys key s))),
 )

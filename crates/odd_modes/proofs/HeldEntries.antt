@@ -1,21 +1,17 @@
 -- What a library holds at a key, and the entries of its parts.
-use Rattle.std.proofs.Common.{◌≡◌, ◌↔◌, ◌⊎◌, ℕ, ◌+◌, ◌<◌, Bool, true, false, cond, List, [], ◌∷◌, ◌++◌, length, get_or, take, Some, inl, inr, ⊎_elim, refl, sym, ap, subst, ◌∙◌}
+use Rattle.std.proofs.Common.{◌≡◌, ◌↔◌, ◌⊎◌, ℕ, ◌+◌, ◌<◌, Bool, true, false, List, [], ◌∷◌, ◌++◌, length, get_or, take, Some, inl, inr, ⊎_elim, refl, sym, ap, subst, ◌∙◌}
 use Rattle.std.specs.Prelude.{IsTrue}
-use Rattle.std.specs.Cmp.{Equal-is, tied_itself}
+use Rattle.std.specs.Cmp.{tied_itself}
 use Rattle.std.specs.FinMap.{find, is_sorted}
-use Rattle.std.specs.Map.{lookup}
-use Rattle.std.specs.Ordering.{eq_by_cmp}
 use Rattle.std.specs.declared.cmp.Ordering.TheVariants.{Less}
-use Rattle.std.proofs.lemmas.Cmp.{eq_by_cmp_equiv}
 use Rattle.std.proofs.lemmas.Bool.{both_ways}
 use Rattle.std.proofs.lemmas.List.{get_or_default}
 use Rattle.std.proofs.lemmas.Option.{same_Some}
-use Rattle.std.proofs.lemmas.Map.Views.{Contains-from_lookup}
 use Rattle.odd_base.specs.Key.{key_cmp}
 use Rattle.odd_base.specs.KeyOrder.{key_exact, key_total}
 use Rattle.odd_base.specs.Map.{IsAfter}
 use Rattle.odd_base.specs.declared.key.Key.{Key}
-use Rattle.odd_base.proofs.Entries.{as_T, find_at, rising}
+use Rattle.odd_base.proofs.Entries.{as_T, find_at, found_contained, rising}
 use Rattle.odd_reader.specs.Elements.{StandsIn}
 use Rattle.odd_reader.proofs.InList.{StandsOnce, contained, ends, once_push, standing, stands_push}
 use Rattle.odd_forms.specs.Sorted.{IsSet}
@@ -27,21 +23,9 @@ use Rattle.odd_modes.specs.Choosing.{IsChosen, is_referred}
 use Rattle.odd_modes.specs.Index.{AreReferencesOf, is_listed}
 use Rattle.odd_modes.specs.declared.references.References.{References}
 
--- keys that tie are one key
-pub one_key : (a b : Key) → eq_by_cmp key_cmp a b ≡ true → a ≡ b
-one_key a b h = key_exact a b ((Equal-is (key_cmp a b)).0 h)
-
--- and a key ties with itself
-pub key_itself : (a b : Key) → a ≡ b → eq_by_cmp key_cmp a b ≡ true
-key_itself a b e = ap (eq_by_cmp key_cmp a) (sym e) ∙ (eq_by_cmp_equiv key_total).refl a
-
 -- what is found at a key is the value of an entry there
-found_looked_up : (key : Key) (es : List (Key × Component)) → find key_cmp key es ≡ lookup (eq_by_cmp key_cmp key) es
-found_looked_up key [] = refl
-found_looked_up key (e ∷ es) = ap (cond (eq_by_cmp key_cmp key e.0) (Some e.1)) (found_looked_up key es)
-
 pub held_stands : (key : Key) (part : Component) (es : List (Key × Component)) → find key_cmp key es ≡ Some part → StandsIn es (key, part)
-held_stands key part es h = standing es (key, part) (Contains-from_lookup one_key key part es (sym (found_looked_up key es) ∙ h))
+held_stands key part es h = standing es (key, part) (found_contained key_cmp key_total key_exact key part es h)
 
 -- and an entry's value is found at its key
 pub stands_held : (e : Key × Component) (es : List (Key × Component)) → IsTrue (is_sorted key_cmp es) → StandsIn es e → find key_cmp e.0 es ≡ Some e.1

@@ -26,7 +26,7 @@ use Rattle.odd_decls.specs.declared.spec.Mode.TheVariants as mode
 use Rattle.odd_decls.specs.declared.spec.Spec.{Spec}
 use Rattle.odd_modes.specs.Choosing.{IsChosen}
 use Rattle.odd_modes.specs.Index.{is_of_module}
-use Rattle.odd_modes.specs.Offences.{GivesAnotherType, IsAbsent, IsOfModule, ReferenceFault, SpecFault, words_in}
+use Rattle.odd_modes.specs.Offences.{GivesAnotherType, IsOfModule, ReferenceFault, SpecFault, words_in}
 use Rattle.odd_modes.specs.Offences as offences
 use Rattle.odd_modes.proofs.HeldEntries.{held_stands, stands_held}
 
@@ -59,9 +59,6 @@ pub module_held : (library : Library) (at : ℕ) (name : List ℕ) (p : Pick) (o
     → IsLeast (ReferenceFault library (entry.Module at name p)) (if other then Some 8 else None)
 module_held library at name p other some e = least_if (ReferenceFault library (entry.Module at name p)) other 8 into back
   where
-    is_other : List ℕ → Bool
-    is_other word = not (is_of_module (find key_cmp (element_key word) library.parts) name)
-
     into : other ≡ true → ReferenceFault library (entry.Module at name p) 8
     into t =
         let s = (any_stands (λ word. not (is_of_module (find key_cmp (element_key word) library.parts) name)) (words_in p)).0 (sym e ∙ t) in
@@ -86,10 +83,6 @@ taken_held library at key absent e = least_if (ReferenceFault library (entry.Tak
 
     back : (rule : ℕ) → ReferenceFault library (entry.Take at key) rule → (absent ≡ true) × (rule ≡ 6)
     back rule (offences.not_held none) = (true_from_ne_false absent (λ f. both_ways _ (ap is_some none) (e ∙ ap not f)), refl)
-
--- a declaration breaks nothing as a reference
-pub spec_no_reference : (library : Library) (at : ℕ) (spec : Spec) (rule : ℕ) → ReferenceFault library (entry.Spec at spec) rule → ⊥
-spec_no_reference library at spec rule f = elim f [ ]
 
 -- a declaration that adds
 pub spec_added : (library : Library) (doc : OddDoc) (at : ℕ) (spec : Spec) (chosen : Bool) → spec.mode ≡ mode.Add → IsTrue chosen ↔ IsChosen library doc spec.key
@@ -120,13 +113,6 @@ spec_changed library doc at spec another changes chosen told = least_if (SpecFau
     back rule (offences.chosen m is) = let both : mode.Change ≡ mode.Add = sym changes ∙ m in cc
     back rule (offences.not_chosen m none) = absurd (none chosen)
     back rule (offences.another_type m is other) = (told.1 other, refl)
-
--- and one that deletes or replaces it
-pub spec_sound : (library : Library) (doc : OddDoc) (at : ℕ) (spec : Spec) → spec.mode ≢ mode.Add → spec.mode ≢ mode.Change → IsChosen library doc spec.key
-    → IsLeast (SpecFault library doc (entry.Spec at spec)) None
-spec_sound library doc at spec no_add no_change chosen rule (offences.chosen m is) = no_add m
-spec_sound library doc at spec no_add no_change chosen rule (offences.not_chosen m none) = none chosen
-spec_sound library doc at spec no_add no_change chosen rule (offences.another_type m is other) = no_change m
 
 -- what is lent of a component that is held
 pub copied_held : (lent : Option (Bor Component)) → is_some (option_copied lent) ≡ is_some lent

@@ -3,35 +3,37 @@ use Rattle.std.proofs.Common.{◌≡◌, ◌↔◌, ◌⊎◌, ℕ, ◌+◌, ◌
 use Rattle.std.specs.Prelude.{IsSome}
 use Rattle.std.specs.Borrow.{Bor}
 use Rattle.std.specs.Ordering.{eq_by_cmp}
-use Rattle.std.specs.Option.{option_copied}
+use Rattle.std.specs.Option.{option_copied, option_or}
 use Rattle.std.proofs.lemmas.Cmp.{eq_by_cmp_equiv}
 use Rattle.odd_base.specs.Key.{key_cmp}
-use Rattle.odd_base.specs.KeyOrder.{key_total}
+use Rattle.odd_base.specs.KeyOrder.{key_exact, key_total}
 use Rattle.odd_base.specs.declared.key.Key.{Key}
 use Rattle.odd_reader.specs.Elements.{StandsIn}
 use Rattle.odd_reader.proofs.InList.{ends, stands_first, stands_later}
 use Rattle.odd_decls.specs.declared.odd.Entry.{Entry}
 use Rattle.odd_decls.specs.declared.odd.Entry.TheVariants as entry
 use Rattle.odd_decls.specs.declared.spec.Spec.{Spec}
-use Rattle.odd_modes.specs.After.{last_of, spec_at, spec_in}
+use Rattle.odd_modes.specs.After.{spec_at, spec_in}
 use Rattle.odd_modes.specs.Index.{IsKeyOfSpec}
 use Rattle.odd_modes.specs.Fronts.{fronted, fronted_cmp}
 use Rattle.odd_modes.specs.declared.fronted.FrontedKey.{FrontedKey}
 use Rattle.odd_modes.proofs.Fronts.{fronted_ties}
-use Rattle.odd_modes.proofs.HeldEntries.{key_itself, one_key, put_key}
+use Rattle.odd_modes.proofs.HeldEntries.{put_key}
+use Rattle.std.proofs.lemmas.Map.Views.{tells_apart}
+use Rattle.odd_decls.proofs.Repeats.{key_itself}
 
-last_alone : (o : Option Spec) → o ≡ last_of o None
+last_alone : (o : Option Spec) → o ≡ option_or o None
 last_alone None = refl
 last_alone (Some spec) = refl
 
-last_through : (a b c : Option Spec) → last_of (last_of a b) c ≡ last_of a (last_of b c)
+last_through : (a b c : Option Spec) → option_or (option_or a b) c ≡ option_or a (option_or b c)
 last_through None b c = refl
 last_through (Some spec) b c = refl
 
 -- with one item more its declaration is the last
-pub spec_more : (items : List Entry) (e : Entry) (key : Key) → spec_at (items ++ e ∷ []) key ≡ last_of (spec_in e key) (spec_at items key)
+spec_more : (items : List Entry) (e : Entry) (key : Key) → spec_at (items ++ e ∷ []) key ≡ option_or (spec_in e key) (spec_at items key)
 spec_more [] e key = last_alone (spec_in e key)
-spec_more (x ∷ items) e key = ap (λ o. last_of o (spec_in x key)) (spec_more items e key) ∙ last_through (spec_in e key) (spec_at items key) (spec_in x key)
+spec_more (x ∷ items) e key = ap (λ o. option_or o (spec_in x key)) (spec_more items e key) ∙ last_through (spec_in e key) (spec_at items key) (spec_in x key)
 
 -- an item that is none has none
 pub no_spec : (e : Entry) (key : Key) → ((at : ℕ) (spec : Spec) → e ≡ entry.Spec at spec → ⊥) → spec_in e key ≡ None
@@ -40,7 +42,7 @@ no_spec (entry.Take at taken) key none = refl
 no_spec (entry.Spec at spec) key none = absurd (none at spec refl)
 
 -- the file has a declaration for a key where it had one, or where the item is one
-either_spec : (a b : Option Spec) → IsSome (last_of a b) ↔ (IsSome b ⊎ IsSome a)
+either_spec : (a b : Option Spec) → IsSome (option_or a b) ↔ (IsSome b ⊎ IsSome a)
 either_spec None b = (λ h. inl h, λ h. ⊎_elim (λ k. k) (λ k. cc) h)
 either_spec (Some spec) b = (λ h. inr h, λ h. refl)
 
@@ -48,26 +50,26 @@ key_in : (at : ℕ) (spec : Spec) (key : Key) → IsSome (spec_in (entry.Spec at
 key_in at spec key = by_key (eq_by_cmp key_cmp key spec.key) refl
   where
     by_key : (b : Bool) → eq_by_cmp key_cmp key spec.key ≡ b → IsSome (if b then Some spec else None) ↔ (spec.key ≡ key)
-    by_key true e = (λ h. sym (one_key key spec.key e), λ h. refl)
+    by_key true e = (λ h. sym (tells_apart key_exact key spec.key e), λ h. refl)
     by_key false e = (λ h. cc, λ h. sym e ∙ key_itself key spec.key (sym h))
 
 -- the declarations and their keys so far, with one item more
 module _ (items : List Entry) (i : ℕ) (e : Entry) (within : i < length items) (is : e ≡ get_or items i e) (key : Key) where
-  one_more : spec_at (take (i + 1) items) key ≡ last_of (spec_in e key) (spec_at (take i items) key)
+  one_more : spec_at (take (i + 1) items) key ≡ option_or (spec_in e key) (spec_at (take i items) key)
   one_more = ap (λ es. spec_at es key) (ends items i e within is) ∙ spec_more (take i items) e key
 
   -- a map of declarations has one more
-  pub spec_put : (at : ℕ) (spec : Spec) (more : Bor Spec) (old : Option (Bor Spec)) (added : Key) → e ≡ entry.Spec at spec → added ≡ spec.key → more.now ≡ spec
+  spec_put : (at : ℕ) (spec : Spec) (more : Bor Spec) (old : Option (Bor Spec)) (added : Key) → e ≡ entry.Spec at spec → added ≡ spec.key → more.now ≡ spec
       → option_copied old ≡ spec_at (take i items) key → option_copied (cond (eq_by_cmp key_cmp added key) (Some more) old) ≡ spec_at (take (i + 1) items) key
   spec_put at spec more old added one same value so_far =
       ap (λ k. option_copied (cond (eq_by_cmp key_cmp k key) (Some more) old)) same
       ∙ ap (λ b. option_copied (cond b (Some more) old)) ((eq_by_cmp_equiv key_total).symm spec.key key)
       ∙ by_key (eq_by_cmp key_cmp key spec.key)
-      ∙ ap (last_of (spec_in (entry.Spec at spec) key)) so_far
-      ∙ ap (λ x. last_of (spec_in x key) (spec_at (take i items) key)) (sym one)
+      ∙ ap (option_or (spec_in (entry.Spec at spec) key)) so_far
+      ∙ ap (λ x. option_or (spec_in x key) (spec_at (take i items) key)) (sym one)
       ∙ sym one_more
     where
-      by_key : (b : Bool) → option_copied (cond b (Some more) old) ≡ last_of (if b then Some spec else None) (option_copied old)
+      by_key : (b : Bool) → option_copied (cond b (Some more) old) ≡ option_or (if b then Some spec else None) (option_copied old)
       by_key true = ap Some value
       by_key false = refl
 
@@ -81,7 +83,7 @@ module _ (items : List Entry) (i : ℕ) (e : Entry) (within : i < length items) 
 
   -- the item is none
   pub spec_passed : spec_in e key ≡ None → spec_at (take i items) key ≡ spec_at (take (i + 1) items) key
-  spec_passed none = sym (one_more ∙ ap (λ o. last_of o (spec_at (take i items) key)) none)
+  spec_passed none = sym (one_more ∙ ap (λ o. option_or o (spec_at (take i items) key)) none)
 
   -- a list of keys has one more
   pub key_put : (P : Type 0) (keys new : List Key) (at : ℕ) (spec : Spec) (added : Key) → e ≡ entry.Spec at spec → added ≡ spec.key → new ≡ keys ++ added ∷ []
@@ -113,7 +115,7 @@ declares_first (entry.Spec at one) items key spec h = by_key (eq_by_cmp key_cmp 
     by_key : (b : Bool) → eq_by_cmp key_cmp key one.key ≡ b → (if b then Some one else None) ≡ Some spec → Declares (entry.Spec at one ∷ items) key spec
     by_key true t h =
         let same : one ≡ spec = cc in
-        (at, subst (λ s. StandsIn (entry.Spec at one ∷ items) (entry.Spec at s)) same (stands_first (entry.Spec at one) items), sym (ap (λ (s : Spec). s.key) same) ∙ sym (one_key key one.key t))
+        (at, subst (λ s. StandsIn (entry.Spec at one ∷ items) (entry.Spec at s)) same (stands_first (entry.Spec at one) items), sym (ap (λ (s : Spec). s.key) same) ∙ sym (tells_apart key_exact key one.key t))
     by_key false t h = cc
 
 -- the file's declaration for a key is one of its items
@@ -121,6 +123,6 @@ pub spec_stands : (items : List Entry) (key : Key) (spec : Spec) → spec_at ite
 spec_stands [] key spec e = cc
 spec_stands (x ∷ items) key spec e = by_rest (spec_at items key) e (spec_stands items key spec)
   where
-    by_rest : (later : Option Spec) → last_of later (spec_in x key) ≡ Some spec → (later ≡ Some spec → Declares items key spec) → Declares (x ∷ items) key spec
+    by_rest : (later : Option Spec) → option_or later (spec_in x key) ≡ Some spec → (later ≡ Some spec → Declares items key spec) → Declares (x ∷ items) key spec
     by_rest None h rest = declares_first x items key spec h
     by_rest (Some one) h rest = let s = rest h in (s.0, stands_later x (entry.Spec s.0 spec) items s.1, s.2)

@@ -1,7 +1,7 @@
 -- The library after the files of a chain.
 use Rattle.std.specs.Prelude.{◌≡◌, ℕ, List, [], ◌∷◌, reverse, Option, Some, None, if◌then◌else◌, codes, unwrap_or, IsTrue}
 use Rattle.std.specs.FinMap.{find, is_sorted}
-use Rattle.std.specs.Option.{option_map}
+use Rattle.std.specs.Option.{option_map, option_or}
 use Rattle.std.specs.Ordering.{eq_by_cmp}
 use Rattle.odd_base.specs.Key.{key_cmp}
 use Rattle.odd_base.specs.declared.key.Key.{Key}
@@ -21,7 +21,7 @@ use Rattle.odd_decls.specs.declared.spec.Mode.TheVariants as mode
 use Rattle.odd_decls.specs.declared.spec.Spec.{Spec}
 use Rattle.odd_modes.specs.Choosing.{is_referred}
 
--- a spec laid over a component: its module stays, and what the spec gives is put in place of what was there
+-- a spec laid over a component: its module stays, as does the type of a class, and what else the spec gives is put in place of what was there
 abbrev pub element_laid_over : ElementPart → Spec → ElementPart
 element_laid_over part spec = record {
   «module» = part.«module»;
@@ -31,7 +31,7 @@ element_laid_over part spec = record {
 }
 
 abbrev pub class_laid_over : ClassPart → Spec → ClassPart
-class_laid_over part spec = record { «module» = part.«module»; gives = unwrap_or spec.gives part.gives; classes = classes_over spec.classes part.classes }
+class_laid_over part spec = record { «module» = part.«module»; gives = part.gives; classes = classes_over spec.classes part.classes }
 
 abbrev pub other_laid_over : OtherPart → Spec → OtherPart
 other_laid_over part spec = record { «module» = part.«module»; content = unwrap_or spec.content part.content }
@@ -55,15 +55,10 @@ spec_in (entry.Module at name p) key = None
 spec_in (entry.Take at taken) key = None
 spec_in (entry.Spec at spec) key = if eq_by_cmp key_cmp key spec.key then Some spec else None
 
--- the later of two, where there are two
-abbrev pub last_of : Option Spec → Option Spec → Option Spec
-last_of (Some later) earlier = Some later
-last_of None earlier = earlier
-
 -- a file's spec for the key: a file has one at most, and of several it were the last
 abbrev pub spec_at : List Entry → Key → Option Spec
 spec_at [] key = None
-spec_at (e ∷ rest) key = last_of (spec_at rest key) (spec_in e key)
+spec_at (e ∷ rest) key = option_or (spec_at rest key) (spec_in e key)
 
 -- what is held where the file has no spec: a component that it chooses
 abbrev pub kept : List Entry → Key → Option Component → Option Component

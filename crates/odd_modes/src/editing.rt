@@ -7,9 +7,9 @@ use odd_decls::{ClassPart, Component, ElementPart, OtherPart, Spec};
 use odd_members::classes_over;
 use std::alloc::Global;
 
-/// A component with a declaration that changes it laid over it: its module stays, and what the declaration gives is put in
-/// place of what was there; of memberships that are changed the others stay (docs/merging.md). The only error is
-/// NoMemory, for want of memory.
+/// A component with a declaration that changes it laid over it: its module stays, as does the type of a class, and what
+/// else the declaration gives is put in place of what was there; of memberships that are changed the others stay
+/// (docs/merging.md). The only error is NoMemory, for want of memory.
 pub fn edit(alloc: Global, part: Component, spec: &Spec) -> Result<Component, NoMemory>
     ensures { IfOk result (λ made. made ≡ laid_over part spec.now) }
 {
@@ -57,7 +57,7 @@ fn class_over(alloc: Global, part: ClassPart, spec: &Spec) -> Result<ClassPart, 
     let classes = classes_over(alloc, spec.classes.as_ref(), &classes)?;
     Ok(ClassPart {
         module,
-        gives: spec.gives.unwrap_or(gives),
+        gives,
         classes,
     })
 }

@@ -1,10 +1,9 @@
 ghost use Rattle.std.specs.Prelude.{◌≡◌, ◌↔◌, IfOk, map};
-ghost use Rattle.odd_base.specs.Key.{kind_rank};
 ghost use Rattle.odd_base.specs.declared.key.Key.{Key as AKey};
 ghost use Rattle.odd_reader.specs.Elements.{StandsIn};
 ghost use Rattle.odd_modes.specs.Fronts.{front_of, fronted, unfronted};
 
-use odd_base::{ExactOrd, Key, Keys, Kind, NoMemory, Seq, TryCopy};
+use odd_base::{ExactOrd, Key, Keys, NoMemory, Seq, TryCopy};
 use odd_forms::sorted;
 use std::alloc::Global;
 
@@ -30,22 +29,10 @@ impl FrontedKey {
         let front = front(key.ident.as_str());
         let key = key.copy(alloc)?;
         Ok(FrontedKey {
-            rank: rank(key.kind),
+            rank: key.kind.rank(),
             front,
             key,
         })
-    }
-}
-
-// The place of a kind in the order of keys, counted from 0.
-fn rank(kind: Kind) -> u8
-    ensures { result ≡ kind_rank kind }
-{
-    match kind {
-        Kind::Element => 0,
-        Kind::Class => 1,
-        Kind::Macro => 2,
-        Kind::Datatype => 3,
     }
 }
 
@@ -61,7 +48,7 @@ fn front(text: &str) -> u64
     u64::from_be_bytes(front)
 }
 
-/// The keys in rising order, each once. That they rise matters for time alone, and no clause says so.
+/// The keys in rising order, each once. That they rise and stand once matters for time alone, and no clause says so.
 pub fn in_order(alloc: Global, keys: &Keys) -> Result<Keys, NoMemory>
     ensures { IfOk result (λ made. (key : AKey) → StandsIn made key ↔ StandsIn keys.now key) }
 {

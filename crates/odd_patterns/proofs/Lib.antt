@@ -1,5 +1,6 @@
 pub mod Derivatives
 pub mod EmptyWord
+pub mod Examples
 pub mod Halves
 pub mod Lefts
 pub mod Pieces

@@ -35,6 +35,14 @@ element_shown n t is = ap (λ m. shown_elements (out-Node m)) is ∙ search (rul
 pub text_shown : (n : Node) (x : List ℕ) → n ≡ Text x → shown_elements (out-Node n) ≡ []
 text_shown n x is = ap (λ m. shown_elements (out-Node m)) is ∙ search (rules, N.the_lemmas)
 
+-- the elements among nodes that begin with an element
+pub with_element : (t : Tree) (nodes : List Node) → elements_of (Element t ∷ nodes) ≡ t ∷ elements_of nodes
+with_element t nodes = ap (λ ts. ts ++ elements_of nodes) (element_shown (Element t) t refl)
+
+-- and with a text
+pub with_text : (x : List ℕ) (nodes : List Node) → elements_of (Text x ∷ nodes) ≡ elements_of nodes
+with_text x nodes = ap (λ ts. ts ++ elements_of nodes) (text_shown (Text x) x refl)
+
 -- a text is passed over
 pub text_passed : (ns : List Node) (i : ℕ) (n : Node) (ts : List Tree) → i < length ns → n ≡ get_or ns i n → shown_elements (out-Node n) ≡ []
     → elements_of (take i ns) ≡ ts → elements_of (take (i + 1) ns) ≡ ts

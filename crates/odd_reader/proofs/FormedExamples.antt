@@ -1,5 +1,5 @@
 -- Small theorems on formed trees: one that is formed, and trees that are not.
-use Rattle.std.proofs.Common.{◌≡◌, ℕ, true, List, [], ◌∷◌, map, refl, sym, subst, ◌∙◌, arith, codes}
+use Rattle.std.proofs.Common.{◌≡◌, ℕ, List, [], ◌∷◌, map, refl, sym, subst, ◌∙◌, arith, codes}
 use Rattle.std.specs.Prelude.{All}
 use Rattle.std.proofs.lemmas.List.Elements.{All-nil, All-cons, All-head}
 use Rattle.odd_tokens.specs.Characters.{IsLegal, IsNCName}
@@ -10,7 +10,7 @@ use Rattle.odd_reader.specs.Names.{IsBinding, xml_namespace}
 use Rattle.odd_reader.specs.declared.tree.Attr.{Attr}
 use Rattle.odd_reader.specs.declared.tree.Node.{Node, Element, Text}
 use Rattle.odd_reader.specs.declared.tree.Tree.{Tree, out-Tree, roll-Tree}
-use Rattle.odd_tokens.proofs.Ascii.{is_ascii_name, ascii_name, ascii_ncname}
+use Rattle.odd_tokens.proofs.Ascii.{is_name}
 use Rattle.odd_tokens.proofs.Distinct.{none_twice}
 use Rattle.odd_tokens.proofs.Legal.{ascii_legal}
 
@@ -21,9 +21,6 @@ made at local attrs children = roll-Tree (record { name = record { ns = []; loca
 abbrev attribute : List ℕ → List ℕ → Attr
 attribute local value = record { name = record { ns = []; local = local }; value = value }
 
-name : (word : List ℕ) → is_ascii_name word ≡ true → IsNCName word
-name word h = (word, ascii_name word h, ascii_ncname word h)
-
 -- `<a n="1">x<b/></a>` from byte 0 on
 abbrev b_inside : Tree
 b_inside = made 11 (codes "b") [] []
@@ -33,7 +30,7 @@ small = made 0 (codes "a") (attribute (codes "n") (codes "1") ∷ []) (Text (cod
 
 b_tag : IsFormedTag b_inside
 b_tag = record {
-  named = name (codes "b") refl;
+  named = is_name (codes "b") refl;
   attributes_named = All-nil _;
   valued = All-nil _;
   once = none_twice [] tt;
@@ -47,8 +44,8 @@ b_tag = record {
 
 small_formed : IsFormed 0 19 small
 small_formed = element (omega arith) (record {
-  named = name (codes "a") refl;
-  attributes_named = All-cons (λ (a : Attr). IsNCName a.name.local) _ [] (name (codes "n") refl) (All-nil _);
+  named = is_name (codes "a") refl;
+  attributes_named = All-cons (λ (a : Attr). IsNCName a.name.local) _ [] (is_name (codes "n") refl) (All-nil _);
   valued = All-cons (λ (a : Attr). IsLegal a.value) _ [] (ascii_legal (codes "1") refl) (All-nil _);
   once = none_twice (record { ns = []; local = codes "n" } ∷ []) (tt, tt);
   bound = All-nil _;

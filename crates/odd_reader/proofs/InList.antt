@@ -1,5 +1,5 @@
 -- What stands in a list: its first, an item of the rest, an item around a place, and with one item more.
-use Rattle.std.proofs.Common.{◌≡◌, ◌↔◌, ℕ, ◌+◌, ◌<◌, List, [], ◌∷◌, ◌++◌, length, take, drop, get_or, ◌⊎◌, inl, inr, ⊎_elim, refl, sym, ap, subst, ◌∙◌, append_assoc, arith}
+use Rattle.std.proofs.Common.{◌≡◌, ◌↔◌, ℕ, ◌+◌, ◌<◌, List, [], ◌∷◌, ◌++◌, length, map, take, drop, get_or, ◌⊎◌, inl, inr, ⊎_elim, refl, sym, ap, subst, ◌∙◌, append_assoc, arith}
 use Rattle.std.proofs.lemmas.List.{drop_more, take-append-drop, take_more}
 use Rattle.std.proofs.lemmas.List.Elements.{Contains-append_right}
 use Rattle.std.specs.List.{Contains}
@@ -33,6 +33,23 @@ stands_later x y xs s = (x ∷ s.0, s.1, ap (λ ys. x ∷ ys) s.2)
 pub first_or_later : {A : Type 0} (x y : A) (xs : List A) → StandsIn (x ∷ xs) y → (y ≡ x) ⊎ StandsIn xs y
 first_or_later x y xs ([], after, e) = inl cc
 first_or_later x y xs (b ∷ before, after, e) = inr (before, after, cc)
+
+-- the only item is what stands in a list of one
+pub only_item : {A : Type 0} (x y : A) → StandsIn (x ∷ []) y → y ≡ x
+only_item x y s = ⊎_elim (λ e. e) (λ later. absurd (nothing_stands y later)) (first_or_later x y [] s)
+
+-- what stands in a list of images is the image of an item
+pub stands_map : {A B : Type 0} (f : A → B) (xs : List A) (y : B) → StandsIn (map f xs) y → (x : A) × StandsIn xs x × (y ≡ f x)
+stands_map f [] y s = absurd (nothing_stands y s)
+stands_map f (x ∷ xs) y s =
+    ⊎_elim (λ e. (x, stands_first x xs, e)) (λ later. let h = stands_map f xs y later in (h.0, stands_later x h.0 xs h.1, h.2)) (first_or_later (f x) y (map f xs) s)
+
+-- and the image of each item stands there
+pub map_stands : {A B : Type 0} (f : A → B) (xs : List A) (x : A) → StandsIn xs x → StandsIn (map f xs) (f x)
+map_stands f [] x s = absurd (nothing_stands x s)
+map_stands f (w ∷ xs) x s =
+    ⊎_elim (λ e. subst (λ v. StandsIn (map f (w ∷ xs)) (f v)) (sym e) (stands_first (f w) (map f xs))) (λ later. stands_later (f w) (f x) (map f xs) (map_stands f xs x later))
+    (first_or_later w x xs s)
 
 -- what stands in a list is one of its items
 pub contained : {A : Type 0} (xs : List A) (x : A) → StandsIn xs x → Contains xs x

@@ -24,6 +24,10 @@ use Rattle.odd_reader.proofs.Unprefixed.{not_same}
 pub same_from : (a b : List ℕ) → a ≡ b → is_same a b ≡ true
 same_from a b e = true_from_ne_false _ (λ h. other_text a b (sym h) e)
 
+-- texts that are told apart differ
+pub apart : {R : Type 0} (a b : List ℕ) → is_same a b ≡ false → a ≡ b → R
+apart a b h e = absurd (other_text a b (sym h) e)
+
 -- two encoded texts are one where the texts are
 pub encoded_same : (a b : List ℕ) → is_same (encode_utf8_all a) (encode_utf8_all b) ≡ is_same a b
 encoded_same a b =

@@ -7,7 +7,7 @@ use Rattle.std.specs.Prelude.{nat_lt}
 use Rattle.std.specs.List.{list_all}
 use Rattle.std.specs.Str.{encode_utf8_all}
 use Rattle.std.specs.Char.{to_ascii_lowercase}
-use Rattle.odd_tokens.specs.Characters.{is_within, is_name_start, is_name_char, is_ncname}
+use Rattle.odd_tokens.specs.Characters.{IsNCName, is_within, is_name_start, is_name_char, is_ncname}
 use Rattle.odd_tokens.proofs.Fronts.{all_weaker}
 
 -- a text of characters below 128 is its bytes
@@ -60,6 +60,10 @@ ascii_name name h = ascii_text is_ascii_name_char char_low name (name_chars name
 pub ascii_ncname : (name : List ℕ) → IsTrue (is_ascii_name name) → IsTrue (is_ncname name)
 ascii_ncname [] h = cc
 ascii_ncname (c ∷ cs) h = and_from _ _ (ascii_start c (and_parts _ _ h).0) (all_weaker is_ascii_name_char is_name_char ascii_char cs (and_parts _ _ h).1)
+
+-- a name of ASCII is an NCName
+pub is_name : (name : List ℕ) → is_ascii_name name ≡ true → IsNCName name
+is_name name h = (name, ascii_name name h, ascii_ncname name h)
 
 -- letters of any case
 

@@ -1,5 +1,5 @@
-//! The values of attributes and of data: XML Schema's datatypes with their facets, closed lists of values, and how often
-//! something may stand.
+//! The values of attributes and of data: XML Schema's datatypes with their facets, lists of values, and how often something
+//! may stand.
 #![tactic(auto)]
 
 pub mod bounds;

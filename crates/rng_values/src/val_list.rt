@@ -1,7 +1,7 @@
 use odd_base::{NoMemory, TryCopy, Words};
 use std::alloc::Global;
 
-/// Whether a list of values admits no others, suggests what else may stand, or only shows examples.
+/// Whether a list of values admits no others, suggests its values where others may stand too, or only shows examples.
 #[derive(Clone, Copy, Debug, PartialEq, Eq)]
 pub enum ListKind {
     Closed,

@@ -1,5 +1,5 @@
 use Rattle.std.proofs.Common.{Err, sym, ap, arith}
-use Rattle.odd_classes.proofs.TableMade.{are_members, no_more, too_many}
+use Rattle.odd_classes.proofs.TableMembers.{are_members, no_more, too_many}
 use Rattle.odd_classes.proofs.member_table.members_by_class.Goals as goal
 
 pub returns-in_err-lists-clause-more : goal.returns-in_err-lists-clause-more

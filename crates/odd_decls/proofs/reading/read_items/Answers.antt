@@ -2,7 +2,8 @@ use Rattle.std.proofs.Common.{None, Some, map, refl, sym, subst, ◌∙◌}
 use Rattle.odd_reader.specs.Elements.{all_binds}
 use Rattle.odd_decls.specs.Reading.{GivesEntry}
 use Rattle.odd_decls.proofs.ItemsRead.{item_broken, item_passed, no_items}
-use Rattle.odd_decls.proofs.Repeats.{least_after, none_alone}
+use Rattle.odd_members.proofs.MemberFaults.{first_none}
+use Rattle.odd_decls.proofs.Repeats.{least_after}
 use Rattle.odd_decls.proofs.reading.read_items.Goals as goal
 
 pub loop-item-init : goal.loop-item-init
@@ -15,7 +16,7 @@ loop-item-preserved c =
     let item = c.in-Some.item.now in
     let none = sym c.lesser.ensures ∙ c.in_default.is in
     let least = least_after around so_far.passed item _ _ _ c.in_ok-again.again c.in_ok-entry.ensures.fault (c.in_ok-again.ensures.again so_far.passed so_far.held) c.fault_where.ensures none in
-    let gives = subst (GivesEntry c.args.schema.now around item) c.in_default-entry.is (c.in_ok-entry.ensures.entry (none_alone _ _ none)) in
+    let gives = subst (GivesEntry c.args.schema.now around item) c.in_default-entry.is (c.in_ok-entry.ensures.entry (first_none _ _ none)) in
     item_passed c.args.schema.now around _ _ _ _ _ _ item None so_far c.in-Some.ensures.steps least (c.in_ok-again.ensures.keys so_far.passed so_far.held) gives refl
 
 pub loop-item-preserved-in-Continue-branch-3 : goal.loop-item-preserved-in-Continue-branch-3
@@ -25,7 +26,7 @@ loop-item-preserved-in-Continue-branch-3 c =
     let item = c.in-Some.item.now in
     let none = sym c.lesser.ensures ∙ c.in_default.is in
     let least = least_after around so_far.passed item _ _ _ c.in_ok-again.again c.in_ok-entry.ensures.fault (c.in_ok-again.ensures.again so_far.passed so_far.held) c.fault_where.ensures none in
-    let gives = subst (GivesEntry c.args.schema.now around item) c.in-Some-entry.is (c.in_ok-entry.ensures.entry (none_alone _ _ none)) in
+    let gives = subst (GivesEntry c.args.schema.now around item) c.in-Some-entry.is (c.in_ok-entry.ensures.entry (first_none _ _ none)) in
     item_passed c.args.schema.now around _ _ _ _ _ _ item (Some c.in-Some-entry.entry) so_far c.in-Some.ensures.steps least (c.in_ok-again.ensures.keys so_far.passed so_far.held) gives c.in_ok-push.ensures.ok
 
 pub returns-in-Some-lesser : goal.returns-in-Some-lesser

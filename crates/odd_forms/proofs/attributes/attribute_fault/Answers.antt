@@ -3,7 +3,7 @@ use Rattle.std.specs.Option.{option_copied}
 use Rattle.std.proofs.lemmas.Result.{IfOk-weaker}
 use Rattle.odd_reader.specs.Elements.{given}
 use Rattle.odd_forms.specs.Seen as seen
-use Rattle.odd_forms.proofs.Forms.{absent_least, given_least}
+use Rattle.odd_forms.proofs.Values.{absent_least, given_least}
 use Rattle.odd_forms.proofs.attributes.attribute_fault.Goals as goal
 
 pub returns-in-Some : goal.returns-in-Some

@@ -9,7 +9,8 @@ use Rattle.odd_reader.specs.Elements.{given}
 use Rattle.odd_forms.specs.Faults.{FormFault}
 use Rattle.odd_forms.specs.Least.{IsLeast}
 use Rattle.odd_members.specs.Members.{IsMemberOf, adds}
-use Rattle.odd_members.proofs.MembersRead.{some_copied, all_broken, all_marked, member_fault, named_passed, none_passed, other_passed, unnamed_passed}
+use Rattle.odd_members.proofs.MembersRead.{all_broken, all_marked, named_passed, none_passed, other_passed, some_copied, unnamed_passed}
+use Rattle.odd_members.proofs.MemberFaults.{member_fault}
 use Rattle.odd_members.proofs.reading.read_members.Goals as goal
 
 pub loop-child-init : goal.loop-child-init
