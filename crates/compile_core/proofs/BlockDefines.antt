@@ -18,10 +18,10 @@ use Rattle.odd_decls.specs.declared.library.Component.{Component}
 use Rattle.odd_decls.specs.declared.library.Library.{Library}
 use Rattle.odd_meaning.specs.Classes.{Members}
 use Rattle.rng_patterns.specs.declared.grammar.Define.{Define}
-use Rattle.compile_core.specs.Compiled.{IsDefineOf, define_cmp}
-use Rattle.compile_core.proofs.Collected.{collected_stands}
-use Rattle.compile_core.proofs.NamedDefines.{define_total}
-use Rattle.compile_core.proofs.RisingLists.{entries_rise, made_rise}
+use Rattle.compile_defines.specs.Compiled.{IsDefineOf, define_cmp}
+use Rattle.compile_defines.proofs.Collected.{collected_stands}
+use Rattle.compile_defines.proofs.NamedDefines.{define_total}
+use Rattle.compile_counts.proofs.RisingLists.{entries_rise, made_rise}
 
 -- nothing, or one item that is such
 pub data IsAtMostOne {A : Type 0} (Is : A → Type 0) (xs : List A) : Type 0 where

@@ -13,15 +13,15 @@ use Rattle.odd_decls.specs.declared.library.Library.{Library}
 use Rattle.odd_meaning.specs.Classes.{AreMembers, Members}
 use Rattle.odd_meaning.specs.Links.{class_key, macro_key}
 use Rattle.rng_patterns.specs.declared.grammar.Define.{Define}
-use Rattle.compile_core.specs.Blocks.{IsConditionDefine, class_defines, component_defines, element_defines, grammar_with, listed_defines, macro_defines}
-use Rattle.compile_core.specs.Compiled as compiled
-use Rattle.compile_core.specs.Compiled.{IsDefineOf, IsGrammarOf, class_define, define_cmp, element_define, macro_define}
-use Rattle.compile_core.specs.Conditions.{IsConditionOf, condition_cmp}
-use Rattle.compile_core.proofs.Collected.{each_of_both, stands_collected}
-use Rattle.compile_core.proofs.HeldParts.{entry_stands, listed_is}
+use Rattle.compile_defines.specs.Blocks.{IsConditionDefine, class_defines, component_defines, element_defines, grammar_with, listed_defines, macro_defines}
+use Rattle.compile_defines.specs.Compiled as compiled
+use Rattle.compile_defines.specs.Compiled.{IsDefineOf, IsGrammarOf, class_define, define_cmp, element_define, macro_define}
+use Rattle.compile_defines.specs.Conditions.{IsConditionOf, condition_cmp}
+use Rattle.compile_defines.proofs.Collected.{each_of_both, stands_collected}
+use Rattle.compile_defines.proofs.HeldParts.{entry_stands, listed_is}
 use Rattle.compile_core.proofs.KindBlocks.{classes_rise, classes_stand, elements_rise, elements_stand, macros_rise, macros_stand}
-use Rattle.compile_core.proofs.Letters.{IsFrom, IsUpTo, letter, letters_rise}
-use Rattle.compile_core.proofs.Standing.{stands_left, stands_right}
+use Rattle.compile_counts.proofs.Letters.{IsFrom, IsUpTo, letter, letters_rise}
+use Rattle.compile_defines.proofs.Standing.{stands_left, stands_right}
 
 module _ (library : Library) (conditions : List Condition) (members : Members) (before : List Define) (up : IsTrue (is_sorted key_cmp library.parts))
     (are_before : IsSet define_cmp (IsConditionDefine conditions) before) (are_members : AreMembers library members) where

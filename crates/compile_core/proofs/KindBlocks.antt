@@ -15,12 +15,12 @@ use Rattle.odd_decls.specs.declared.library.Component.TheVariants as component
 use Rattle.odd_decls.specs.declared.library.Library.{Library}
 use Rattle.odd_meaning.specs.Classes.{Members}
 use Rattle.rng_patterns.specs.declared.grammar.Define.{Define}
-use Rattle.compile_core.specs.Blocks.{class_defines, element_defines, listed_defines, macro_defines}
-use Rattle.compile_core.specs.Compiled as compiled
-use Rattle.compile_core.specs.Compiled.{class_define, define_cmp, element_define, macro_define}
-use Rattle.compile_core.specs.Contents.{class_name, define_name, macro_name}
+use Rattle.compile_defines.specs.Blocks.{class_defines, element_defines, listed_defines, macro_defines}
+use Rattle.compile_defines.specs.Compiled as compiled
+use Rattle.compile_defines.specs.Compiled.{class_define, define_cmp, element_define, macro_define}
+use Rattle.compile_defines.specs.Contents.{class_name, define_name, macro_name}
 use Rattle.compile_core.proofs.BlockDefines.{IsAtMostOne, IsBlockDefine, IsEntryDefine, block_rises, block_stands, none, one}
-use Rattle.compile_core.proofs.Standing.{found}
+use Rattle.compile_defines.proofs.Standing.{found}
 
 module _ (library : Library) (conditions : List Condition) (members : Members) (up : IsTrue (is_sorted key_cmp library.parts)) where
   -- the define of an entry of the kind

@@ -18,15 +18,15 @@ use Rattle.rng_patterns.specs.declared.grammar.Define.{Define}
 use Rattle.rng_patterns.specs.declared.grammar.Expr.TheVariants as expr
 use Rattle.rng_patterns.specs.declared.grammar.Grammar.{Grammar}
 use Rattle.std.specs.Prelude.{Some}
-use Rattle.compile_core.specs.Compiled as compiled
-use Rattle.compile_core.specs.Compiled.{IsDefineOf, class_define, condition_body, condition_define, content_throughout, define_cmp, element_define, macro_define, references_pattern}
-use Rattle.compile_core.specs.Contents.{class_name, condition_name, content_pattern, define_name, macro_name}
-use Rattle.compile_core.specs.Linking.{IsLinkedCount}
-use Rattle.compile_core.proofs.HeldParts.{listed_is}
-use Rattle.compile_core.proofs.Holds.{element_found}
+use Rattle.compile_defines.specs.Compiled as compiled
+use Rattle.compile_defines.specs.Compiled.{IsDefineOf, class_define, condition_body, condition_define, content_throughout, define_cmp, element_define, macro_define, references_pattern}
+use Rattle.compile_defines.specs.Contents.{class_name, condition_name, content_pattern, define_name, macro_name}
+use Rattle.compile_counts.specs.Linking.{IsLinkedCount}
+use Rattle.compile_defines.proofs.HeldParts.{listed_is}
+use Rattle.compile_defines.proofs.Holds.{element_found}
 use Rattle.compile_core.proofs.LinkedNames.{FoundIn}
-use Rattle.compile_core.proofs.NodeMeasure.{nodes_measure}
-use Rattle.compile_core.proofs.PlainDefines.{IsBodyOf, condition_body_is, element, nothing}
+use Rattle.compile_counts.proofs.NodeMeasure.{nodes_measure}
+use Rattle.compile_counts.proofs.PlainDefines.{IsBodyOf, condition_body_is, element, nothing}
 use Rattle.compile_core.proofs.ReferenceNodes.{element_reference, part_reference}
 
 module _ (library : Library) (conditions : List Condition) (members : Members) (g : Grammar) (are_members : AreMembers library members)

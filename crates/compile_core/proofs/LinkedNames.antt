@@ -16,7 +16,7 @@ use Rattle.rng_patterns.specs.declared.grammar.Body.{Body}
 use Rattle.rng_patterns.specs.declared.grammar.Define.{Define}
 use Rattle.rng_patterns.specs.declared.grammar.Expr.{Expr}
 use Rattle.rng_patterns.specs.declared.grammar.Grammar.{Grammar}
-use Rattle.compile_core.proofs.Standing.{held_stands, stands_either, stands_left, stands_right}
+use Rattle.compile_defines.proofs.Standing.{held_stands, stands_either, stands_left, stands_right}
 
 -- what is found at a name of a grammar
 abbrev pub FoundIn : Grammar → List ℕ → Body → Type 0

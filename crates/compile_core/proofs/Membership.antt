@@ -17,7 +17,7 @@ use Rattle.odd_meaning.specs.Classes.{IsMember}
 use Rattle.odd_meaning.specs.Links.{IsHeld, IsLinked, class_key, classes_of, memberships}
 use Rattle.odd_meaning.specs.Rules.{Breaks, own_member}
 use Rattle.compile_core.proofs.Deciding.{IsDecided, both_decided, either_decided, none_decided, once_decided, same_decided}
-use Rattle.compile_core.proofs.Standing.{held_stands}
+use Rattle.compile_defines.proofs.Standing.{held_stands}
 
 module _ (library : Library) where
   abbrev Step : Key → Key → Type 0

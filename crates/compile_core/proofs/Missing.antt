@@ -7,7 +7,8 @@ use Rattle.odd_base.specs.Text.{text_cmp}
 use Rattle.odd_decls.specs.declared.library.Library.{Library}
 use Rattle.odd_forms.proofs.OneSet.{not_below, turned}
 use Rattle.odd_reader.proofs.InList.{stands_push}
-use Rattle.compile_core.specs.Schema.{IsLeast, IsLeastMissing, IsMissing, lesser_of}
+use Rattle.compile_defines.specs.Compiled.{IsMissing}
+use Rattle.compile_core.specs.Schema.{IsLeast, IsLeastMissing, lesser_of}
 
 module _ (library : Library) (words : List (List ℕ)) (v : List ℕ) where
   -- a word that is held changes nothing

@@ -11,8 +11,8 @@ use Rattle.rng_patterns.specs.declared.grammar.Expr as E
 use Rattle.rng_patterns.specs.declared.grammar.Expr.TheOpen as shape
 use Rattle.rng_patterns.specs.declared.grammar.Expr.TheVariants as expr
 use Rattle.rng_patterns.specs.declared.grammar.Expr.{Expr, Expr-F, ind-Expr, map-Expr, roll-Expr}
-use Rattle.compile_core.proofs.NodeMeasure.{list_nodes, nodes_measure, ref_nodes}
-use Rattle.compile_core.proofs.Sums.{sum_by-map}
+use Rattle.compile_counts.proofs.NodeMeasure.{list_nodes, nodes_measure, ref_nodes}
+use Rattle.compile_counts.proofs.Sums.{sum_by-map}
 
 module _ (f h : List ℕ → ℕ) where
   abbrev Agree : Expr → Type 0

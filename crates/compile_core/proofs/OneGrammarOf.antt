@@ -8,10 +8,10 @@ use Rattle.odd_decls.specs.declared.library.Library.{Library}
 use Rattle.odd_meaning.specs.Classes.{AreMembers, IsElementOf, IsListed, Members}
 use Rattle.rng_patterns.specs.declared.grammar.Define.{Define}
 use Rattle.rng_patterns.specs.declared.grammar.Grammar.{Grammar}
-use Rattle.compile_core.specs.Compiled.{IsDefineOf, IsGrammarOf, define_cmp}
-use Rattle.compile_core.specs.ConditionOrder.{condition_total}
-use Rattle.compile_core.specs.Conditions.{IsConditionOf, condition_cmp}
-use Rattle.compile_core.proofs.NamedDefines.{define_total}
+use Rattle.compile_defines.specs.Compiled.{IsDefineOf, IsGrammarOf, define_cmp}
+use Rattle.compile_defines.specs.ConditionOrder.{condition_total}
+use Rattle.compile_defines.specs.Conditions.{IsConditionOf, condition_cmp}
+use Rattle.compile_defines.proofs.NamedDefines.{define_total}
 
 -- what is listed of a class is one
 one_listed : (library : Library) (class : List ℕ) (some other : Option (List (List ℕ))) → IsListed library class some → IsListed library class other → some ≡ other

@@ -24,19 +24,19 @@ use Rattle.rng_patterns.specs.declared.grammar.Expr.TheVariants as expr
 use Rattle.rng_patterns.specs.declared.grammar.Grammar.{Grammar}
 use Rattle.rng_emit.specs.Plain as plain_form
 use Rattle.rng_emit.specs.Plain.{IsPlain, IsPlainBody, IsPlainDefine, IsPlainPattern}
-use Rattle.compile_core.specs.Compiled as compiled
-use Rattle.compile_core.specs.Compiled.{IsDefineOf, IsGrammarOf, class_define, condition_body, element_define, macro_define}
-use Rattle.compile_core.specs.Conditions.{conditions_in, conditions_of}
-use Rattle.compile_core.specs.Contents.{condition_name}
-use Rattle.compile_core.specs.Schema.{HoldsStart, IsFormed, IsFormedCondition, IsFormedPart}
+use Rattle.compile_defines.specs.Compiled as compiled
+use Rattle.compile_defines.specs.Compiled.{HoldsStart, IsDefineOf, IsGrammarOf, class_define, condition_body, element_define, macro_define}
+use Rattle.compile_defines.specs.Conditions.{conditions_in, conditions_of}
+use Rattle.compile_defines.specs.Contents.{condition_name}
+use Rattle.compile_defines.specs.Formed.{IsFormed, IsFormedCondition, IsFormedPart}
 use Rattle.compile_core.proofs.Apart.{apart}
-use Rattle.compile_core.proofs.HeldParts.{listed_is}
-use Rattle.compile_core.proofs.PlainDefines.{IsBodyOf, condition_body_is, element, nothing}
+use Rattle.compile_defines.proofs.HeldParts.{listed_is}
+use Rattle.compile_counts.proofs.PlainDefines.{IsBodyOf, condition_body_is, element, nothing}
 use Rattle.compile_core.proofs.PlainLinked.{pattern_good, start_good}
 use Rattle.compile_core.proofs.PlainNames.{class_ncname, condition_ncname, define_ncname, macro_ncname}
 use Rattle.compile_core.proofs.PlainOrder.{rising_sorted}
 use Rattle.compile_core.proofs.PlainPatterns.{RefersOnly, plain_closed, refers_closed, refers_known}
-use Rattle.compile_core.proofs.Standing.{each_stands, found}
+use Rattle.compile_defines.proofs.Standing.{each_stands, found}
 
 -- a condition in a formed component is formed
 condition_formed : (k : Kind) (part : Component) (c : Condition) → IsFormedPart k part → StandsIn (conditions_of (content_of part)) c → IsFormedCondition c

@@ -18,16 +18,16 @@ use Rattle.rng_patterns.specs.declared.grammar.Body.{Body}
 use Rattle.rng_patterns.specs.declared.grammar.Define.{Define}
 use Rattle.rng_patterns.specs.declared.grammar.Expr.{Expr}
 use Rattle.rng_patterns.specs.declared.grammar.Expr.TheVariants as expr
-use Rattle.compile_core.specs.Compiled as compiled
-use Rattle.compile_core.specs.Compiled.{IsDefineOf, class_define, condition_body, condition_define, element_define, macro_define, references_pattern}
-use Rattle.compile_core.specs.Conditions.{IsConditionOf, condition_cmp, conditions_in, conditions_of}
-use Rattle.compile_core.specs.Contents.{condition_name, content_pattern, holds_element, reference}
-use Rattle.compile_core.specs.Schema.{HoldsStart, IsFormed}
+use Rattle.compile_defines.specs.Compiled as compiled
+use Rattle.compile_defines.specs.Compiled.{HoldsStart, IsDefineOf, class_define, condition_body, condition_define, element_define, macro_define, references_pattern}
+use Rattle.compile_defines.specs.Conditions.{IsConditionOf, condition_cmp, conditions_in, conditions_of}
+use Rattle.compile_defines.specs.Contents.{condition_name, content_pattern, holds_element, reference}
+use Rattle.compile_defines.specs.Formed.{IsFormed}
 use Rattle.compile_core.proofs.ClosedContents.{IsGoodFor, content_good}
-use Rattle.compile_core.proofs.ClosedPatterns.{IsClosed, references_good}
-use Rattle.compile_core.proofs.HeldParts.{entry_stands, listed_is}
-use Rattle.compile_core.proofs.Holds.{HoldsElementAt, element_found, macro_found}
-use Rattle.compile_core.proofs.PlainDefines.{IsBodyOf, condition_body_is, element, nothing, throughout_good}
+use Rattle.compile_counts.proofs.ClosedPatterns.{IsClosed, references_good}
+use Rattle.compile_defines.proofs.HeldParts.{entry_stands, listed_is}
+use Rattle.compile_defines.proofs.Holds.{HoldsElementAt, element_found, macro_found}
+use Rattle.compile_counts.proofs.PlainDefines.{IsBodyOf, condition_body_is, element, nothing, throughout_good}
 
 module _ (library : Library) (conditions : List Condition) (members : Members) (are_conditions : IsSet condition_cmp (IsConditionOf library) conditions) (are_members : AreMembers library members)
     (f : IsFormed library) (Good : Expr → Type 0) (closed : IsClosed Good) (defined : (d : Define) → IsDefineOf library conditions members d → Good (expr.Ref d.name)) where

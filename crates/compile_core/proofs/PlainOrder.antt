@@ -13,9 +13,9 @@ use Rattle.odd_forms.proofs.OneSet.{rest_rising}
 use Rattle.odd_forms.specs.Sorted.{AreRising}
 use Rattle.rng_patterns.specs.Denoting.{entry_of}
 use Rattle.rng_patterns.specs.declared.grammar.Define.{Define}
-use Rattle.compile_core.specs.Compiled.{define_cmp}
-use Rattle.compile_core.proofs.NamedDefines.{define_total}
-use Rattle.compile_core.proofs.Standing as standing
+use Rattle.compile_defines.specs.Compiled.{define_cmp}
+use Rattle.compile_defines.proofs.NamedDefines.{define_total}
+use Rattle.compile_defines.proofs.Standing as standing
 use Rattle.odd_reader.proofs.InList.{map_stands}
 
 -- the name is below those of some defines

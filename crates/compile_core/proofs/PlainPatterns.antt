@@ -11,7 +11,7 @@ use Rattle.rng_patterns.specs.declared.grammar.Expr.{Expr, Expr-F, out-Expr}
 use Rattle.rng_patterns.proofs.Told.{choice_shown, empty_shown, group_shown, one_or_more_shown, optional_shown, parts_in, ref_shown, refers, text_shown, zero_or_more_shown}
 use Rattle.rng_emit.specs.Plain as is
 use Rattle.rng_emit.specs.Plain.{ArePlainPatterns, IsPlainPattern}
-use Rattle.compile_core.proofs.ClosedPatterns.{IsClosed}
+use Rattle.compile_counts.proofs.ClosedPatterns.{IsClosed}
 
 -- patterns that are plain each
 patterns_plain : (ps : List Expr) → All IsPlainPattern ps → ArePlainPatterns ps

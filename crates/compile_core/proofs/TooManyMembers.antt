@@ -15,17 +15,17 @@ use Rattle.odd_meaning.specs.Classes.{AreMembers, Members, class_count, count_at
 use Rattle.rng_patterns.specs.declared.grammar.Define.{Define}
 use Rattle.rng_emit.specs.Grammar.{define_markup}
 use Rattle.rng_emit.specs.Nodes.{elements_in}
-use Rattle.compile_core.specs.Blocks.{IsConditionDefine, class_at, class_defines, component_defines, element_defines, entry_defines, grammar_with, listed_defines, macro_defines}
-use Rattle.compile_core.specs.Compiled.{define_cmp, references_pattern}
-use Rattle.compile_core.specs.Conditions.{IsConditionOf, condition_cmp}
-use Rattle.compile_core.specs.Contents.{define_name, reference}
-use Rattle.compile_core.specs.Schema.{HasLargeSchema, HoldsStart}
+use Rattle.compile_defines.specs.Blocks.{IsConditionDefine, class_at, class_defines, component_defines, element_defines, entry_defines, grammar_with, listed_defines, macro_defines}
+use Rattle.compile_defines.specs.Compiled.{HoldsStart, define_cmp, references_pattern}
+use Rattle.compile_defines.specs.Conditions.{IsConditionOf, condition_cmp}
+use Rattle.compile_defines.specs.Contents.{define_name, reference}
+use Rattle.compile_core.specs.Schema.{HasLargeSchema}
 use Rattle.compile_core.proofs.BlocksSet.{made}
-use Rattle.compile_core.proofs.DefineCounts.{text_parts}
-use Rattle.compile_core.proofs.MacroLaw.{BreaksNone}
+use Rattle.compile_counts.proofs.DefineCounts.{text_parts}
+use Rattle.compile_laws.proofs.MacroLaw.{BreaksNone}
 use Rattle.compile_core.proofs.MembersExist.{members_exist}
-use Rattle.compile_core.proofs.PatternCounts.{elements_measured, pattern_elements, ref_elements}
-use Rattle.compile_core.proofs.Sums.{one_each, sum_by-map, three_of_each}
+use Rattle.compile_counts.proofs.PatternCounts.{elements_measured, pattern_elements, ref_elements}
+use Rattle.compile_counts.proofs.Sums.{one_each, sum_by-map, three_of_each}
 
 -- the elements of some defines
 abbrev elements_of : List Define → ℕ

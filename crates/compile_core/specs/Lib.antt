@@ -1,12 +1,1 @@
-pub mod Blocks
-pub mod Compiled
-pub mod ConditionOrder
-pub mod Conditions
-pub mod Contents
-pub mod Counted
-pub mod Linking
-pub mod OrderedBounds
-pub mod Repeating
 pub mod Schema
-pub mod Wanted
-pub mod Weights

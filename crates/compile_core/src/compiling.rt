@@ -12,17 +12,17 @@ ghost use Rattle.odd_meaning.specs.Classes.{AreMembers, Members, members_count};
 ghost use Rattle.odd_meaning.specs.Rules.{Breaks};
 ghost use Rattle.rng_patterns.specs.Acceptance.{Accepts};
 ghost use Rattle.rng_emit.specs.Plain.{IsPlain};
-ghost use Rattle.compile_core.specs.Blocks.{IsConditionDefine, grammar_with};
-ghost use Rattle.compile_core.specs.Compiled.{IsGrammarOf, define_cmp};
-ghost use Rattle.compile_core.specs.Conditions.{IsConditionOf, condition_cmp};
-ghost use Rattle.compile_core.specs.Contents.{listed_in};
-ghost use Rattle.compile_core.specs.Schema.{HasLargeSchema, HoldsStart, IsFormed, IsLeast, IsOfMembers, IsStartOffence, IsTooLarge, lesser_of};
+ghost use Rattle.compile_defines.specs.Blocks.{IsConditionDefine, grammar_with};
+ghost use Rattle.compile_defines.specs.Compiled.{HoldsStart, IsGrammarOf, define_cmp};
+ghost use Rattle.compile_defines.specs.Conditions.{IsConditionOf, condition_cmp};
+ghost use Rattle.compile_defines.specs.Contents.{listed_in};
+ghost use Rattle.compile_defines.specs.Formed.{IsFormed};
+ghost use Rattle.compile_core.specs.Schema.{HasLargeSchema, IsLeast, IsOfMembers, IsStartOffence, IsTooLarge, lesser_of};
 
-use crate::conditions::conditions_of;
-use crate::contents::{holds_element, references_pattern};
-use crate::counting::text_nodes;
-use crate::defines::{condition_defines, library_defines};
-use crate::linking::linked_nodes;
+use compile_counts::{linked_nodes, text_nodes};
+use compile_defines::{
+    condition_defines, conditions_of, holds_element, library_defines, references_pattern,
+};
 use odd_base::{NoMemory, Offence, Text, TryCopy, Who, Words};
 use odd_classes::{MemberTable, TableRefusal, members_by_class};
 use odd_decls::Library;

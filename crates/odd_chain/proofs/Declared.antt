@@ -2,10 +2,10 @@
 use Rattle.std.proofs.Common.{◌≡◌, suc, List, [], ◌∷◌, ◌++◌, length, ⊎_elim, refl, ap, subst}
 use Rattle.odd_reader.specs.declared.tree.Tree.{Tree}
 use Rattle.odd_reader.proofs.InList.{first_or_later, nothing_stands}
-use Rattle.odd_decls.specs.Declares.{Declares}
-use Rattle.odd_decls.specs.Pending.{IsPending}
+use Rattle.odd_docs.specs.Declares.{Declares}
+use Rattle.odd_docs.specs.Pending.{IsPending}
 use Rattle.odd_decls.specs.declared.odd.OddDoc.{OddDoc}
-use Rattle.odd_decls.proofs.OneDoc.{one_doc}
+use Rattle.odd_docs.proofs.OneDoc.{one_doc}
 use Rattle.odd_chain.specs.Files.{AreAllRead, AreDeclared, more, none}
 
 -- one file more declares its doc

@@ -3,8 +3,8 @@ use Rattle.std.proofs.Common.{◌≡◌, ◌≤◌, ℕ, suc, List, [], ◌∷�
 use Rattle.odd_base.specs.declared.offence.Offence.{Offence}
 use Rattle.odd_reader.specs.declared.tree.Tree.{Tree}
 use Rattle.odd_reader.proofs.InList.{nothing_stands}
-use Rattle.odd_decls.specs.Declares.{Declares}
-use Rattle.odd_decls.specs.Offences.{HasOffence}
+use Rattle.odd_docs.specs.Declares.{Declares}
+use Rattle.odd_docs.specs.Offences.{HasOffence}
 use Rattle.odd_decls.specs.declared.library.Library.{Library}
 use Rattle.odd_decls.specs.declared.odd.OddDoc.{OddDoc}
 use Rattle.odd_modes.specs.After.{IsLibraryAfter}

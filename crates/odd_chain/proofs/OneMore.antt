@@ -3,8 +3,8 @@ use Rattle.std.proofs.Common.{◌≡◌, ℕ, suc, List, [], ◌∷◌, ◌++◌
 use Rattle.odd_base.specs.declared.offence.Offence.{Offence}
 use Rattle.odd_reader.specs.declared.tree.Tree.{Tree}
 use Rattle.odd_reader.proofs.InList.{stands_push}
-use Rattle.odd_decls.specs.Offences.{IsRefusal}
-use Rattle.odd_decls.specs.Pending.{IsPending}
+use Rattle.odd_docs.specs.Offences.{IsRefusal}
+use Rattle.odd_docs.specs.Pending.{IsPending}
 use Rattle.odd_decls.specs.declared.odd.OddDoc.{OddDoc}
 use Rattle.odd_chain.specs.Files.{AreAllRead, AreDeclared, IsFirstPending}
 use Rattle.odd_chain.specs.Reading.{IsBrokenAfter}

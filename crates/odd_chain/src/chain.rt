@@ -12,7 +12,8 @@ ghost use Rattle.odd_reader.specs.declared.tree.Tree.{Tree as ATree};
 
 use crate::merging::{OddDocs, merge};
 use odd_base::{NoMemory, Offence};
-use odd_decls::{Library, OddRefusal, read_odd};
+use odd_decls::{Library, OddRefusal};
+use odd_docs::read_odd;
 use odd_reader::Tree;
 use std::alloc::Global;
 

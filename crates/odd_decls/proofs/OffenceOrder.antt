@@ -1,8 +1,6 @@
--- The order of offences by place and rule, and which of them is the first.
+-- The order of offences by place and rule.
 use Rattle.std.proofs.Common.{◌≡◌, ℕ, inl, inr, ◌∙◌, arith}
-use Rattle.odd_decls.specs.declared.fault.Fault.{Fault}
-use Rattle.odd_decls.specs.Offences.{IsNotAfter}
-use Rattle.odd_decls.specs.Reading.{IsFirstFault}
+use Rattle.odd_decls.specs.First.{IsNotAfter}
 
 -- two offences, neither of which comes after the other, are one
 pub neither_after : (p r q s : ℕ) → IsNotAfter p r q s → IsNotAfter q s p r → (p ≡ q) × (r ≡ s)
@@ -18,8 +16,3 @@ not_after_through place rule between between_rule other others_rule (inl h) (inl
 not_after_through place rule between between_rule other others_rule (inl h) (inr k) = inl (omega (arith, k.0))
 not_after_through place rule between between_rule other others_rule (inr h) (inl k) = inl (omega (arith, h.0))
 not_after_through place rule between between_rule other others_rule (inr h) (inr k) = inr (h.0 ∙ k.0, omega (arith, h.1, k.1))
-
--- an offence that comes after no other where places rise is the first fault
-pub first_fault : (HasOne : ℕ → ℕ → Type 0) (AreRising : Type 0) (fault : Fault) → HasOne fault.at fault.rule
-    → (AreRising → (place rule : ℕ) → HasOne place rule → IsNotAfter fault.at fault.rule place rule) → IsFirstFault HasOne AreRising fault
-first_fault HasOne AreRising fault one not_after = record { is_one = one; first = λ r. record { is_one = one; first = not_after r } }

@@ -1,8 +1,3 @@
-pub mod Declares
-pub mod Faults
+pub mod First
 pub mod Library
 pub mod Odd
-pub mod Offences
-pub mod Pending
-pub mod Reading
-pub mod Search

@@ -1,6 +1,6 @@
 ghost use Rattle.std.specs.Prelude.{◌≡◌};
 ghost use Rattle.odd_base.specs.declared.offence.Who.TheVariants as the_who;
-ghost use Rattle.odd_decls.specs.Faults.{IsEarlier};
+ghost use Rattle.odd_decls.specs.First.{IsEarlier};
 
 use odd_base::{Offence, Who};
 

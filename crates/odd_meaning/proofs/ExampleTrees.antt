@@ -1,5 +1,5 @@
 -- Small elements: how deep they are, and which of their children count.
-use Rattle.std.proofs.Common.{◌≡◌, ⊎_elim, ℕ, true, false, not, ◌||◌, List, [], ◌∷◌, filter, refl, sym, ap, subst, ◌∙◌, codes, rules}
+use Rattle.std.proofs.Common.{◌≡◌, ℕ, true, false, not, ◌||◌, List, [], ◌∷◌, filter, refl, sym, ap, subst, ◌∙◌, codes, rules}
 use Rattle.std.specs.List.{list_any}
 use Rattle.std.proofs.lemmas.Bool.{false≢true}
 use Rattle.odd_forms.specs.Names.{tei}

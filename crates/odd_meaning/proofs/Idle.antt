@@ -1,5 +1,5 @@
 -- A library of which no component names another breaks no rule.
-use Rattle.std.proofs.Common.{◌≡◌, ℕ, List, [], Some, filter, map, ap, subst}
+use Rattle.std.proofs.Common.{◌≡◌, ℕ, [], Some, filter, map, subst}
 use Rattle.std.specs.FinMap.{find}
 use Rattle.odd_base.specs.Key.{key_cmp}
 use Rattle.odd_base.specs.declared.key.Key.{Key}

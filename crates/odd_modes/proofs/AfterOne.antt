@@ -21,7 +21,7 @@ use Rattle.odd_modes.specs.Choosing.{IsChosen, is_referred}
 use Rattle.odd_modes.specs.Index.{IsKeyOfSpec, over}
 use Rattle.std.proofs.lemmas.Map.Views.{tells_apart}
 use Rattle.odd_base.specs.KeyOrder.{key_exact}
-use Rattle.odd_decls.proofs.Repeats.{key_itself}
+use Rattle.odd_decls.proofs.SameKey.{key_itself}
 
 -- the entries hold at each of the keys what is to be held there, and nothing else
 abbrev pub HoldAt : (Key → Option Component) → List Key → List (Key × Component) → Type 0

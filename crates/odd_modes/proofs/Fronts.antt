@@ -1,5 +1,5 @@
 -- Keys beside their fronts tie where they are one key, and stand where the keys stand.
-use Rattle.std.proofs.Common.{◌≡◌, ◌↔◌, false, List, [], map, refl, sym, ap, subst, ⊎_elim, ◌∙◌}
+use Rattle.std.proofs.Common.{◌≡◌, ◌↔◌, false, List, map, refl, sym, ap, subst, ◌∙◌}
 use Rattle.std.proofs.lemmas.Cmp.{nat_cmp_total}
 use Rattle.std.specs.Cmp.{tied_itself}
 use Rattle.std.specs.Ordering.{eq_by_cmp, is_eq, nat_cmp, ordering_then}

@@ -20,7 +20,7 @@ use Rattle.odd_modes.specs.declared.fronted.FrontedKey.{FrontedKey}
 use Rattle.odd_modes.proofs.Fronts.{fronted_ties}
 use Rattle.odd_modes.proofs.HeldEntries.{put_key}
 use Rattle.std.proofs.lemmas.Map.Views.{tells_apart}
-use Rattle.odd_decls.proofs.Repeats.{key_itself}
+use Rattle.odd_decls.proofs.SameKey.{key_itself}
 
 last_alone : (o : Option Spec) → o ≡ option_or o None
 last_alone None = refl

@@ -9,10 +9,9 @@ use Rattle.odd_base.specs.declared.key.Key.{Key}
 use Rattle.odd_base.specs.declared.key.Kind.{Kind}
 use Rattle.odd_base.specs.declared.key.Kind.TheVariants as kind
 use Rattle.odd_tokens.specs.Same.{is_same}
-use Rattle.odd_decls.specs.Faults.{IsEarlier}
+use Rattle.odd_decls.specs.First.{IsEarlier, IsFirstOf}
 use Rattle.odd_decls.specs.Library.{module_of}
 use Rattle.odd_decls.specs.Odd.{place_of}
-use Rattle.odd_decls.specs.Offences.{IsFirstOf}
 use Rattle.odd_decls.specs.declared.fault.Fault.{Fault}
 use Rattle.odd_decls.specs.declared.library.Component.{Component}
 use Rattle.odd_decls.specs.declared.library.Library.{Library}

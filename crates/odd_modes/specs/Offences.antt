@@ -11,7 +11,7 @@ use Rattle.odd_reader.specs.Elements.{StandsIn}
 use Rattle.odd_content.specs.declared.content.Pick.{Pick}
 use Rattle.odd_content.specs.declared.content.Pick.TheVariants as pick
 use Rattle.odd_decls.specs.Odd.{element_key, place_of}
-use Rattle.odd_decls.specs.Offences.{IsFirstOf}
+use Rattle.odd_decls.specs.First.{IsFirstOf}
 use Rattle.odd_decls.specs.Library.{module_of}
 use Rattle.odd_decls.specs.declared.library.ClassPart.{ClassPart}
 use Rattle.odd_decls.specs.declared.library.Component.{Component}

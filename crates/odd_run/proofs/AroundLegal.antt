@@ -6,11 +6,11 @@ use Rattle.odd_reader.specs.declared.tree.Tree.{Tree}
 use Rattle.odd_reader.proofs.FormedBindings.{BindLegally}
 use Rattle.odd_reader.proofs.InList.{first_or_later, nothing_stands, stands_first, stands_later}
 use Rattle.odd_forms.specs.Names.{is_one_of}
-use Rattle.odd_decls.specs.Search as search
-use Rattle.odd_decls.specs.Search.{Finds, FindsAmong, Found}
-use Rattle.odd_decls.proofs.FoundFormed.{IsFormedSomewhere}
+use Rattle.odd_docs.specs.Search as search
+use Rattle.odd_docs.specs.Search.{Finds, FindsAmong, Found}
+use Rattle.odd_docs.proofs.FoundFormed.{IsFormedSomewhere}
 use Rattle.odd_run.proofs.GivenLegal.{child_formed, within_legal}
-use Rattle.compile_core.proofs.Standing.{stands_either}
+use Rattle.compile_defines.proofs.Standing.{stands_either}
 
 -- an element that is found itself has the declarations around it
 own_around : (around : List Bind) (t : Tree) (f : Found) → StandsIn (search.own around t) f → BindLegally around → BindLegally f.around

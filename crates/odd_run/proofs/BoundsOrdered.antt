@@ -20,7 +20,7 @@ use Rattle.odd_content.specs.Giving.{AreParts, IsContentOf, IsPart, bounds_given
 use Rattle.odd_content.specs.declared.content.Content.{Content, Row_of-Content, end_of-Content, more_of-Content, items-the_row-Content, items_hidden-the_row-Content-0}
 use Rattle.odd_content.specs.declared.content.Content.TheBlock.{hidden-the_row-Content-0}
 use Rattle.odd_meaning.specs.Contents.{IsUpTo}
-use Rattle.compile_core.specs.OrderedBounds.{AreAllOrdered, AreBoundsOrdered, IsOrdered}
+use Rattle.compile_defines.specs.OrderedBounds.{AreAllOrdered, AreBoundsOrdered, IsOrdered}
 
 -- where no rule is broken
 abbrev IsUnbroken : (ℕ → Type 0) → Type 0

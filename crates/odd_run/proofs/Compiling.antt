@@ -9,7 +9,8 @@ use Rattle.odd_chain.specs.Reading.{IsChainOf}
 use Rattle.odd_chain.specs.declared.chain.Chain.{Chain}
 use Rattle.odd_chain.proofs.OneChain.{gives_all_read}
 use Rattle.odd_decls.specs.declared.library.Library.{Library}
-use Rattle.compile_core.specs.Schema.{HoldsStart, IsFormed}
+use Rattle.compile_defines.specs.Compiled.{HoldsStart}
+use Rattle.compile_defines.specs.Formed.{IsFormed}
 use Rattle.odd_run.specs.Outcome.{answers, gives}
 use Rattle.odd_run.specs.Reading.{AreSpelled, IsStartError}
 use Rattle.odd_run.specs.Reply.{HasSchema, Merges, ReadsForms, TreesComeTo, start_offence}

@@ -8,7 +8,7 @@ use Rattle.odd_reader.proofs.InList.{nothing_stands}
 use Rattle.odd_decls.specs.Library.{content_of}
 use Rattle.odd_content.specs.declared.content.Content.TheVariants as content
 use Rattle.odd_decls.specs.declared.library.Component.TheVariants as component
-use Rattle.odd_decls.proofs.SmallFiles.{each_such}
+use Rattle.odd_docs.proofs.SmallFiles.{each_such}
 use Rattle.rng_patterns.specs.declared.grammar.Expr as E
 use Rattle.rng_patterns.specs.declared.grammar.Expr.TheVariants as expr
 use Rattle.rng_patterns.specs.Nodes.{linked_nodes, nodes as nodes_of, reference_nodes}
@@ -18,10 +18,10 @@ use Rattle.rng_emit.proofs.Shapes.{empty_is, ref_is}
 use Rattle.odd_reader.specs.Markup.{Markup, element as element_with, file_printed}
 use Rattle.rng_patterns.specs.declared.grammar.Grammar.{Grammar}
 use Rattle.odd_forms.specs.Sorted.{IsSet}
-use Rattle.compile_core.specs.Blocks.{IsConditionDefine}
-use Rattle.compile_core.specs.Compiled.{IsGrammarOf, define_cmp, element_define}
-use Rattle.compile_core.specs.Conditions.{IsConditionOf, condition_cmp, conditions_of}
-use Rattle.compile_core.specs.Schema.{HoldsStart, IsMissing, IsSchema}
+use Rattle.compile_defines.specs.Blocks.{IsConditionDefine}
+use Rattle.compile_defines.specs.Compiled.{HoldsStart, IsGrammarOf, IsMissing, define_cmp, element_define}
+use Rattle.compile_defines.specs.Conditions.{IsConditionOf, condition_cmp, conditions_of}
+use Rattle.compile_core.specs.Schema.{IsSchema}
 use Rattle.compile_core.proofs.BlocksSet.{made}
 use Rattle.odd_decls.specs.declared.library.ElementPart.{ElementPart}
 use Rattle.odd_meaning.specs.Classes.{AreMembers}

@@ -11,18 +11,18 @@ use Rattle.odd_tokens.specs.Characters.{is_char, is_name_char, is_name_start}
 use Rattle.odd_reader.specs.Spelled.{GivesTree}
 use Rattle.odd_reader.specs.declared.tree.Tree.{Tree}
 use Rattle.odd_reader.proofs.Running.{literal_gives}
-use Rattle.odd_decls.specs.Declares.{Declares, IsEntryOf}
+use Rattle.odd_docs.specs.Declares.{Declares, IsEntryOf}
 use Rattle.odd_decls.specs.Odd.{element_key}
 use Rattle.odd_forms.specs.Children.{GivesOne}
 use Rattle.odd_forms.specs.Names.{tei_namespace}
 use Rattle.odd_forms.specs.declared.element.Element.TheVariants as elements
 use Rattle.odd_reader.proofs.InList.{nothing_stands}
-use Rattle.odd_decls.specs.Offences.{IsSpecOf}
+use Rattle.odd_docs.specs.Offences.{IsSpecOf}
 use Rattle.odd_decls.specs.Library.{component_of}
 use Rattle.odd_modes.specs.After.{IsLibraryAfter, held_after, held_by}
 use Rattle.odd_modes.specs.Offences.{ItemFault, SpecFault}
 use Rattle.odd_chain.specs.Files.{Gives}
-use Rattle.odd_decls.specs.Search as search
+use Rattle.odd_docs.specs.Search as search
 use Rattle.odd_content.specs.declared.content.Content.TheVariants as content
 use Rattle.odd_decls.specs.declared.library.Component.{Component}
 use Rattle.odd_decls.specs.declared.library.Component.TheVariants as component
@@ -32,10 +32,10 @@ use Rattle.odd_decls.specs.declared.odd.OddDoc.{OddDoc}
 use Rattle.odd_decls.specs.declared.spec.Mode.TheVariants as mode
 use Rattle.odd_decls.specs.declared.spec.Spec.{Spec}
 use Rattle.odd_forms.proofs.SmallElements.{attribute, elements_are}
-use Rattle.odd_decls.proofs.SmallDeclares.{declares, entry_more, few_rise, no_entries}
-use Rattle.odd_decls.proofs.SmallFiles.{alone, each_such, element, few, found_first, found_through}
-use Rattle.odd_decls.proofs.SmallPending.{none_held, plain}
-use Rattle.odd_decls.proofs.SmallSound.{IsNamedSpec, bare_is_sound}
+use Rattle.odd_docs.proofs.SmallDeclares.{declares, entry_more, few_rise, no_entries}
+use Rattle.odd_docs.proofs.SmallFiles.{alone, each_such, element, few, found_first, found_through}
+use Rattle.odd_docs.proofs.SmallPending.{none_held, plain}
+use Rattle.odd_docs.proofs.SmallSound.{IsNamedSpec, bare_is_sound}
 use Rattle.odd_tokens.proofs.Ascii.{is_name}
 use Rattle.odd_meaning.proofs.Idle.{IsIdle, idle_unbroken}
 use Rattle.odd_run.proofs.ChainOfOne.{OffendsAlone, gives_alone}

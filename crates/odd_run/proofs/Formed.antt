@@ -15,16 +15,16 @@ use Rattle.odd_forms.specs.declared.element.Element.{Element}
 use Rattle.odd_forms.specs.declared.element.Element.TheVariants as element
 use Rattle.odd_content.specs.Giving.{IsContentOf}
 use Rattle.odd_content.specs.declared.content.Content.{Content}
-use Rattle.odd_decls.specs.Declares.{Declares, IsEntryOf, IsReadAs}
-use Rattle.odd_decls.specs.Offences.{IsItem, ItemFault, ItemOffends, Offends, kind_declared}
+use Rattle.odd_docs.specs.Declares.{Declares, IsEntryOf, IsReadAs}
+use Rattle.odd_docs.specs.Offences.{IsItem, ItemFault, ItemOffends, Offends, kind_declared}
 use Rattle.odd_decls.specs.declared.library.Library.{Library}
 use Rattle.odd_decls.specs.declared.odd.Entry.TheVariants as entry
 use Rattle.odd_decls.specs.declared.odd.OddDoc.{OddDoc}
 use Rattle.odd_decls.specs.declared.spec.Spec.{Spec}
-use Rattle.odd_decls.proofs.FoundFormed.{IsFormedSomewhere, found_formed}
+use Rattle.odd_docs.proofs.FoundFormed.{IsFormedSomewhere, found_formed}
 use Rattle.odd_modes.proofs.Held.{EachSpec, held_from}
 use Rattle.odd_chain.specs.Files.{AreDeclared, Gives}
-use Rattle.compile_core.specs.Schema.{IsFormed, IsFormedContent}
+use Rattle.compile_defines.specs.Formed.{IsFormed, IsFormedContent}
 use Rattle.odd_run.proofs.AroundLegal.{around_legal}
 use Rattle.odd_run.proofs.BoundsOrdered.{bounds_ordered}
 use Rattle.odd_run.proofs.ConditionsFormed.{conditions_formed}

@@ -12,7 +12,7 @@ use Rattle.odd_reader.specs.declared.tree.Attr.{Attr}
 use Rattle.odd_reader.specs.declared.tree.Tree.{Tree, out-Tree}
 use Rattle.odd_reader.proofs.FormedBindings.{BindLegally, IsToLegal}
 use Rattle.odd_reader.proofs.InList.{contained}
-use Rattle.odd_decls.proofs.FoundFormed.{IsFormedSomewhere, children_formed}
+use Rattle.odd_docs.proofs.FoundFormed.{IsFormedSomewhere, children_formed}
 use Rattle.odd_forms.specs.Words.{words_of}
 use Rattle.odd_forms.proofs.WordsLegal.{words_legal}
 

@@ -10,7 +10,7 @@ use Rattle.odd_reader.specs.Elements.{given}
 use Rattle.odd_reader.specs.Formed.{IsFormedTag}
 use Rattle.odd_reader.specs.declared.tree.Tree.{Tree}
 use Rattle.odd_forms.specs.Names.{tei_namespace}
-use Rattle.odd_decls.specs.Declares.{mode_given, namespace_given, namespace_in, namespace_of}
+use Rattle.odd_docs.specs.Declares.{mode_given, namespace_given, namespace_in, namespace_of}
 use Rattle.odd_decls.specs.declared.spec.Mode.{Mode}
 use Rattle.odd_decls.specs.declared.spec.Mode.TheVariants as mode
 use Rattle.odd_run.proofs.GivenLegal.{legal_given}

@@ -12,7 +12,8 @@ use Rattle.odd_chain.specs.Files.{Gives}
 use Rattle.odd_chain.proofs.OneChain.{gives_one, one_chain_refusal, one_pending, pending_not_read, refused_gives_none}
 use Rattle.rng_patterns.specs.declared.grammar.Grammar.{Grammar}
 use Rattle.rng_emit.specs.Grammar.{grammar_text}
-use Rattle.compile_core.specs.Schema.{HasLargeSchema, HoldsStart, IsLeastMissing, IsSchema, IsTooLarge}
+use Rattle.compile_defines.specs.Compiled.{HoldsStart}
+use Rattle.compile_core.specs.Schema.{HasLargeSchema, IsLeastMissing, IsSchema, IsTooLarge}
 use Rattle.compile_core.proofs.OneGrammarOf.{one_grammar_of}
 use Rattle.odd_run.specs.Outcome.{IsOne, Then, answers, gives}
 use Rattle.odd_run.specs.Reply.{HasSchema, Merges, NamesFiles, ReadsChain, ReadsForms, TreesComeTo, WordsComeTo, all_read, all_spelled, merged, named, no_job, not_yet, refused, schema, start_missing, start_offence, stops, too_large, too_many}

@@ -6,11 +6,11 @@ use Rattle.odd_tokens.specs.Characters.{is_char, is_name_char, is_name_start}
 use Rattle.odd_reader.specs.Spelled.{GivesTree}
 use Rattle.odd_reader.specs.declared.tree.Tree.{Tree}
 use Rattle.odd_reader.proofs.Running.{literal_gives}
-use Rattle.odd_decls.specs.Pending.{IsPending, outermost}
-use Rattle.odd_decls.specs.Pending as pending
+use Rattle.odd_docs.specs.Pending.{IsPending, outermost}
+use Rattle.odd_docs.specs.Pending as pending
 use Rattle.odd_forms.proofs.SmallElements.{attribute, elements_are}
-use Rattle.odd_decls.proofs.SmallFiles.{element}
-use Rattle.odd_decls.proofs.SmallPending.{in_child}
+use Rattle.odd_docs.proofs.SmallFiles.{element}
+use Rattle.odd_docs.proofs.SmallPending.{in_child}
 use Rattle.odd_run.specs.Reply.{Reply, not_yet}
 use Rattle.odd_run.specs.declared.status.Status.TheVariants as status
 use Rattle.odd_run.proofs.ChainOfOne.{pending_alone}

@@ -11,7 +11,7 @@ use Rattle.odd_reader.proofs.Formed.{spelled_formed}
 use Rattle.odd_reader.proofs.InList.{begins, ends, first_or_later, nothing_stands}
 use Rattle.odd_chain.specs.Reading.{IsChainOf}
 use Rattle.odd_chain.specs.declared.chain.Chain.{Chain}
-use Rattle.compile_core.proofs.Standing.{stands_either}
+use Rattle.compile_defines.proofs.Standing.{stands_either}
 use Rattle.odd_run.specs.Outcome.{answers}
 use Rattle.odd_run.specs.Reading.{IsChainRead, IsOfFile, IsOfTrees, IsTreeRead, StopsAt}
 use Rattle.odd_run.specs.Reply.{FileGives, FileStops, GiveTrees, IsReached, NamesFiles, ReadsChain, stops}

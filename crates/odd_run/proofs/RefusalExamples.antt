@@ -9,21 +9,22 @@ use Rattle.odd_tokens.specs.Characters.{is_char, is_name_char, is_name_start}
 use Rattle.odd_reader.specs.Spelled.{GivesTree}
 use Rattle.odd_reader.specs.declared.tree.Tree.{Tree}
 use Rattle.odd_reader.proofs.Running.{literal_gives}
-use Rattle.odd_decls.specs.Declares.{Declares}
+use Rattle.odd_docs.specs.Declares.{Declares}
 use Rattle.odd_forms.specs.Faults.{ChildFault}
 use Rattle.odd_reader.proofs.InList.{nothing_stands, stands_first}
-use Rattle.odd_decls.specs.Offences.{HasOffence, IsNotAfter, IsRefusal, IsSpecOf, ItemOffends, Offends}
-use Rattle.odd_decls.specs.Offences as form
+use Rattle.odd_decls.specs.First.{IsNotAfter}
+use Rattle.odd_docs.specs.Offences.{HasOffence, IsRefusal, IsSpecOf, ItemOffends, Offends}
+use Rattle.odd_docs.specs.Offences as form
 use Rattle.odd_chain.specs.Files.{Gives}
-use Rattle.odd_decls.specs.Pending.{outermost}
-use Rattle.odd_decls.specs.Search.{Finds}
-use Rattle.odd_decls.specs.Search as search
+use Rattle.odd_docs.specs.Pending.{outermost}
+use Rattle.odd_docs.specs.Search.{Finds}
+use Rattle.odd_docs.specs.Search as search
 use Rattle.odd_decls.specs.declared.library.Library.{Library}
 use Rattle.odd_forms.proofs.SmallElements.{elements_are}
-use Rattle.odd_decls.proofs.SmallDeclares.{declares, few_rise, no_entries}
-use Rattle.odd_decls.proofs.SmallFiles.{alone, each_such, element, few, found_first, found_through, only_child}
-use Rattle.odd_decls.proofs.SmallOffences.{items_alone, one_item, other_breaks_three}
-use Rattle.odd_decls.proofs.SmallPending.{HoldsNone, none_held, not_pending, plain}
+use Rattle.odd_docs.proofs.SmallDeclares.{declares, few_rise, no_entries}
+use Rattle.odd_docs.proofs.SmallFiles.{alone, each_such, element, few, found_first, found_through, only_child}
+use Rattle.odd_docs.proofs.SmallOffences.{items_alone, one_item, other_breaks_three}
+use Rattle.odd_docs.proofs.SmallPending.{HoldsNone, none_held, not_pending, plain}
 use Rattle.std.specs.declared.cmp.Ordering.TheVariants.{Less}
 use Rattle.compile_core.specs.Schema.{IsLeastMissing}
 use Rattle.odd_run.specs.declared.status.Status.{Status}

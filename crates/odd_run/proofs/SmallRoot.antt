@@ -4,8 +4,8 @@ use Rattle.std.specs.Prelude.{codes}
 use Rattle.odd_reader.specs.declared.tree.Tree.{Tree, roll-Tree}
 use Rattle.odd_forms.specs.Names.{tei, tei_namespace}
 use Rattle.odd_forms.proofs.SmallElements.{attribute, nodes}
-use Rattle.odd_decls.proofs.SmallFiles.{a_alone}
-use Rattle.odd_decls.proofs.SmallOffences.{IsNamedSchema}
+use Rattle.odd_docs.proofs.SmallFiles.{a_alone}
+use Rattle.odd_docs.proofs.SmallOffences.{IsNamedSchema}
 use Rattle.odd_tokens.proofs.Ascii.{is_name}
 
 -- `<schemaSpec ident="s" start="a">` with these children

@@ -1,16 +1,12 @@
 -- Small theorems on the steps of a run: what comes before what, which files are begun, and what is a front of a text.
 use Rattle.std.proofs.Common.{◌≡◌, ℕ, List, [], ◌∷◌, Some, refl, inl, inr, arith}
 use Rattle.std.specs.Prelude.{codes, map as map_items}
-use Rattle.std.specs.FinMap as map
 use Rattle.odd_base.specs.declared.offence.Offence.{Offence}
-use Rattle.odd_base.specs.declared.offence.Who.TheVariants as who
-use Rattle.odd_chain.specs.Order as order
 use Rattle.odd_reader.specs.declared.tree.Tree.{Tree}
 use Rattle.odd_chain.specs.Files.{IsFirstPending}
 use Rattle.odd_run.specs.Note.{IsFrontWritten, code_of}
 use Rattle.odd_run.specs.Outcome.{answers}
 use Rattle.odd_run.specs.Reply.{Reply, TreesComeTo, not_yet}
-use Rattle.odd_run.specs.Reply as reply
 use Rattle.odd_run.specs.Running.{BeginsFiles, IsNoted}
 use Rattle.odd_run.specs.declared.status.LimitKind.TheVariants as limit
 use Rattle.odd_run.specs.declared.status.Status.TheVariants as status

@@ -10,7 +10,8 @@ use Rattle.odd_decls.specs.declared.library.Library.{Library}
 use Rattle.odd_chain.specs.Files.{AreAllRead, Gives, IsChainRefusal, IsFirstPending}
 use Rattle.rng_patterns.specs.declared.grammar.Grammar.{Grammar}
 use Rattle.rng_emit.specs.Grammar.{grammar_text}
-use Rattle.compile_core.specs.Schema.{HasLargeSchema, HoldsStart, IsLeastMissing, IsSchema}
+use Rattle.compile_defines.specs.Compiled.{HoldsStart}
+use Rattle.compile_core.specs.Schema.{HasLargeSchema, IsLeastMissing, IsSchema}
 use Rattle.odd_run.specs.declared.status.Status.{Status}
 use Rattle.odd_run.specs.declared.status.Status.TheVariants as status
 use Rattle.odd_run.specs.declared.status.LimitKind.TheVariants as limit

@@ -3,12 +3,12 @@ use Rattle.std.proofs.lemmas.Bool.{false≢true}
 use Rattle.std.proofs.lemmas.Result.{err_from_is_err_and}
 use Rattle.std.specs.Option.{option_copied}
 use Rattle.rng_patterns.specs.declared.grammar.Grammar.{Grammar}
-use Rattle.compile_core.specs.Blocks.{grammar_with}
-use Rattle.compile_core.specs.Compiled.{IsGrammarOf}
-use Rattle.compile_core.specs.Contents.{listed_in}
+use Rattle.compile_defines.specs.Blocks.{grammar_with}
+use Rattle.compile_defines.specs.Compiled.{IsGrammarOf}
+use Rattle.compile_defines.specs.Contents.{listed_in}
 use Rattle.compile_core.specs.Schema.{IsLeast, IsTooLarge}
 use Rattle.compile_core.proofs.BlocksSet.{made}
-use Rattle.compile_core.proofs.Correct.{accepts_admitted}
+use Rattle.compile_laws.proofs.Correct.{accepts_admitted}
 use Rattle.compile_core.proofs.Plain.{plain}
 use Rattle.compile_core.proofs.TooLarge.{large_schema}
 use Rattle.compile_core.proofs.TooManyMembers.{too_many}

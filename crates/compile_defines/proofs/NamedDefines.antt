@@ -1,0 +1,126 @@
+-- The defines of conditions that rise have distinct names, and so they rise once they are sorted by name.
+use Rattle.std.proofs.Common.{◌≡◌, ◌<◌, ◌≤◌, ◌+◌, ◌^◌, ℕ, suc, Bool, true, false, cond, List, [], ◌∷◌, ◌++◌, get_or, length, map, refl, sym, ap, subst, ◌∙◌, arith}
+use Rattle.std.specs.Prelude.{codes, sum_by}
+use Rattle.std.proofs.lemmas.Cmp.{eq_by_cmp_equiv, nat_list_cmp_total, on_total}
+use Rattle.std.proofs.lemmas.Fmt.{decimal_injective}
+use Rattle.std.proofs.lemmas.List.{append_cancel_left}
+use Rattle.std.proofs.lemmas.List.Sorted.{Contains-permutation, IsPermutation-sym, ranks_by}
+use Rattle.std.proofs.lemmas.List.Sums.{count_by-le-length, sum_by-append, sum_by-cons, sum_by-le-sum_by}
+use Rattle.std.proofs.lemmas.Map.Keys.{IsDistinct-IsPermutation}
+use Rattle.std.specs.Cmp.{IsStrictWeakOrder, IsTotalOrder, tied_itself}
+use Rattle.std.specs.Cmp.Lexicographic.{same_text, texts_ties}
+use Rattle.std.specs.List.{AllByRecursion, IsDistinct}
+use Rattle.std.specs.List.Sorted.{IsPermutation, IsSorted}
+use Rattle.std.specs.Ordering.{eq_by_cmp, is_eq, is_lt, ordering_reverse}
+use Rattle.std.specs.declared.cmp.Ordering.{Ordering}
+use Rattle.std.specs.declared.cmp.Ordering.TheVariants.{Less, Equal, Greater}
+use Rattle.odd_content.specs.declared.content.Condition.{Condition}
+use Rattle.odd_reader.specs.Elements.{StandsIn}
+use Rattle.odd_reader.proofs.InList.{contained, map_stands, standing, stands_first, stands_later, stands_map}
+use Rattle.odd_forms.proofs.OneSet.{first_below, rest_rising}
+use Rattle.odd_forms.specs.Sorted.{AreRising, IsSet}
+use Rattle.rng_patterns.specs.declared.grammar.Define.{Define}
+use Rattle.compile_defines.specs.Blocks.{IsConditionDefine}
+use Rattle.compile_defines.specs.Compiled.{condition_define, define_cmp}
+use Rattle.compile_defines.specs.ConditionOrder.{condition_total}
+use Rattle.compile_defines.specs.Conditions.{condition_cmp}
+use Rattle.compile_defines.specs.Contents.{condition_name, number_of}
+use Rattle.compile_defines.proofs.Standing.{is_less}
+use Rattle.std.proofs.lemmas.Bool.{false_from_ne_true}
+
+-- what neither falls nor ties is less
+less_left : (r : Ordering) → is_lt (ordering_reverse r) ≡ false → is_eq r ≡ false → r ≡ Less
+less_left Less h e = refl
+less_left Equal h e = cc
+less_left Greater h e = cc
+
+module _ {A : Type 0} {order : A → A → Ordering} (total : IsTotalOrder order) where
+  -- sorted items of which no two tie rise
+  next_less : (before after : List A) (item next : A) → IsSorted order (before ++ item ∷ (next ∷ after)) → IsDistinct (eq_by_cmp order) (before ++ item ∷ (next ∷ after)) → order item next ≡ Less
+  unfolding IsDistinct
+  next_less [] after item next up apart = less_left (order item next) (ap is_lt (sym (total.antisymm next item)) ∙ up 0 item (omega arith) (omega arith)) apart.0.0
+  next_less (x ∷ before) after item next up apart =
+      let rest = before ++ item ∷ (next ∷ after) in
+      next_less before after item next
+      (λ k d low lt. subst (λ m. is_lt (order (get_or (x ∷ rest) m d) (get_or rest k d)) ≡ false) {x = suc k + 1} {y = suc (k + 1)} (omega arith) (up (suc k) d (omega arith) (omega arith)))
+      apart.1
+
+-- what holds of the image of each item holds of all images
+images_all : {A B : Type 0} (P : B → Type 0) (f : A → B) (xs : List A) → ((x : A) → StandsIn xs x → P (f x)) → AllByRecursion P (map f xs)
+images_all P f [] h = tt
+images_all P f (x ∷ xs) h = (h x (stands_first x xs), images_all P f xs (λ y s. h y (stands_later x y xs s)))
+
+-- a test that passes less counts no more
+one_at_most : (b c : Bool) → (b ≡ true → c ≡ true) → cond {A = ℕ} b 1 0 ≤ cond {A = ℕ} c 1 0
+one_at_most true c h = let is : cond {A = ℕ} c 1 0 ≡ 1 = ap (λ t. cond {A = ℕ} t 1 0) (h refl) in omega arith
+one_at_most false c h = omega arith
+
+-- the first define's name is below the other's
+abbrev pub is_lower : Define → Define → Bool
+is_lower one other = is_lt (define_cmp one other)
+
+-- which orders defines
+pub lower_ranks : IsStrictWeakOrder is_lower
+lower_ranks = ranks_by nat_list_cmp_total (λ (d : Define). d.name)
+
+-- and totally
+pub define_total : IsTotalOrder define_cmp
+define_total = on_total (λ (d : Define). d.name) nat_list_cmp_total
+
+module _ (conditions : List Condition) (rising : AreRising condition_cmp conditions) (small : length conditions + 1 < 2 ^ 64) where
+  -- one for what is below a condition
+  abbrev below : Condition → Condition → ℕ
+  below b x = cond {A = ℕ} (is_lt (condition_cmp x b)) 1 0
+
+  -- a lesser condition has a lesser number
+  number_less : (a b : Condition) → StandsIn conditions a → condition_cmp a b ≡ Less → number_of conditions a < number_of conditions b
+  number_less a b (before, after, e) less =
+      let more = λ (x : Condition). one_at_most (is_lt (condition_cmp x a)) (is_lt (condition_cmp x b)) (λ h. ap is_lt (condition_total.trans x a b (is_less (condition_cmp x a) h) less)) in
+      let here : below a a ≡ 0 = ap (λ o. cond {A = ℕ} (is_lt o) 1 0) (tied_itself condition_total a) in
+      let there : below b a ≡ 1 = ap (λ o. cond {A = ℕ} (is_lt o) 1 0) less in
+      omega (
+        arith,
+        ap (sum_by (below a)) e,
+        sum_by-append (below a) before (a ∷ after),
+        sum_by-cons (below a) a after,
+        ap (sum_by (below b)) e,
+        sum_by-append (below b) before (a ∷ after),
+        sum_by-cons (below b) a after,
+        sum_by-le-sum_by (below a) (below b) before more,
+        sum_by-le-sum_by (below a) (below b) after more,
+      )
+
+  -- each number fits 64 bits
+  number_small : (c : Condition) → number_of conditions c < 2 ^ 64
+  number_small c = omega (arith, count_by-le-length (λ other. is_lt (condition_cmp other c)) conditions)
+
+  -- and so another name
+  names_apart : (a b : Condition) → StandsIn conditions a → condition_cmp a b ≡ Less → condition_name conditions a ≡ condition_name conditions b → ⊥
+  names_apart a b s less e =
+      omega (arith, number_less a b s less, decimal_injective (number_of conditions a) (number_of conditions b) (number_small a) (number_small b) (append_cancel_left (codes "a.") _ _ e))
+
+  abbrev define : Condition → Define
+  define = condition_define conditions
+
+  -- no two defines have one name
+  defines_apart : (xs : List Condition) → ((c : Condition) → StandsIn xs c → StandsIn conditions c) → AreRising condition_cmp xs → IsDistinct (eq_by_cmp define_cmp) (map define xs)
+  unfolding IsDistinct
+  defines_apart [] among up = tt
+  defines_apart (x ∷ xs) among up = (
+    images_all (λ d. eq_by_cmp define_cmp (define x) d ≡ false) define xs (λ y s. false_from_ne_true _ (λ e.
+        names_apart x y (among x (stands_first x xs)) (first_below condition_cmp condition_total x xs up y s) (same_text _ _ (sym e ∙ sym (texts_ties (define x).name (define y).name))))),
+    defines_apart xs (λ c s. among c (stands_later x c xs s)) (rest_rising condition_cmp condition_total x xs up),
+  )
+
+  -- the defines of the conditions, sorted by name, are the set of them
+  pub defines_set : (made sorted : List Define) → made ≡ map define conditions → IsPermutation made sorted → IsSorted define_cmp sorted → IsSet define_cmp (IsConditionDefine conditions) sorted
+  defines_set made sorted is moved up =
+      let made_apart = subst (IsDistinct (eq_by_cmp define_cmp)) (sym is) (defines_apart conditions (λ c s. s) rising) in
+      let apart = IsDistinct-IsPermutation (eq_by_cmp define_cmp) (eq_by_cmp_equiv define_total).symm made sorted moved made_apart in
+      record {
+        rising = λ before after item next e. next_less define_total before after item next (subst (IsSorted define_cmp) e up) (subst (IsDistinct (eq_by_cmp define_cmp)) e apart);
+        none_else = λ d s.
+            stands_map define conditions d (subst (λ ds. StandsIn ds d) is (standing made d (Contains-permutation sorted made d (IsPermutation-sym made sorted moved) (contained sorted d s))));
+        each = λ d h. standing sorted d (Contains-permutation made sorted d moved (contained made d
+            (subst (λ ds. StandsIn ds d) (sym is) (subst (StandsIn (map define conditions)) (sym h.2) (map_stands define conditions h.0 h.1)))));
+      }
