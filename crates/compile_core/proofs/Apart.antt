@@ -20,12 +20,12 @@ use Rattle.rng_patterns.specs.declared.grammar.Expr.{Expr}
 use Rattle.rng_patterns.specs.declared.grammar.Expr.TheVariants as expr
 use Rattle.rng_patterns.specs.declared.grammar.Grammar.{Grammar}
 use Rattle.compile_defines.specs.Compiled as compiled
-use Rattle.compile_defines.specs.Compiled.{IsDefineOf, IsGrammarOf, class_define, condition_body, element_define, macro_define, references_pattern}
-use Rattle.compile_defines.specs.Contents.{class_name, condition_name, content_pattern, define_name, macro_name}
+use Rattle.compile_defines.specs.Compiled.{IsDefineOf, IsGrammarOf, class_define, condition_body, element_define, macro_define}
+use Rattle.compile_contents.specs.Contents.{class_name, condition_name, content_pattern, define_name, macro_name, references_pattern}
 use Rattle.compile_core.proofs.ClosedContents.{content_good}
 use Rattle.compile_counts.proofs.ClosedPatterns.{references_good}
-use Rattle.compile_defines.proofs.Filtered.{stands_filter}
-use Rattle.compile_defines.proofs.Holds.{macro_found}
+use Rattle.compile_contents.proofs.Filtered.{stands_filter}
+use Rattle.compile_contents.proofs.Holds.{macro_found}
 use Rattle.compile_core.proofs.Leading.{Leads, led_on, level, lower, none_led, reached}
 use Rattle.compile_counts.proofs.PlainDefines.{IsBodyOf, condition_body_is, element, nothing}
 use Rattle.compile_core.proofs.PlainPatterns.{RefersOnly, refers_closed, refers_known}

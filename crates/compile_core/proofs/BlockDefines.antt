@@ -10,8 +10,8 @@ use Rattle.odd_base.specs.Text.{text_cmp}
 use Rattle.odd_base.specs.declared.key.Key.{Key}
 use Rattle.odd_base.specs.declared.key.Kind.{Kind}
 use Rattle.odd_base.specs.declared.key.Kind.TheVariants as kind
-use Rattle.odd_reader.specs.Elements.{StandsIn}
-use Rattle.odd_reader.proofs.InList.{first_or_later, nothing_stands}
+use Rattle.odd_tree.specs.Elements.{StandsIn}
+use Rattle.odd_tree.proofs.InList.{first_or_later, nothing_stands}
 use Rattle.odd_forms.specs.Sorted.{AreRising}
 use Rattle.odd_content.specs.declared.content.Condition.{Condition}
 use Rattle.odd_decls.specs.declared.library.Component.{Component}
@@ -19,7 +19,7 @@ use Rattle.odd_decls.specs.declared.library.Library.{Library}
 use Rattle.odd_meaning.specs.Classes.{Members}
 use Rattle.rng_patterns.specs.declared.grammar.Define.{Define}
 use Rattle.compile_defines.specs.Compiled.{IsDefineOf, define_cmp}
-use Rattle.compile_defines.proofs.Collected.{collected_stands}
+use Rattle.compile_contents.proofs.Collected.{collected_stands}
 use Rattle.compile_defines.proofs.NamedDefines.{define_total}
 use Rattle.compile_counts.proofs.RisingLists.{entries_rise, made_rise}
 

@@ -3,8 +3,8 @@ use Rattle.std.proofs.Common.{◌≡◌, ℕ, List, [], ◌∷◌, ◌++◌, ref
 use Rattle.std.specs.Prelude.{IsTrue, flat_map}
 use Rattle.std.specs.FinMap.{is_sorted}
 use Rattle.odd_base.specs.Key.{key_cmp}
-use Rattle.odd_reader.specs.Elements.{StandsIn}
-use Rattle.odd_reader.proofs.InList.{stands_first}
+use Rattle.odd_tree.specs.Elements.{StandsIn}
+use Rattle.odd_tree.proofs.InList.{stands_first}
 use Rattle.odd_forms.specs.Sorted.{AreRising, IsSet}
 use Rattle.odd_content.specs.declared.content.Condition.{Condition}
 use Rattle.odd_decls.specs.Odd.{element_key}
@@ -16,12 +16,12 @@ use Rattle.rng_patterns.specs.declared.grammar.Define.{Define}
 use Rattle.compile_defines.specs.Blocks.{IsConditionDefine, class_defines, component_defines, element_defines, grammar_with, listed_defines, macro_defines}
 use Rattle.compile_defines.specs.Compiled as compiled
 use Rattle.compile_defines.specs.Compiled.{IsDefineOf, IsGrammarOf, class_define, define_cmp, element_define, macro_define}
-use Rattle.compile_defines.specs.Conditions.{IsConditionOf, condition_cmp}
-use Rattle.compile_defines.proofs.Collected.{each_of_both, stands_collected}
+use Rattle.compile_contents.specs.Conditions.{IsConditionOf, condition_cmp}
+use Rattle.compile_contents.proofs.Collected.{each_of_both, stands_collected}
 use Rattle.compile_defines.proofs.HeldParts.{entry_stands, listed_is}
 use Rattle.compile_core.proofs.KindBlocks.{classes_rise, classes_stand, elements_rise, elements_stand, macros_rise, macros_stand}
 use Rattle.compile_counts.proofs.Letters.{IsFrom, IsUpTo, letter, letters_rise}
-use Rattle.compile_defines.proofs.Standing.{stands_left, stands_right}
+use Rattle.compile_contents.proofs.Standing.{stands_left, stands_right}
 
 module _ (library : Library) (conditions : List Condition) (members : Members) (before : List Define) (up : IsTrue (is_sorted key_cmp library.parts))
     (are_before : IsSet define_cmp (IsConditionDefine conditions) before) (are_members : AreMembers library members) where

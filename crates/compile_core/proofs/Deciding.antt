@@ -2,8 +2,8 @@
 use Rattle.std.proofs.Common.{◌⊎◌, Bool, true, false, List, [], ◌∷◌, inl, inr, refl, subst}
 use Rattle.std.proofs.lemmas.Bool.{false≢true}
 use Rattle.std.specs.Bool.{Decides}
-use Rattle.odd_reader.specs.Elements.{StandsIn}
-use Rattle.odd_reader.proofs.InList.{StandsOnce, first_or_later, nothing_stands, stands_first, stands_later}
+use Rattle.odd_tree.specs.Elements.{StandsIn}
+use Rattle.odd_tree.proofs.InList.{StandsOnce, first_or_later, nothing_stands, stands_first, stands_later}
 
 -- a test tells it
 abbrev pub IsDecided : Type 0 → Type 0

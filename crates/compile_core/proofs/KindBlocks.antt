@@ -7,7 +7,7 @@ use Rattle.odd_base.specs.KeyOrder.{key_total, key_exact}
 use Rattle.odd_base.specs.declared.key.Key.{Key}
 use Rattle.odd_base.specs.declared.key.Kind.{Kind}
 use Rattle.odd_base.specs.declared.key.Kind.TheVariants as kind
-use Rattle.odd_reader.specs.Elements.{StandsIn}
+use Rattle.odd_tree.specs.Elements.{StandsIn}
 use Rattle.odd_forms.specs.Sorted.{AreRising}
 use Rattle.odd_content.specs.declared.content.Condition.{Condition}
 use Rattle.odd_decls.specs.declared.library.Component.{Component}
@@ -18,9 +18,9 @@ use Rattle.rng_patterns.specs.declared.grammar.Define.{Define}
 use Rattle.compile_defines.specs.Blocks.{class_defines, element_defines, listed_defines, macro_defines}
 use Rattle.compile_defines.specs.Compiled as compiled
 use Rattle.compile_defines.specs.Compiled.{class_define, define_cmp, element_define, macro_define}
-use Rattle.compile_defines.specs.Contents.{class_name, define_name, macro_name}
+use Rattle.compile_contents.specs.Contents.{class_name, define_name, macro_name}
 use Rattle.compile_core.proofs.BlockDefines.{IsAtMostOne, IsBlockDefine, IsEntryDefine, block_rises, block_stands, none, one}
-use Rattle.compile_defines.proofs.Standing.{found}
+use Rattle.compile_contents.proofs.Standing.{found}
 
 module _ (library : Library) (conditions : List Condition) (members : Members) (up : IsTrue (is_sorted key_cmp library.parts)) where
   -- the define of an entry of the kind

@@ -6,7 +6,7 @@ use Rattle.odd_decls.specs.declared.library.Library.{Library}
 use Rattle.odd_meaning.specs.Classes as classes
 use Rattle.odd_meaning.specs.Links.{IsLinked, macro_key, macros_of}
 use Rattle.odd_meaning.specs.Rules.{Breaks, reaches_itself}
-use Rattle.compile_defines.specs.Contents.{macro_name}
+use Rattle.compile_contents.specs.Contents.{macro_name}
 
 -- macros are above classes, and classes above elements and conditions, by the first letter of a name
 abbrev pub level : List ℕ → ℕ

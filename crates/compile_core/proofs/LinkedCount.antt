@@ -2,7 +2,7 @@
 use Rattle.std.proofs.Common.{◌≡◌, ◌∙◌, ℕ, List, [], length, refl, subst}
 use Rattle.std.specs.FinMap.{find}
 use Rattle.odd_base.specs.Key.{key_cmp}
-use Rattle.odd_reader.specs.Elements.{StandsIn}
+use Rattle.odd_tree.specs.Elements.{StandsIn}
 use Rattle.odd_forms.specs.Sorted.{IsSet}
 use Rattle.odd_content.specs.declared.content.Condition.{Condition}
 use Rattle.odd_decls.specs.Odd.{element_key}
@@ -19,11 +19,11 @@ use Rattle.rng_patterns.specs.declared.grammar.Expr.TheVariants as expr
 use Rattle.rng_patterns.specs.declared.grammar.Grammar.{Grammar}
 use Rattle.std.specs.Prelude.{Some}
 use Rattle.compile_defines.specs.Compiled as compiled
-use Rattle.compile_defines.specs.Compiled.{IsDefineOf, class_define, condition_body, condition_define, content_throughout, define_cmp, element_define, macro_define, references_pattern}
-use Rattle.compile_defines.specs.Contents.{class_name, condition_name, content_pattern, define_name, macro_name}
+use Rattle.compile_defines.specs.Compiled.{IsDefineOf, class_define, condition_body, condition_define, content_throughout, define_cmp, element_define, macro_define}
+use Rattle.compile_contents.specs.Contents.{class_name, condition_name, content_pattern, define_name, macro_name, references_pattern}
 use Rattle.compile_counts.specs.Linking.{IsLinkedCount}
 use Rattle.compile_defines.proofs.HeldParts.{listed_is}
-use Rattle.compile_defines.proofs.Holds.{element_found}
+use Rattle.compile_contents.proofs.Holds.{element_found}
 use Rattle.compile_core.proofs.LinkedNames.{FoundIn}
 use Rattle.compile_counts.proofs.NodeMeasure.{nodes_measure}
 use Rattle.compile_counts.proofs.PlainDefines.{IsBodyOf, condition_body_is, element, nothing}

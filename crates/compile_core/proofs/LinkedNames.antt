@@ -5,8 +5,8 @@ use Rattle.std.specs.FinMap.{find, nat_cmp-IsAntisymmetric, slice_cmp-IsAntisymm
 use Rattle.odd_base.specs.Text.{text_cmp}
 use Rattle.odd_graph.specs.Graph as graph
 use Rattle.odd_graph.specs.Graph.{Chained}
-use Rattle.odd_reader.specs.Elements.{StandsIn}
-use Rattle.odd_reader.proofs.InList.{first_or_later, map_stands, stands_map}
+use Rattle.odd_tree.specs.Elements.{StandsIn}
+use Rattle.odd_tree.proofs.InList.{first_or_later, map_stands, stands_map}
 use Rattle.rng_patterns.specs.Denoting.{entry_of}
 use Rattle.rng_patterns.specs.Linked as linked
 use Rattle.rng_patterns.specs.Linked.{Reaches, RefersTo, names_of}
@@ -16,7 +16,7 @@ use Rattle.rng_patterns.specs.declared.grammar.Body.{Body}
 use Rattle.rng_patterns.specs.declared.grammar.Define.{Define}
 use Rattle.rng_patterns.specs.declared.grammar.Expr.{Expr}
 use Rattle.rng_patterns.specs.declared.grammar.Grammar.{Grammar}
-use Rattle.compile_defines.proofs.Standing.{held_stands, stands_either, stands_left, stands_right}
+use Rattle.compile_contents.proofs.Standing.{held_stands, stands_either, stands_left, stands_right}
 
 -- what is found at a name of a grammar
 abbrev pub FoundIn : Grammar → List ℕ → Body → Type 0

@@ -16,12 +16,12 @@ use Rattle.odd_decls.specs.declared.library.Library.{Library}
 use Rattle.odd_meaning.specs.Classes.{AreMembers, IsElementOf, IsListed, Members}
 use Rattle.odd_meaning.specs.Links.{class_key}
 use Rattle.odd_meaning.specs.Rules.{Breaks}
-use Rattle.compile_defines.specs.Contents.{holds_element}
-use Rattle.compile_defines.proofs.Filtered.{filter_passed, stands_filter}
+use Rattle.compile_contents.specs.Contents.{holds_element}
+use Rattle.compile_contents.proofs.Filtered.{filter_passed, stands_filter}
 use Rattle.compile_defines.proofs.HeldParts.{entry_stands}
-use Rattle.compile_defines.proofs.Holds.{element_found}
+use Rattle.compile_contents.proofs.Holds.{element_found}
 use Rattle.compile_core.proofs.Membership.{member_decided}
-use Rattle.odd_reader.proofs.InList.{map_stands}
+use Rattle.odd_tree.proofs.InList.{map_stands}
 
 module _ (library : Library) (unbroken : (key : Key) (rule : ℕ) → Breaks library key rule → ⊥) where
   -- an ident of a held element that is a member of the class

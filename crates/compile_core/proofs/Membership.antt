@@ -9,15 +9,15 @@ use Rattle.odd_base.specs.declared.key.Key.{Key}
 use Rattle.odd_graph.proofs.Chains.{first_step, last_step}
 use Rattle.odd_graph.proofs.Ranked.{by_rank}
 use Rattle.odd_graph.specs.Graph.{Chained, at_once, through}
-use Rattle.odd_reader.specs.Elements.{StandsIn}
-use Rattle.odd_reader.proofs.InList.{StandsOnce, map_stands, stands_map}
+use Rattle.odd_tree.specs.Elements.{StandsIn}
+use Rattle.odd_tree.proofs.InList.{StandsOnce, map_stands, stands_map}
 use Rattle.odd_decls.specs.declared.library.Component.{Component}
 use Rattle.odd_decls.specs.declared.library.Library.{Library}
 use Rattle.odd_meaning.specs.Classes.{IsMember}
 use Rattle.odd_meaning.specs.Links.{IsHeld, IsLinked, class_key, classes_of, memberships}
 use Rattle.odd_meaning.specs.Rules.{Breaks, own_member}
 use Rattle.compile_core.proofs.Deciding.{IsDecided, both_decided, either_decided, none_decided, once_decided, same_decided}
-use Rattle.compile_defines.proofs.Standing.{held_stands}
+use Rattle.compile_contents.proofs.Standing.{held_stands}
 
 module _ (library : Library) where
   abbrev Step : Key → Key → Type 0

@@ -6,7 +6,7 @@ use Rattle.std.specs.declared.cmp.Ordering.TheVariants.{Less, Equal, Greater}
 use Rattle.odd_base.specs.Text.{text_cmp}
 use Rattle.odd_decls.specs.declared.library.Library.{Library}
 use Rattle.odd_forms.proofs.OneSet.{not_below, turned}
-use Rattle.odd_reader.proofs.InList.{stands_push}
+use Rattle.odd_tree.proofs.InList.{stands_push}
 use Rattle.compile_defines.specs.Compiled.{IsMissing}
 use Rattle.compile_core.specs.Schema.{IsLeast, IsLeastMissing, lesser_of}
 

@@ -2,8 +2,8 @@
 use Rattle.std.proofs.Common.{◌≡◌, ◌∙◌, ℕ, ◌+◌, List, [], ◌∷◌, map, refl, sym, ap, subst, rules}
 use Rattle.std.specs.Prelude.{sum_by}
 use Rattle.std.proofs.lemmas.List.Sums.{sum_by-cons}
-use Rattle.odd_reader.specs.Elements.{StandsIn}
-use Rattle.odd_reader.proofs.InList.{stands_first, stands_later}
+use Rattle.odd_tree.specs.Elements.{StandsIn}
+use Rattle.odd_tree.proofs.InList.{stands_first, stands_later}
 use Rattle.rng_patterns.specs.Linked as linked
 use Rattle.rng_patterns.specs.Linked.{HasPart, RefersTo}
 use Rattle.rng_patterns.specs.Nodes.{nodes}

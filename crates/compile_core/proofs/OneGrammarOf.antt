@@ -9,8 +9,8 @@ use Rattle.odd_meaning.specs.Classes.{AreMembers, IsElementOf, IsListed, Members
 use Rattle.rng_patterns.specs.declared.grammar.Define.{Define}
 use Rattle.rng_patterns.specs.declared.grammar.Grammar.{Grammar}
 use Rattle.compile_defines.specs.Compiled.{IsDefineOf, IsGrammarOf, define_cmp}
-use Rattle.compile_defines.specs.ConditionOrder.{condition_total}
-use Rattle.compile_defines.specs.Conditions.{IsConditionOf, condition_cmp}
+use Rattle.compile_contents.specs.ConditionOrder.{condition_total}
+use Rattle.compile_contents.specs.Conditions.{IsConditionOf, condition_cmp}
 use Rattle.compile_defines.proofs.NamedDefines.{define_total}
 
 -- what is listed of a class is one

@@ -7,8 +7,8 @@ use Rattle.odd_base.specs.declared.key.Key.{Key}
 use Rattle.odd_base.specs.declared.key.Kind.{Kind}
 use Rattle.odd_base.specs.declared.key.Kind.TheVariants as kind
 use Rattle.odd_tokens.specs.Characters.{IsNCName}
-use Rattle.odd_reader.specs.Elements.{StandsIn}
-use Rattle.odd_reader.proofs.InList.{contained, map_stands, nothing_stands}
+use Rattle.odd_tree.specs.Elements.{StandsIn}
+use Rattle.odd_tree.proofs.InList.{contained, map_stands, nothing_stands}
 use Rattle.odd_content.specs.declared.content.Condition.{Condition}
 use Rattle.odd_decls.specs.Library.{content_of}
 use Rattle.odd_decls.specs.Odd.{element_key}
@@ -26,8 +26,8 @@ use Rattle.rng_emit.specs.Plain as plain_form
 use Rattle.rng_emit.specs.Plain.{IsPlain, IsPlainBody, IsPlainDefine, IsPlainPattern}
 use Rattle.compile_defines.specs.Compiled as compiled
 use Rattle.compile_defines.specs.Compiled.{HoldsStart, IsDefineOf, IsGrammarOf, class_define, condition_body, element_define, macro_define}
-use Rattle.compile_defines.specs.Conditions.{conditions_in, conditions_of}
-use Rattle.compile_defines.specs.Contents.{condition_name}
+use Rattle.compile_contents.specs.Conditions.{conditions_in, conditions_of}
+use Rattle.compile_contents.specs.Contents.{condition_name}
 use Rattle.compile_defines.specs.Formed.{IsFormed, IsFormedCondition, IsFormedPart}
 use Rattle.compile_core.proofs.Apart.{apart}
 use Rattle.compile_defines.proofs.HeldParts.{listed_is}
@@ -36,7 +36,7 @@ use Rattle.compile_core.proofs.PlainLinked.{pattern_good, start_good}
 use Rattle.compile_core.proofs.PlainNames.{class_ncname, condition_ncname, define_ncname, macro_ncname}
 use Rattle.compile_core.proofs.PlainOrder.{rising_sorted}
 use Rattle.compile_core.proofs.PlainPatterns.{RefersOnly, plain_closed, refers_closed, refers_known}
-use Rattle.compile_defines.proofs.Standing.{each_stands, found}
+use Rattle.compile_contents.proofs.Standing.{each_stands, found}
 
 -- a condition in a formed component is formed
 condition_formed : (k : Kind) (part : Component) (c : Condition) → IsFormedPart k part → StandsIn (conditions_of (content_of part)) c → IsFormedCondition c

@@ -2,7 +2,7 @@
 -- of the start.
 use Rattle.std.proofs.Common.{◌≡◌, ℕ, Bool, true, false, List, Some, refl, sym, subst}
 use Rattle.odd_base.specs.declared.key.Key.{Key}
-use Rattle.odd_reader.specs.Elements.{StandsIn}
+use Rattle.odd_tree.specs.Elements.{StandsIn}
 use Rattle.odd_forms.specs.Sorted.{IsSet}
 use Rattle.odd_content.specs.declared.content.Condition.{Condition}
 use Rattle.odd_content.specs.declared.content.Content.{Content}
@@ -19,14 +19,14 @@ use Rattle.rng_patterns.specs.declared.grammar.Define.{Define}
 use Rattle.rng_patterns.specs.declared.grammar.Expr.{Expr}
 use Rattle.rng_patterns.specs.declared.grammar.Expr.TheVariants as expr
 use Rattle.compile_defines.specs.Compiled as compiled
-use Rattle.compile_defines.specs.Compiled.{HoldsStart, IsDefineOf, class_define, condition_body, condition_define, element_define, macro_define, references_pattern}
-use Rattle.compile_defines.specs.Conditions.{IsConditionOf, condition_cmp, conditions_in, conditions_of}
-use Rattle.compile_defines.specs.Contents.{condition_name, content_pattern, holds_element, reference}
+use Rattle.compile_defines.specs.Compiled.{HoldsStart, IsDefineOf, class_define, condition_body, condition_define, element_define, macro_define}
+use Rattle.compile_contents.specs.Conditions.{IsConditionOf, condition_cmp, conditions_in, conditions_of}
+use Rattle.compile_contents.specs.Contents.{condition_name, content_pattern, holds_element, reference, references_pattern}
 use Rattle.compile_defines.specs.Formed.{IsFormed}
 use Rattle.compile_core.proofs.ClosedContents.{IsGoodFor, content_good}
 use Rattle.compile_counts.proofs.ClosedPatterns.{IsClosed, references_good}
 use Rattle.compile_defines.proofs.HeldParts.{entry_stands, listed_is}
-use Rattle.compile_defines.proofs.Holds.{HoldsElementAt, element_found, macro_found}
+use Rattle.compile_contents.proofs.Holds.{HoldsElementAt, element_found, macro_found}
 use Rattle.compile_counts.proofs.PlainDefines.{IsBodyOf, condition_body_is, element, nothing, throughout_good}
 
 module _ (library : Library) (conditions : List Condition) (members : Members) (are_conditions : IsSet condition_cmp (IsConditionOf library) conditions) (are_members : AreMembers library members)

@@ -11,7 +11,7 @@ use Rattle.odd_tokens.specs.Characters.{IsNCName, is_name_char, is_name_start, i
 use Rattle.odd_tokens.proofs.Ascii.{ascii_name, ascii_ncname, is_ascii_name}
 use Rattle.odd_tokens.proofs.NamesLexed.{ncname_chars}
 use Rattle.odd_content.specs.declared.content.Condition.{Condition}
-use Rattle.compile_defines.specs.Contents.{class_name, condition_name, define_name, macro_name, number_of}
+use Rattle.compile_contents.specs.Contents.{class_name, condition_name, define_name, macro_name, number_of}
 
 -- an ident after a letter and a point makes a name
 module _ (prefix : List ℕ) (named : is_ascii_name prefix ≡ true) (front : (cs : List ℕ) → list_all is_name_char cs ≡ true → is_ncname (prefix ++ cs) ≡ true) where

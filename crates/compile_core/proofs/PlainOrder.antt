@@ -8,15 +8,15 @@ use Rattle.std.specs.declared.cmp.Ordering.TheVariants.{Less}
 use Rattle.std.proofs.lemmas.Bool.{and_from}
 use Rattle.std.proofs.lemmas.Cmp.{nat_list_cmp_total}
 use Rattle.odd_base.specs.Text.{text_cmp}
-use Rattle.odd_reader.specs.Elements.{StandsIn}
+use Rattle.odd_tree.specs.Elements.{StandsIn}
 use Rattle.odd_forms.proofs.OneSet.{rest_rising}
 use Rattle.odd_forms.specs.Sorted.{AreRising}
 use Rattle.rng_patterns.specs.Denoting.{entry_of}
 use Rattle.rng_patterns.specs.declared.grammar.Define.{Define}
 use Rattle.compile_defines.specs.Compiled.{define_cmp}
 use Rattle.compile_defines.proofs.NamedDefines.{define_total}
-use Rattle.compile_defines.proofs.Standing as standing
-use Rattle.odd_reader.proofs.InList.{map_stands}
+use Rattle.compile_contents.proofs.Standing as standing
+use Rattle.odd_tree.proofs.InList.{map_stands}
 
 -- the name is below those of some defines
 abbrev IsBelow : List ℕ → List Define → Type 0

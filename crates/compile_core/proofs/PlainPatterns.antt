@@ -2,7 +2,7 @@
 use Rattle.std.proofs.Common.{◌≡◌, ℕ, List, [], ◌∷◌, inl, inr, refl, subst, rules}
 use Rattle.std.specs.Prelude.{All}
 use Rattle.std.proofs.lemmas.List.Elements.{All-nil, All-cons, All-contains, All-head, All-tail}
-use Rattle.odd_reader.proofs.InList.{contained, nothing_stands}
+use Rattle.odd_tree.proofs.InList.{contained, nothing_stands}
 use Rattle.rng_patterns.specs.Linked.{RefersTo}
 use Rattle.rng_patterns.specs.declared.grammar.Expr as E
 use Rattle.rng_patterns.specs.declared.grammar.Expr.TheOpen as shape

@@ -13,7 +13,7 @@ use Rattle.rng_patterns.specs.declared.grammar.Grammar.{Grammar}
 use Rattle.rng_emit.specs.Nodes.{text_nodes}
 use Rattle.compile_defines.specs.Blocks.{IsConditionDefine, grammar_with}
 use Rattle.compile_defines.specs.Compiled.{HoldsStart, IsDefineOf, IsGrammarOf, define_cmp}
-use Rattle.compile_defines.specs.Conditions.{IsConditionOf, condition_cmp}
+use Rattle.compile_contents.specs.Conditions.{IsConditionOf, condition_cmp}
 use Rattle.compile_counts.specs.Counted.{counted}
 use Rattle.compile_counts.specs.Linking.{HoldsConditions, IsLinkedCount, nodes_by}
 use Rattle.compile_core.specs.Schema.{HasLargeSchema, IsTooLarge}
@@ -22,7 +22,7 @@ use Rattle.compile_core.proofs.BlocksSet.{defines_are, made}
 use Rattle.compile_core.proofs.LinkedCount.{linked_count}
 use Rattle.compile_laws.proofs.MacroLaw.{BreaksNone}
 use Rattle.compile_core.proofs.PlainOrder.{found}
-use Rattle.compile_defines.proofs.Standing.{each_stands}
+use Rattle.compile_contents.proofs.Standing.{each_stands}
 
 module _ (library : Library) (start : List (List ℕ)) (conditions : List Condition) (members : Members) (before : List Define) (up : IsTrue (is_sorted key_cmp library.parts))
     (holds : HoldsStart library start) (are_members : AreMembers library members) (are_conditions : IsSet condition_cmp (IsConditionOf library) conditions)

@@ -16,9 +16,9 @@ use Rattle.rng_patterns.specs.declared.grammar.Define.{Define}
 use Rattle.rng_emit.specs.Grammar.{define_markup}
 use Rattle.rng_emit.specs.Nodes.{elements_in}
 use Rattle.compile_defines.specs.Blocks.{IsConditionDefine, class_at, class_defines, component_defines, element_defines, entry_defines, grammar_with, listed_defines, macro_defines}
-use Rattle.compile_defines.specs.Compiled.{HoldsStart, define_cmp, references_pattern}
-use Rattle.compile_defines.specs.Conditions.{IsConditionOf, condition_cmp}
-use Rattle.compile_defines.specs.Contents.{define_name, reference}
+use Rattle.compile_defines.specs.Compiled.{HoldsStart, define_cmp}
+use Rattle.compile_contents.specs.Conditions.{IsConditionOf, condition_cmp}
+use Rattle.compile_contents.specs.Contents.{define_name, reference, references_pattern}
 use Rattle.compile_core.specs.Schema.{HasLargeSchema}
 use Rattle.compile_core.proofs.BlocksSet.{made}
 use Rattle.compile_counts.proofs.DefineCounts.{text_parts}

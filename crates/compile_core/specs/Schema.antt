@@ -5,7 +5,7 @@ use Rattle.odd_base.specs.Text.{text_cmp}
 use Rattle.odd_base.specs.declared.offence.Offence.{Offence}
 use Rattle.odd_base.specs.declared.offence.Who.TheVariants as who
 use Rattle.odd_decls.specs.declared.library.Library.{Library}
-use Rattle.odd_reader.specs.Elements.{StandsIn}
+use Rattle.odd_tree.specs.Elements.{StandsIn}
 use Rattle.rng_patterns.specs.Nodes.{linked_nodes}
 use Rattle.rng_patterns.specs.declared.grammar.Grammar.{Grammar}
 use Rattle.rng_emit.specs.Nodes.{text_nodes}

@@ -1,7 +1,7 @@
 ghost use Rattle.std.specs.Prelude.{◌≡◌, ◌↔◌, ◌<◌, ℕ, List, IfErr, IfOk, Some, Err, IsOk, IsTrue};
 ghost use Rattle.std.specs.FinMap.{is_sorted};
 ghost use Rattle.std.specs.Option.{option_copied};
-ghost use Rattle.odd_reader.specs.declared.tree.Tree.{Tree as ATree};
+ghost use Rattle.odd_tree.specs.declared.tree.Tree.{Tree as ATree};
 ghost use Rattle.odd_base.specs.Key.{key_cmp};
 ghost use Rattle.odd_base.specs.declared.key.Key.{Key as AKey};
 ghost use Rattle.odd_base.specs.declared.offence.Offence.{Offence as AnOffence};
@@ -14,15 +14,14 @@ ghost use Rattle.rng_patterns.specs.Acceptance.{Accepts};
 ghost use Rattle.rng_emit.specs.Plain.{IsPlain};
 ghost use Rattle.compile_defines.specs.Blocks.{IsConditionDefine, grammar_with};
 ghost use Rattle.compile_defines.specs.Compiled.{HoldsStart, IsGrammarOf, define_cmp};
-ghost use Rattle.compile_defines.specs.Conditions.{IsConditionOf, condition_cmp};
-ghost use Rattle.compile_defines.specs.Contents.{listed_in};
+ghost use Rattle.compile_contents.specs.Conditions.{IsConditionOf, condition_cmp};
+ghost use Rattle.compile_contents.specs.Contents.{listed_in};
 ghost use Rattle.compile_defines.specs.Formed.{IsFormed};
 ghost use Rattle.compile_core.specs.Schema.{HasLargeSchema, IsLeast, IsOfMembers, IsStartOffence, IsTooLarge, lesser_of};
 
+use compile_contents::{conditions_of, holds_element, references_pattern};
 use compile_counts::{linked_nodes, text_nodes};
-use compile_defines::{
-    condition_defines, conditions_of, holds_element, library_defines, references_pattern,
-};
+use compile_defines::{condition_defines, library_defines};
 use odd_base::{NoMemory, Offence, Text, TryCopy, Who, Words};
 use odd_classes::{MemberTable, TableRefusal, members_by_class};
 use odd_decls::Library;

@@ -5,19 +5,18 @@ use Rattle.std.proofs.lemmas.Cmp.{nat_list_cmp_total}
 use Rattle.std.specs.FinMap.{is_sorted, nat_cmp-IsAntisymmetric, slice_cmp-IsAntisymmetric}
 use Rattle.odd_base.specs.Map.{SetsOnly}
 use Rattle.odd_base.specs.Text.{text_cmp}
-use Rattle.odd_reader.specs.Elements.{StandsIn}
-use Rattle.odd_reader.proofs.InList.{nothing_stands, stands_push}
+use Rattle.odd_tree.specs.Elements.{StandsIn}
+use Rattle.odd_tree.proofs.InList.{nothing_stands, stands_push}
 use Rattle.odd_content.specs.declared.content.Condition.{Condition}
 use Rattle.odd_decls.specs.declared.library.Library.{Library}
 use Rattle.rng_patterns.specs.Nodes.{nodes}
-use Rattle.compile_defines.specs.Compiled.{references_pattern}
-use Rattle.compile_defines.specs.Contents.{class_name, define_name, listed_in, macro_name}
+use Rattle.compile_contents.specs.Contents.{class_name, define_name, listed_in, macro_name, references_pattern}
 use Rattle.compile_counts.specs.Counted.{counted}
 use Rattle.compile_counts.specs.Linking.{AreWeightsOf, IsLinkedCount}
 use Rattle.compile_counts.specs.Weights.{weight_in}
 use Rattle.compile_counts.proofs.MacroAdded.{class_or_macro}
 use Rattle.compile_counts.proofs.PutWeights.{weight_put}
-use Rattle.compile_defines.proofs.Standing.{found, held_stands}
+use Rattle.compile_contents.proofs.Standing.{found, held_stands}
 
 -- the number is that of the nodes of references to these elements, by each count of one for each
 abbrev pub CountsReferences : List (List ℕ) → ℕ → Type 0
@@ -27,10 +26,6 @@ CountsReferences idents n = (count : List ℕ → ℕ) → ((ident : List ℕ) �
 pub record AreClassWeights (entries : List (List ℕ × List (List ℕ))) (weights : List (List ℕ × ℕ)) : Type 0 where
   pub classes : (class : List ℕ) (idents : List (List ℕ)) → StandsIn entries (class, idents) → CountsReferences idents (weight_in weights (class_name class))
   pub macros : (ident : List ℕ) → weight_in weights (macro_name ident) ≡ 1
-
--- of none so far
-pub none_weighed : AreClassWeights [] []
-none_weighed = record { classes = λ class idents s. absurd (nothing_stands (class, idents) s); macros = λ ident. refl }
 
 module _ (entries : List (List ℕ × List (List ℕ))) (up : IsTrue (is_sorted text_cmp entries)) where
   one_class : (a b : List ℕ) → class_name a ≡ class_name b → a ≡ b

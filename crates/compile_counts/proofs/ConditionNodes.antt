@@ -1,7 +1,7 @@
 -- How many nodes the define of a condition has after linking.
 use Rattle.std.proofs.Common.{◌≡◌, ◌∙◌, ℕ, List, [], ◌∷◌, sym, ap, subst, arith}
 use Rattle.std.proofs.lemmas.List.Sums.{sum_by-cons}
-use Rattle.odd_reader.specs.Elements.{StandsIn}
+use Rattle.odd_tree.specs.Elements.{StandsIn}
 use Rattle.odd_content.specs.declared.content.Condition.{Condition}
 use Rattle.rng_patterns.specs.Nodes.{element_nodes, nodes}
 use Rattle.rng_patterns.specs.declared.grammar.AttrPart.{AttrPart}
@@ -13,7 +13,7 @@ use Rattle.rng_patterns.specs.declared.grammar.Expr.TheVariants as expr
 use Rattle.rng_patterns.specs.declared.grammar.NameClass.{NameClass}
 use Rattle.compile_defines.specs.Blocks.{IsConditionDefine}
 use Rattle.compile_defines.specs.Compiled.{content_throughout}
-use Rattle.compile_defines.specs.Contents.{condition_name}
+use Rattle.compile_contents.specs.Contents.{condition_name}
 use Rattle.compile_counts.proofs.NodeMeasure.{nodes_measure, ref_nodes}
 use Rattle.compile_counts.proofs.PlainDefines.{IsBodyOf, condition_body_is, element, nothing}
 

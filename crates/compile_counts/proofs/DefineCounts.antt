@@ -3,7 +3,7 @@ use Rattle.std.proofs.Common.{◌≡◌, ◌∙◌, ◌<◌, ◌^◌, ℕ, zero,
 use Rattle.std.specs.Prelude.{sum_by}
 use Rattle.std.proofs.lemmas.List.Sums.{sum_by-append, sum_by-cons}
 use Rattle.odd_base.specs.declared.name.Name.{Name}
-use Rattle.odd_reader.specs.Markup.{Markup, Pair, element}
+use Rattle.odd_tree.specs.Markup.{Markup, Pair, element}
 use Rattle.rng_patterns.specs.declared.grammar.AttrPart.TheVariants as attributes
 use Rattle.rng_patterns.specs.declared.grammar.Body.TheVariants as body
 use Rattle.rng_patterns.specs.declared.grammar.Define.{Define}
@@ -13,8 +13,7 @@ use Rattle.rng_patterns.specs.declared.grammar.NameClass.TheVariants as class
 use Rattle.rng_patterns.specs.declared.grammar.NsPart.{NsPart}
 use Rattle.rng_emit.specs.Grammar.{all_of, class_markup, define_markup, except_markup, name_markup, part_markup, space_markup}
 use Rattle.rng_emit.specs.Nodes.{elements_in, text_nodes}
-use Rattle.compile_defines.specs.Compiled.{references_pattern}
-use Rattle.compile_defines.specs.Contents.{define_name, reference}
+use Rattle.compile_contents.specs.Contents.{define_name, reference, references_pattern}
 use Rattle.compile_counts.specs.Counted.{counted, excepting_nodes, grouped_nodes}
 use Rattle.compile_counts.proofs.GroupCounts.{choice_of_ones}
 use Rattle.compile_counts.proofs.PatternCounts.{among_sum, elements_measured, pattern_elements, ref_elements, some_elements}

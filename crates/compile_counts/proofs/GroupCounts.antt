@@ -2,10 +2,10 @@
 use Rattle.std.proofs.Common.{◌≡◌, ◌∙◌, ◌<◌, ◌^◌, ℕ, List, [], ◌∷◌, length, map, sym, ap, arith}
 use Rattle.std.specs.Prelude.{sum_by}
 use Rattle.std.proofs.lemmas.List.{length-map}
-use Rattle.odd_reader.specs.Elements.{StandsIn}
+use Rattle.odd_tree.specs.Elements.{StandsIn}
 use Rattle.rng_patterns.specs.declared.grammar.Expr.{Expr}
 use Rattle.compile_counts.specs.Counted.{counted, grouped_nodes}
-use Rattle.compile_defines.specs.Repeating.{choice_pattern, group_pattern}
+use Rattle.compile_contents.specs.Repeating.{choice_pattern, group_pattern}
 use Rattle.compile_counts.specs.Weights.{IsMeasure}
 use Rattle.compile_counts.proofs.Sums.{one_each, sum_by-map}
 

@@ -5,7 +5,7 @@ use Rattle.std.proofs.lemmas.List.Sums.{sum_by-append, sum_by-cons}
 use Rattle.odd_base.specs.declared.key.Key.{Key}
 use Rattle.odd_base.specs.declared.key.Kind.{Kind}
 use Rattle.odd_base.specs.declared.key.Kind.TheVariants as kind
-use Rattle.odd_reader.specs.Elements.{StandsIn}
+use Rattle.odd_tree.specs.Elements.{StandsIn}
 use Rattle.odd_content.specs.declared.content.Condition.{Condition}
 use Rattle.odd_decls.specs.declared.library.Component.{Component}
 use Rattle.odd_decls.specs.declared.library.Component.TheVariants as component
@@ -14,8 +14,8 @@ use Rattle.odd_meaning.specs.Classes.{Members}
 use Rattle.rng_patterns.specs.Nodes.{element_nodes, nodes}
 use Rattle.rng_patterns.specs.declared.grammar.Define.{Define}
 use Rattle.compile_defines.specs.Blocks.{class_defines, element_defines, grammar_with, listed_defines, macro_defines}
-use Rattle.compile_defines.specs.Compiled.{HoldsStart, references_pattern}
-use Rattle.compile_defines.specs.Contents.{define_name, holds_element, reference}
+use Rattle.compile_defines.specs.Compiled.{HoldsStart}
+use Rattle.compile_contents.specs.Contents.{define_name, holds_element, reference, references_pattern}
 use Rattle.compile_counts.specs.Counted.{counted, grouped_nodes}
 use Rattle.compile_counts.specs.Linking.{IsLinkedCount, elements_nodes, nodes_by}
 use Rattle.compile_counts.proofs.GroupCounts.{choice_of_ones}

@@ -4,7 +4,7 @@ use Rattle.std.specs.Prelude.{Some, sum_by}
 use Rattle.std.specs.FinMap.{find}
 use Rattle.std.specs.Option.{is_some}
 use Rattle.odd_base.specs.Key.{key_cmp}
-use Rattle.odd_reader.specs.Elements.{StandsIn}
+use Rattle.odd_tree.specs.Elements.{StandsIn}
 use Rattle.odd_content.specs.declared.content.Condition.{Condition}
 use Rattle.odd_content.specs.declared.content.Content.{Content}
 use Rattle.odd_decls.specs.declared.library.Component.TheVariants as component
@@ -16,14 +16,14 @@ use Rattle.odd_meaning.specs.Links.{is_macro, macro_key, named_in}
 use Rattle.rng_patterns.specs.Nodes.{element_nodes, nodes}
 use Rattle.rng_patterns.specs.declared.grammar.Expr.TheVariants as expr
 use Rattle.compile_defines.specs.Compiled.{element_define}
-use Rattle.compile_defines.specs.Conditions.{conditions_in}
-use Rattle.compile_defines.specs.Contents.{class_name, condition_name, content_pattern, define_name, holds_element, holds_macro, macro_name, reference}
+use Rattle.compile_contents.specs.Conditions.{conditions_in}
+use Rattle.compile_contents.specs.Contents.{class_name, condition_name, content_pattern, define_name, holds_element, holds_macro, macro_name, reference}
 use Rattle.compile_counts.specs.Counted.{counted}
 use Rattle.compile_counts.specs.Linking.{AreWeightsOf, HoldsConditions, IsLinkedCount, StandsAfter}
 use Rattle.compile_counts.specs.Weights.{AreWeighed, weight_in}
-use Rattle.compile_defines.proofs.Filtered.{stands_filter}
+use Rattle.compile_contents.proofs.Filtered.{stands_filter}
 use Rattle.compile_defines.proofs.HeldParts.{entry_stands}
-use Rattle.compile_defines.proofs.Holds.{macro_found}
+use Rattle.compile_contents.proofs.Holds.{macro_found}
 use Rattle.compile_counts.proofs.NodeMeasure.{nodes_measure, ref_nodes}
 
 module _ (library : Library) (conditions : List Condition) (members : Members) (count : List ℕ → ℕ) (linked : IsLinkedCount library conditions members count) where

@@ -8,8 +8,8 @@ use Rattle.odd_base.specs.Key.{key_cmp}
 use Rattle.odd_base.specs.Map.{SetsOnly}
 use Rattle.odd_base.specs.Text.{text_cmp}
 use Rattle.odd_base.specs.declared.key.Key.{Key}
-use Rattle.odd_reader.specs.Elements.{StandsIn}
-use Rattle.odd_reader.proofs.InList.{nothing_stands, stands_push}
+use Rattle.odd_tree.specs.Elements.{StandsIn}
+use Rattle.odd_tree.proofs.InList.{nothing_stands, stands_push}
 use Rattle.odd_decls.specs.declared.library.Component.{Component}
 use Rattle.odd_decls.specs.declared.library.Component.TheVariants as component
 use Rattle.odd_decls.specs.declared.library.Library.{Library}
@@ -18,7 +18,7 @@ use Rattle.odd_meaning.specs.Classes.{Members}
 use Rattle.odd_meaning.specs.Links.{macro_key}
 use Rattle.odd_meaning.specs.Rules.{Breaks, reaches_itself}
 use Rattle.odd_classes.specs.Ranking.{IsMacroOrder}
-use Rattle.compile_defines.specs.Contents.{class_name, macro_name, holds_macro}
+use Rattle.compile_contents.specs.Contents.{class_name, macro_name, holds_macro}
 use Rattle.compile_counts.specs.Counted.{counted}
 use Rattle.compile_counts.specs.Linking.{AreLinkedWeights, AreWeightsOf, macro_in}
 use Rattle.compile_counts.specs.Weights.{weight_in}

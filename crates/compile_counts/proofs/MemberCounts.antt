@@ -5,12 +5,12 @@ use Rattle.odd_content.specs.declared.content.Pick.{Pick}
 use Rattle.odd_content.specs.declared.content.Pick.TheVariants as pick
 use Rattle.odd_meaning.specs.Classes.{Members}
 use Rattle.rng_patterns.specs.declared.grammar.Expr.{Expr}
-use Rattle.compile_defines.specs.Contents.{members_pattern, reference}
+use Rattle.compile_contents.specs.Contents.{members_pattern, reference}
 use Rattle.compile_counts.specs.Counted.{counted, grouped_nodes}
-use Rattle.compile_defines.specs.Repeating.{choice_pattern}
+use Rattle.compile_contents.specs.Repeating.{choice_pattern}
 use Rattle.compile_counts.specs.Weights.{AreMembersWeighed, IsMeasure}
 use Rattle.compile_counts.proofs.GroupCounts.{choice_of_ones}
-use Rattle.compile_defines.proofs.Standing.{filter_stands}
+use Rattle.compile_contents.proofs.Standing.{filter_stands}
 
 -- the reference says which members
 abbrev pub SaysWhich : Pick → Type 0

@@ -2,7 +2,7 @@
 use Rattle.std.proofs.Common.{◌≡◌, ◌<◌, ℕ, ◌+◌, List, [], ◌∷◌, map, refl, sym, ap, arith, ◌∙◌}
 use Rattle.std.specs.Prelude.{sum_by}
 use Rattle.std.proofs.lemmas.List.Sums.{sum_by-cons}
-use Rattle.odd_reader.specs.Markup.{Markup, element, line}
+use Rattle.odd_tree.specs.Markup.{Markup, element, line}
 use Rattle.rng_patterns.specs.declared.grammar.Expr.TheVariants as expr
 use Rattle.rng_patterns.specs.declared.grammar.Expr.{Expr}
 use Rattle.rng_emit.specs.Grammar.{all_of, pattern_markup}

@@ -7,7 +7,7 @@ use Rattle.std.proofs.Math.ListN.{length-append, length-replicate}
 use Rattle.rng_patterns.specs.declared.grammar.Expr.TheVariants as expr
 use Rattle.rng_patterns.specs.declared.grammar.Expr.{Expr}
 use Rattle.compile_counts.specs.Counted.{counted, grouped_nodes}
-use Rattle.compile_defines.specs.Repeating.{group_pattern, repeated_within}
+use Rattle.compile_contents.specs.Repeating.{group_pattern, repeated_within}
 use Rattle.compile_counts.specs.Weights.{IsMeasure}
 use Rattle.compile_counts.proofs.Counts.{counted_more, counted_product, counted_sum}
 use Rattle.compile_counts.proofs.GroupCounts.{group_from}

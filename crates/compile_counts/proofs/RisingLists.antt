@@ -7,13 +7,13 @@ use Rattle.std.specs.declared.cmp.Ordering.{Ordering}
 use Rattle.std.specs.declared.cmp.Ordering.TheVariants.{Less}
 use Rattle.std.proofs.lemmas.Bool.{and_parts}
 use Rattle.std.proofs.lemmas.List.{length-append}
-use Rattle.odd_reader.specs.Elements.{StandsIn}
-use Rattle.odd_reader.proofs.InList.{stands_first, stands_later}
+use Rattle.odd_tree.specs.Elements.{StandsIn}
+use Rattle.odd_tree.proofs.InList.{stands_first, stands_later}
 use Rattle.odd_forms.proofs.OneSet.{first_below, rest_rising}
 use Rattle.odd_forms.specs.Sorted.{AreRising}
 use Rattle.odd_forms.proofs.SetOf.{rising_more}
-use Rattle.compile_defines.proofs.Collected.{collected_stands}
-use Rattle.compile_defines.proofs.Standing.{is_less, stands_either}
+use Rattle.compile_contents.proofs.Collected.{collected_stands}
+use Rattle.compile_contents.proofs.Standing.{is_less, stands_either}
 
 module _ {A : Type 0} (order : A → A → Ordering) (total : IsTotalOrder order) where
   -- at most one item rises

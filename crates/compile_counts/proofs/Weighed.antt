@@ -4,7 +4,7 @@ use Rattle.std.proofs.Common.{◌≡◌, ◌∙◌, ℕ, Bool, true, false, if�
 use Rattle.std.specs.Prelude.{All, flat_map}
 use Rattle.rng_values.specs.declared.bounds.Bounds.{Bounds}
 use Rattle.odd_base.specs.declared.key.Key.{Key}
-use Rattle.odd_reader.specs.Elements.{StandsIn}
+use Rattle.odd_tree.specs.Elements.{StandsIn}
 use Rattle.odd_content.specs.declared.content.Condition.{Condition}
 use Rattle.odd_content.specs.declared.content.Content.{Content, Sequence, Alternate}
 use Rattle.odd_decls.specs.Odd.{element_key}
@@ -13,15 +13,15 @@ use Rattle.odd_meaning.specs.Classes.{Members}
 use Rattle.odd_meaning.specs.Links.{class_key, macro_key, named_in}
 use Rattle.rng_patterns.specs.declared.grammar.Expr.{Expr}
 use Rattle.rng_patterns.specs.declared.grammar.Expr.TheVariants as expr
-use Rattle.compile_defines.specs.Conditions.{conditions_in}
-use Rattle.compile_defines.specs.Contents.{class_name, condition_name, define_name, holds_element, holds_macro, macro_name}
+use Rattle.compile_contents.specs.Conditions.{conditions_in}
+use Rattle.compile_contents.specs.Contents.{class_name, condition_name, define_name, holds_element, holds_macro, macro_name}
 use Rattle.compile_counts.specs.Counted.{counted}
 use Rattle.compile_counts.specs.Weights.{AreMembersWeighed, AreWeighed, weight_in}
-use Rattle.compile_defines.proofs.Collected.{stands_collected}
-use Rattle.compile_defines.proofs.ContentParts.{alternate_conditions, sequence_conditions}
+use Rattle.compile_contents.proofs.Collected.{stands_collected}
+use Rattle.compile_contents.proofs.ContentParts.{alternate_conditions, sequence_conditions}
 use Rattle.odd_classes.proofs.NamedParts.{alternate_named, sequence_named}
 use Rattle.compile_counts.proofs.PatternCounts.{not_allowed_elements, pattern_elements, ref_elements}
-use Rattle.compile_defines.proofs.Standing.{each_stands}
+use Rattle.compile_contents.proofs.Standing.{each_stands}
 
 module _ (library : Library) (conditions : List Condition) (members : Members) (weights : List (List ℕ × ℕ)) where
   module _ (measure : Expr → ℕ) where

@@ -2,7 +2,7 @@
 use Rattle.std.specs.Prelude.{◌≡◌, ◌+◌, ℕ, true, false, List, Option, Some, None, flat_map, sum_by}
 use Rattle.std.specs.FinMap.{find}
 use Rattle.odd_base.specs.Key.{key_cmp}
-use Rattle.odd_reader.specs.Elements.{StandsIn}
+use Rattle.odd_tree.specs.Elements.{StandsIn}
 use Rattle.odd_content.specs.declared.content.Condition.{Condition}
 use Rattle.odd_decls.specs.declared.library.Component.{Component}
 use Rattle.odd_decls.specs.declared.library.Component.TheVariants as component
@@ -13,9 +13,8 @@ use Rattle.odd_meaning.specs.Links.{IsLinked, macro_key, macros_of}
 use Rattle.rng_patterns.specs.Nodes.{element_nodes, nodes}
 use Rattle.rng_patterns.specs.declared.grammar.Grammar.{Grammar}
 use Rattle.compile_defines.specs.Blocks.{element_defines}
-use Rattle.compile_defines.specs.Compiled.{references_pattern}
-use Rattle.compile_defines.specs.Conditions.{IsConditionOf}
-use Rattle.compile_defines.specs.Contents.{class_name, condition_name, content_pattern, define_name, holds_element, holds_macro, macro_name}
+use Rattle.compile_contents.specs.Conditions.{IsConditionOf}
+use Rattle.compile_contents.specs.Contents.{class_name, condition_name, content_pattern, define_name, holds_element, holds_macro, macro_name, references_pattern}
 use Rattle.compile_counts.specs.Counted.{counted}
 use Rattle.compile_counts.specs.Weights.{weight_in}
 

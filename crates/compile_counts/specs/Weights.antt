@@ -2,7 +2,7 @@
 use Rattle.std.specs.Prelude.{◌≡◌, ◌+◌, ℕ, List, Some, sum_by, unwrap_or}
 use Rattle.std.specs.FinMap.{find}
 use Rattle.odd_base.specs.Text.{text_cmp}
-use Rattle.odd_reader.specs.Elements.{StandsIn}
+use Rattle.odd_tree.specs.Elements.{StandsIn}
 use Rattle.odd_content.specs.declared.content.Condition.{Condition}
 use Rattle.odd_content.specs.declared.content.Content.{Content}
 use Rattle.odd_decls.specs.Odd.{element_key}
@@ -11,8 +11,8 @@ use Rattle.odd_meaning.specs.Classes.{Members}
 use Rattle.odd_meaning.specs.Links.{class_key, macro_key, named_in}
 use Rattle.rng_patterns.specs.declared.grammar.Expr.{Expr}
 use Rattle.rng_patterns.specs.declared.grammar.Expr.TheVariants as expr
-use Rattle.compile_defines.specs.Conditions.{conditions_in}
-use Rattle.compile_defines.specs.Contents.{class_name, condition_pattern, element_pattern, macro_name, macro_pattern, reference}
+use Rattle.compile_contents.specs.Conditions.{conditions_in}
+use Rattle.compile_contents.specs.Contents.{class_name, condition_pattern, element_pattern, macro_name, macro_pattern, reference}
 use Rattle.compile_counts.specs.Counted.{counted}
 
 -- how many nodes a reference to a name counts: one where nothing is said of the name

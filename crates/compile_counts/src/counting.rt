@@ -4,13 +4,13 @@ ghost use Rattle.odd_decls.specs.declared.library.Library.{Library as ALibrary};
 ghost use Rattle.rng_emit.specs.Grammar.{class_markup, define_markup, part_markup};
 ghost use Rattle.rng_emit.specs.Nodes.{elements_in, text_nodes as the_text_nodes};
 ghost use Rattle.compile_defines.specs.Blocks.{IsConditionDefine, component_defines, entry_defines, grammar_with, listed_defines};
-ghost use Rattle.compile_defines.specs.Contents.{content_pattern, listed_in, members_pattern};
+ghost use Rattle.compile_contents.specs.Contents.{content_pattern, listed_in, members_pattern};
 ghost use Rattle.compile_counts.specs.Counted.{counted, excepting_nodes as the_excepting_nodes, grouped_nodes as the_grouped_nodes};
-ghost use Rattle.compile_defines.specs.Repeating.{choice_pattern, group_pattern, repeated};
+ghost use Rattle.compile_contents.specs.Repeating.{choice_pattern, group_pattern, repeated};
 ghost use Rattle.compile_counts.specs.Weights.{AreMembersWeighed, AreWeighed, IsMeasure, weight_in};
 ghost use Rattle.rng_patterns.specs.declared.grammar.Expr.{Expr as AnExpr};
 
-use compile_defines::{class_name, macro_name, picked};
+use compile_contents::{class_name, macro_name, picked};
 use odd_base::{Key, Kind, Map, NoMemory, Text, Words};
 use odd_classes::MemberTable;
 use odd_content::{Content, Contents, Pick};

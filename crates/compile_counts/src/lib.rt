@@ -1,8 +1,8 @@
 //! How large the schema of a library is, counted before a pattern is made of any content.
 #![tactic(auto)]
 
-pub mod counting;
-pub mod linking;
+mod counting;
+mod linking;
 
 pub use counting::text_nodes;
 pub use linking::linked_nodes;

@@ -4,7 +4,7 @@ use Rattle.std.specs.FinMap.{find}
 use Rattle.odd_base.specs.Key.{key_cmp}
 use Rattle.odd_base.specs.KeyOrder.{key_total, key_exact}
 use Rattle.odd_base.specs.declared.key.Key.{Key}
-use Rattle.odd_reader.specs.Elements.{StandsIn}
+use Rattle.odd_tree.specs.Elements.{StandsIn}
 use Rattle.odd_graph.proofs.Chains.{first_step}
 use Rattle.odd_decls.specs.Odd.{element_key}
 use Rattle.odd_decls.specs.declared.library.Component.{Component}
@@ -13,8 +13,8 @@ use Rattle.odd_decls.specs.declared.library.Library.{Library}
 use Rattle.odd_meaning.specs.Classes.{AreMembers, IsElementOf, IsListed, IsMember, Members}
 use Rattle.odd_meaning.specs.Links.{IsLinked, class_key, classes_of}
 use Rattle.compile_defines.specs.Formed.{IsFormed}
-use Rattle.compile_defines.proofs.Holds.{HoldsElementAt}
-use Rattle.compile_defines.proofs.Standing.{held_stands}
+use Rattle.compile_contents.proofs.Holds.{HoldsElementAt}
+use Rattle.compile_contents.proofs.Standing.{held_stands}
 
 -- what is found at a key is an entry of the library
 pub entry_stands : (library : Library) (key : Key) (part : Component) → find key_cmp key library.parts ≡ Some part → StandsIn library.parts (key, part)

@@ -1,13 +1,5 @@
-pub mod Bounded
 pub mod BySpace
-pub mod Collected
-pub mod ContentParts
 pub mod Examples
-pub mod Filtered
 pub mod HeldParts
-pub mod Holds
 pub mod NamedDefines
-pub mod Ranks
 pub mod Spaces
-pub mod Standing
-pub mod Wanted

@@ -15,17 +15,17 @@ use Rattle.std.specs.Ordering.{eq_by_cmp, is_eq, is_lt, ordering_reverse}
 use Rattle.std.specs.declared.cmp.Ordering.{Ordering}
 use Rattle.std.specs.declared.cmp.Ordering.TheVariants.{Less, Equal, Greater}
 use Rattle.odd_content.specs.declared.content.Condition.{Condition}
-use Rattle.odd_reader.specs.Elements.{StandsIn}
-use Rattle.odd_reader.proofs.InList.{contained, map_stands, standing, stands_first, stands_later, stands_map}
+use Rattle.odd_tree.specs.Elements.{StandsIn}
+use Rattle.odd_tree.proofs.InList.{contained, map_stands, standing, stands_first, stands_later, stands_map}
 use Rattle.odd_forms.proofs.OneSet.{first_below, rest_rising}
 use Rattle.odd_forms.specs.Sorted.{AreRising, IsSet}
 use Rattle.rng_patterns.specs.declared.grammar.Define.{Define}
 use Rattle.compile_defines.specs.Blocks.{IsConditionDefine}
 use Rattle.compile_defines.specs.Compiled.{condition_define, define_cmp}
-use Rattle.compile_defines.specs.ConditionOrder.{condition_total}
-use Rattle.compile_defines.specs.Conditions.{condition_cmp}
-use Rattle.compile_defines.specs.Contents.{condition_name, number_of}
-use Rattle.compile_defines.proofs.Standing.{is_less}
+use Rattle.compile_contents.specs.ConditionOrder.{condition_total}
+use Rattle.compile_contents.specs.Conditions.{condition_cmp}
+use Rattle.compile_contents.specs.Contents.{condition_name, number_of}
+use Rattle.compile_contents.proofs.Standing.{is_less}
 use Rattle.std.proofs.lemmas.Bool.{false_from_ne_true}
 
 -- what neither falls nor ties is less

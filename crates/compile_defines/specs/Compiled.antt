@@ -5,7 +5,7 @@ use Rattle.std.specs.List.{list_any}
 use Rattle.odd_base.specs.Key.{key_cmp}
 use Rattle.odd_base.specs.Text.{text_cmp}
 use Rattle.odd_tokens.specs.Same.{is_same}
-use Rattle.odd_reader.specs.Elements.{StandsIn}
+use Rattle.odd_tree.specs.Elements.{StandsIn}
 use Rattle.odd_forms.specs.Sorted.{IsSet}
 use Rattle.odd_content.specs.declared.content.Condition.{Condition}
 use Rattle.odd_decls.specs.Odd.{element_key}
@@ -25,13 +25,8 @@ use Rattle.rng_patterns.specs.declared.grammar.Grammar.{Grammar}
 use Rattle.rng_patterns.specs.declared.grammar.NameClass.TheVariants as class
 use Rattle.rng_patterns.specs.declared.grammar.NsPart.{NsPart}
 use Rattle.std.specs.declared.cmp.Ordering.{Ordering}
-use Rattle.compile_defines.specs.Conditions.{IsConditionOf, condition_cmp}
-use Rattle.compile_defines.specs.Contents.{class_name, condition_name, content_pattern, define_name, holds_element, macro_name, reference}
-use Rattle.compile_defines.specs.Repeating.{choice_pattern}
-
--- a choice of references to elements, in their order
-abbrev pub references_pattern : List (List ℕ) → Expr
-references_pattern idents = choice_pattern (map reference idents)
+use Rattle.compile_contents.specs.Conditions.{IsConditionOf, condition_cmp}
+use Rattle.compile_contents.specs.Contents.{class_name, condition_name, content_pattern, define_name, holds_element, macro_name, references_pattern}
 
 -- no attribute is offered so far
 abbrev pub element_body : Library → List Condition → Members → List ℕ → ElementPart → Body

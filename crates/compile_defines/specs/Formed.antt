@@ -13,7 +13,7 @@ use Rattle.odd_decls.specs.declared.library.Component.TheVariants as component
 use Rattle.odd_decls.specs.declared.library.ElementPart.{ElementPart}
 use Rattle.odd_decls.specs.declared.library.Library.{Library}
 use Rattle.rng_emit.specs.Plain.{IsPlainName}
-use Rattle.compile_defines.specs.Conditions.{conditions_in}
+use Rattle.compile_contents.specs.Conditions.{conditions_in}
 use Rattle.compile_defines.specs.OrderedBounds.{AreBoundsOrdered}
 
 -- namespaces of XML's characters, and names that XML can write

@@ -1,9 +1,4 @@
 pub mod Blocks
 pub mod Compiled
-pub mod ConditionOrder
-pub mod Conditions
-pub mod Contents
 pub mod Formed
 pub mod OrderedBounds
-pub mod Repeating
-pub mod Wanted

@@ -1,8 +1,8 @@
 -- The attribute law: the attributes that an element offers are those that the rules of its define match. Neither has any so far.
 use Rattle.std.proofs.Common.{◌≡◌, ◌↔◌, ℕ, List, [], ◌∷◌, refl, subst, sym}
 use Rattle.std.proofs.lemmas.List.Elements.{All-nil, All-head}
-use Rattle.odd_reader.specs.declared.tree.Attr.{Attr}
-use Rattle.odd_reader.proofs.InList.{nothing_stands}
+use Rattle.odd_tree.specs.declared.tree.Attr.{Attr}
+use Rattle.odd_tree.proofs.InList.{nothing_stands}
 use Rattle.odd_decls.specs.declared.library.Library.{Library}
 use Rattle.odd_meaning.specs.Admission.{offers_of}
 use Rattle.odd_meaning.specs.Offers.{AreOffered, IsOffered}

@@ -1,9 +1,9 @@
 -- A choice of patterns matches what one of them matches, whatever they are.
 use Rattle.std.proofs.Common.{◌↔◌, ◌⊎◌, inl, inr, ℕ, List, [], ◌∷◌, map, refl, subst, rules}
-use Rattle.odd_reader.proofs.InList.{first_or_later, map_stands, nothing_stands, stands_first, stands_later, stands_map}
-use Rattle.odd_reader.specs.Elements.{StandsIn}
-use Rattle.odd_reader.specs.Significant.{Marking}
-use Rattle.odd_reader.specs.declared.tree.Node.{Node}
+use Rattle.odd_tree.proofs.InList.{first_or_later, map_stands, nothing_stands, stands_first, stands_later, stands_map}
+use Rattle.odd_tree.specs.Elements.{StandsIn}
+use Rattle.odd_tree.specs.Significant.{Marking}
+use Rattle.odd_tree.specs.declared.tree.Node.{Node}
 use Rattle.rng_patterns.proofs.Told.{choice_shown, told}
 use Rattle.rng_patterns.specs.Patterns as patterns
 use Rattle.rng_patterns.specs.Patterns.{IsMatched}
@@ -12,9 +12,8 @@ use Rattle.rng_patterns.specs.declared.grammar.Expr.TheOpen as shape
 use Rattle.rng_patterns.specs.declared.grammar.Expr.TheVariants as expr
 use Rattle.rng_patterns.specs.declared.grammar.Expr.{Expr}
 use Rattle.rng_patterns.specs.declared.grammar.Grammar.{Grammar}
-use Rattle.compile_defines.specs.Compiled.{references_pattern}
-use Rattle.compile_defines.specs.Contents.{reference}
-use Rattle.compile_defines.specs.Repeating.{choice_pattern}
+use Rattle.compile_contents.specs.Contents.{reference, references_pattern}
+use Rattle.compile_contents.specs.Repeating.{choice_pattern}
 use Rattle.compile_laws.proofs.Pieces.{Same}
 
 module _ (g : Grammar) (marks : Marking (List ℕ)) where

@@ -4,9 +4,9 @@ use Rattle.std.specs.Prelude.{IsTrue}
 use Rattle.std.specs.FinMap.{find}
 use Rattle.odd_base.specs.Key.{key_cmp}
 use Rattle.odd_graph.proofs.Chains.{last_step}
-use Rattle.odd_reader.specs.Elements.{StandsIn}
-use Rattle.odd_reader.specs.Significant.{Marking}
-use Rattle.odd_reader.specs.declared.tree.Node.{Node}
+use Rattle.odd_tree.specs.Elements.{StandsIn}
+use Rattle.odd_tree.specs.Significant.{Marking}
+use Rattle.odd_tree.specs.declared.tree.Node.{Node}
 use Rattle.odd_content.specs.Picking.{is_picked}
 use Rattle.odd_content.specs.declared.content.Pick.{Pick}
 use Rattle.odd_content.specs.declared.content.Pick.TheVariants as pick
@@ -22,16 +22,16 @@ use Rattle.odd_meaning.specs.Links.{IsLinked, class_key, classes_of}
 use Rattle.odd_meaning.specs.Rules.{IsOfAttributes}
 use Rattle.rng_patterns.specs.Patterns.{IsMatched}
 use Rattle.rng_patterns.specs.declared.grammar.Grammar.{Grammar}
-use Rattle.compile_defines.specs.Compiled.{IsGrammarOf, references_pattern}
-use Rattle.compile_defines.specs.Contents.{members_pattern, reference}
+use Rattle.compile_defines.specs.Compiled.{IsGrammarOf}
+use Rattle.compile_contents.specs.Contents.{members_pattern, reference, references_pattern}
 use Rattle.compile_defines.specs.Formed.{IsFormed}
 use Rattle.compile_laws.proofs.ChoiceLaw.{none_matched, references_law}
 use Rattle.compile_defines.proofs.HeldParts.{element_of}
-use Rattle.compile_defines.proofs.Filtered.{filter_passed, stands_filter}
+use Rattle.compile_contents.proofs.Filtered.{filter_passed, stands_filter}
 use Rattle.compile_laws.proofs.HeldDefines.{class_law}
 use Rattle.odd_classes.proofs.Linked.{held}
 use Rattle.compile_laws.proofs.Pieces.{Same}
-use Rattle.compile_defines.proofs.Standing.{filter_stands}
+use Rattle.compile_contents.proofs.Standing.{filter_stands}
 
 -- in a formed library a class that has a member, and is none of attributes, is of type `model`
 member_model : (library : Library) → IsFormed library → (class ident : List ℕ) → (IsOfAttributes library class → ⊥) → IsMember library class (element_key ident) → IsModel library class

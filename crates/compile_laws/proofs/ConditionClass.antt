@@ -7,9 +7,9 @@ use Rattle.std.specs.Cmp.Lexicographic.{same_text}
 use Rattle.std.specs.List.{list_any}
 use Rattle.odd_base.specs.declared.name.Name.{Name}
 use Rattle.odd_tokens.specs.Same.{is_same}
-use Rattle.odd_reader.proofs.InList.{contained, map_stands, nothing_stands, stands_first, stands_later, stands_map}
-use Rattle.odd_reader.proofs.StandsNames.{same_from}
-use Rattle.odd_reader.specs.Elements.{StandsIn}
+use Rattle.odd_tree.proofs.InList.{contained, map_stands, nothing_stands, stands_first, stands_later, stands_map}
+use Rattle.odd_tree.proofs.SameTexts.{same_from}
+use Rattle.odd_tree.specs.Elements.{StandsIn}
 use Rattle.odd_content.specs.declared.content.Condition.{Condition}
 use Rattle.odd_meaning.specs.Conditions.{IsMetBy}
 use Rattle.rng_patterns.specs.Acceptance.{IsInClass}
@@ -21,8 +21,8 @@ use Rattle.rng_patterns.specs.declared.grammar.NameClass.TheVariants as class
 use Rattle.rng_patterns.specs.declared.grammar.NameClass.{NameClass}
 use Rattle.rng_patterns.specs.declared.grammar.NsPart.{NsPart}
 use Rattle.compile_defines.specs.Compiled.{condition_body, content_throughout, space_part, spaces_left}
-use Rattle.compile_defines.proofs.Filtered.{filter_passed, stands_filter}
-use Rattle.compile_defines.proofs.Standing.{filter_stands}
+use Rattle.compile_contents.proofs.Filtered.{filter_passed, stands_filter}
+use Rattle.compile_contents.proofs.Standing.{filter_stands}
 
 -- a namespace that a test finds in a list stands there
 listed : (space : List ℕ) (spaces : List (List ℕ)) → list_any (is_same space) spaces ≡ true → StandsIn spaces space

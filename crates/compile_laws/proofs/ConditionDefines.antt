@@ -4,8 +4,8 @@ use Rattle.std.proofs.lemmas.Cmp.{nat_list_cmp_total, on_total}
 use Rattle.std.specs.Cmp.{IsTotalOrder, tied_itself}
 use Rattle.std.specs.declared.cmp.Ordering.{Ordering}
 use Rattle.std.specs.declared.cmp.Ordering.TheVariants.{Less, Equal}
-use Rattle.odd_reader.specs.Elements.{StandsIn}
-use Rattle.odd_reader.proofs.InList.{first_or_later, nothing_stands}
+use Rattle.odd_tree.specs.Elements.{StandsIn}
+use Rattle.odd_tree.proofs.InList.{first_or_later, nothing_stands}
 use Rattle.odd_forms.specs.Sorted.{AreRising}
 use Rattle.odd_forms.proofs.OneSet.{first_below, rest_rising, turned}
 use Rattle.odd_content.specs.declared.content.Condition.{Condition}
@@ -16,7 +16,7 @@ use Rattle.rng_patterns.specs.declared.grammar.Define.{Define}
 use Rattle.rng_patterns.specs.declared.grammar.Grammar.{Grammar}
 use Rattle.compile_defines.specs.Compiled.{IsGrammarOf, condition_body, condition_define, define_cmp}
 use Rattle.compile_defines.specs.Compiled as compiled
-use Rattle.compile_defines.specs.Contents.{condition_name}
+use Rattle.compile_contents.specs.Contents.{condition_name}
 
 -- of items that rise those that tie are one
 tied_same : {A : Type 0} (order : A → A → Ordering) → IsTotalOrder order → (xs : List A) → AreRising order xs → (a b : A) → StandsIn xs a → StandsIn xs b → order a b ≡ Equal → a ≡ b

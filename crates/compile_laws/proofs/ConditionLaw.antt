@@ -9,10 +9,10 @@
 -- references of which no element is the match.
 use Rattle.std.proofs.Common.{◌≡◌, ◌↔◌, ◌≤◌, ◌<◌, ℕ, zero, suc, List, ⊎_elim, subst, ◌∙◌, arith}
 use Rattle.odd_base.specs.declared.name.Name.{Name}
-use Rattle.odd_reader.specs.Elements.{StandsIn, StandsWithin, children_of, inside, itself}
-use Rattle.odd_reader.specs.Significant.{depth}
-use Rattle.odd_reader.specs.declared.tree.Node.{Element}
-use Rattle.odd_reader.specs.declared.tree.Tree.{Tree, out-Tree}
+use Rattle.odd_tree.specs.Elements.{StandsIn, StandsWithin, children_of, inside, itself}
+use Rattle.odd_tree.specs.Significant.{depth}
+use Rattle.odd_tree.specs.declared.tree.Node.{Element}
+use Rattle.odd_tree.specs.declared.tree.Tree.{Tree, out-Tree}
 use Rattle.odd_content.specs.declared.content.Condition.{Condition}
 use Rattle.odd_decls.specs.declared.library.Library.{Library}
 use Rattle.odd_meaning.specs.Conditions.{IsMetBy, IsMetThroughout}
@@ -24,7 +24,7 @@ use Rattle.rng_patterns.specs.declared.grammar.Expr.TheVariants as expr
 use Rattle.rng_patterns.specs.declared.grammar.Expr.{Expr}
 use Rattle.rng_patterns.specs.declared.grammar.Grammar.{Grammar}
 use Rattle.compile_defines.specs.Compiled.{IsGrammarOf, condition_body, content_throughout}
-use Rattle.compile_defines.specs.Contents.{condition_name}
+use Rattle.compile_contents.specs.Contents.{condition_name}
 use Rattle.compile_laws.proofs.ConditionClass.{IsElementBody, IsEmptyBody, body_kind}
 use Rattle.compile_laws.proofs.ConditionDefines.{condition_bodied, condition_defined}
 use Rattle.compile_laws.proofs.Levels.{child_less, depth_is, kept_stands}

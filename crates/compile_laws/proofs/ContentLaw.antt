@@ -9,10 +9,10 @@
 -- MacroLaw.antt cites it for the contents of macros, and Joining.antt for that of a held element, with the leaves of Leaves.antt.
 use Rattle.std.proofs.Common.{ℕ, List, [], ◌++◌}
 use Rattle.odd_base.specs.declared.key.Key.{Key}
-use Rattle.odd_reader.proofs.InList.{stands_first}
-use Rattle.odd_reader.specs.Elements.{StandsIn}
-use Rattle.odd_reader.specs.Significant.{Marking}
-use Rattle.odd_reader.specs.declared.tree.Node.{Node}
+use Rattle.odd_tree.proofs.InList.{stands_first}
+use Rattle.odd_tree.specs.Elements.{StandsIn}
+use Rattle.odd_tree.specs.Significant.{Marking}
+use Rattle.odd_tree.specs.declared.tree.Node.{Node}
 use Rattle.odd_content.specs.declared.content.Condition.{Condition}
 use Rattle.odd_content.specs.declared.content.Content.{Content, Empty, Text, Element, Class, Macro, Any, Sequence', Alternate', Row_of-Content, end_of-Content, more_of-Content}
 use Rattle.odd_content.specs.declared.content.Pick.{Pick}
@@ -28,14 +28,14 @@ use Rattle.rng_patterns.specs.Patterns.{IsMatched}
 use Rattle.rng_patterns.specs.declared.grammar.Expr.TheOpen as shape
 use Rattle.rng_patterns.specs.declared.grammar.Expr.TheVariants as expr
 use Rattle.rng_patterns.specs.declared.grammar.Grammar.{Grammar}
-use Rattle.compile_defines.specs.Conditions.{conditions_in, conditions_in_parts}
-use Rattle.compile_defines.specs.Contents.{condition_pattern, content_pattern, element_pattern, macro_pattern, members_pattern, part_patterns}
-use Rattle.compile_defines.specs.Repeating.{choice_pattern, group_pattern}
+use Rattle.compile_contents.specs.Conditions.{conditions_in, conditions_in_parts}
+use Rattle.compile_contents.specs.Contents.{condition_pattern, content_pattern, element_pattern, macro_pattern, members_pattern, part_patterns}
+use Rattle.compile_contents.specs.Repeating.{choice_pattern, group_pattern}
 use Rattle.compile_defines.specs.OrderedBounds.{AreAllOrdered, AreBoundsOrdered}
 use Rattle.compile_laws.proofs.ChoiceLaw.{InChoice, choice_law}
 use Rattle.compile_laws.proofs.Pieces.{Same, or_same, same, then_same, trans}
 use Rattle.compile_laws.proofs.Repetition.{InGroup, group_law, repeated_law}
-use Rattle.compile_defines.proofs.Standing.{stands_left, stands_right}
+use Rattle.compile_contents.proofs.Standing.{stands_left, stands_right}
 
 module _ (library : Library) (numbered : List Condition) (members : Members) (g : Grammar) (counts : Marking Label) (marks : Marking (List ℕ)) (Q : Node → Type 0) where
   -- what an element, a class and a condition admit is what their patterns match, of children of which each is such

@@ -1,15 +1,15 @@
 -- The grammar of a library accepts what the library admits.
 use Rattle.std.proofs.Common.{◌↔◌, ℕ, List, [], ◌∷◌, sym, subst, arith}
-use Rattle.odd_reader.specs.Significant.{Marking, depth}
-use Rattle.odd_reader.specs.declared.tree.Node.{Element}
-use Rattle.odd_reader.specs.declared.tree.Tree.{Tree}
+use Rattle.odd_tree.specs.Significant.{Marking, depth}
+use Rattle.odd_tree.specs.declared.tree.Node.{Element}
+use Rattle.odd_tree.specs.declared.tree.Tree.{Tree}
 use Rattle.odd_decls.specs.declared.library.Library.{Library}
 use Rattle.odd_meaning.specs.Admission.{Admits}
 use Rattle.rng_patterns.specs.Acceptance.{Accepts, IsAcceptedWithin}
 use Rattle.rng_patterns.specs.Patterns.{IsMatched}
 use Rattle.rng_patterns.specs.declared.grammar.Grammar.{Grammar}
 use Rattle.compile_defines.specs.Compiled.{IsGrammarOf}
-use Rattle.compile_defines.specs.Contents.{define_name}
+use Rattle.compile_contents.specs.Contents.{define_name}
 use Rattle.compile_defines.specs.Formed.{IsFormed}
 use Rattle.compile_laws.proofs.HeldDefines.{hold_elements}
 use Rattle.compile_laws.proofs.Joining.{joined}

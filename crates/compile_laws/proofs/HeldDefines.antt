@@ -2,8 +2,8 @@
 use Rattle.std.proofs.Common.{◌≡◌, ◌↔◌, ℕ, false, List, Some, take, codes, inl, inr, refl, sym, ap, subst, ◌∙◌}
 use Rattle.std.proofs.lemmas.Bool.{false≢true}
 use Rattle.odd_tokens.specs.Same.{is_same}
-use Rattle.odd_reader.specs.Significant.{Marking}
-use Rattle.odd_reader.specs.declared.tree.Node.{Node}
+use Rattle.odd_tree.specs.Significant.{Marking}
+use Rattle.odd_tree.specs.declared.tree.Node.{Node}
 use Rattle.odd_content.specs.declared.content.Condition.{Condition}
 use Rattle.odd_decls.specs.declared.library.ElementPart.{ElementPart}
 use Rattle.odd_decls.specs.declared.library.Library.{Library}
@@ -20,10 +20,10 @@ use Rattle.rng_patterns.specs.declared.grammar.Expr.TheVariants as expr
 use Rattle.rng_patterns.specs.declared.grammar.Expr.{Expr}
 use Rattle.rng_patterns.specs.declared.grammar.Grammar.{Grammar}
 use Rattle.compile_defines.specs.Compiled as compiled
-use Rattle.compile_defines.specs.Compiled.{IsDefineOf, IsGrammarOf, class_define, element_body, element_define, macro_define, references_pattern}
-use Rattle.compile_defines.specs.Contents.{class_name, condition_name, content_pattern, define_name, macro_name}
+use Rattle.compile_defines.specs.Compiled.{IsDefineOf, IsGrammarOf, class_define, element_body, element_define, macro_define}
+use Rattle.compile_contents.specs.Contents.{class_name, condition_name, content_pattern, define_name, macro_name, references_pattern}
 use Rattle.compile_laws.proofs.ConditionDefines.{one_body}
-use Rattle.compile_defines.proofs.Holds.{IsElementAt, IsMacroAt}
+use Rattle.compile_contents.proofs.Holds.{IsElementAt, IsMacroAt}
 use Rattle.compile_laws.proofs.StartLaw.{HoldElements}
 
 -- defines of two elements have two names

@@ -9,10 +9,10 @@
 -- Of an ident that is not held there is no define: no element is valid for it, and none is accepted by that name.
 -- Correct.antt cites `joined` for the root of a document, where its depth is levels enough.
 use Rattle.std.proofs.Common.{◌≡◌, ◌↔◌, ◌≤◌, ◌<◌, ℕ, zero, suc, List, [], subst, arith}
-use Rattle.odd_reader.specs.Elements.{StandsIn}
-use Rattle.odd_reader.specs.Significant.{IsSignificant, Marking, depth}
-use Rattle.odd_reader.specs.declared.tree.Node.{Node, Element}
-use Rattle.odd_reader.specs.declared.tree.Tree.{Tree, out-Tree}
+use Rattle.odd_tree.specs.Elements.{StandsIn}
+use Rattle.odd_tree.specs.Significant.{IsSignificant, Marking, depth}
+use Rattle.odd_tree.specs.declared.tree.Node.{Node, Element}
+use Rattle.odd_tree.specs.declared.tree.Tree.{Tree, out-Tree}
 use Rattle.odd_decls.specs.Odd.{element_key}
 use Rattle.odd_decls.specs.declared.library.Component.TheVariants as component
 use Rattle.odd_decls.specs.declared.library.ElementPart.{ElementPart}
@@ -27,12 +27,12 @@ use Rattle.rng_patterns.specs.declared.grammar.Body.TheVariants as body
 use Rattle.rng_patterns.specs.declared.grammar.Grammar.{Grammar}
 use Rattle.rng_patterns.specs.declared.grammar.NameClass.TheVariants as class
 use Rattle.compile_defines.specs.Compiled.{IsGrammarOf, element_body}
-use Rattle.compile_defines.specs.Contents.{content_pattern, define_name}
+use Rattle.compile_contents.specs.Contents.{content_pattern, define_name}
 use Rattle.compile_defines.specs.Formed.{IsFormed}
 use Rattle.compile_laws.proofs.AttributeLaw.{attribute_law}
 use Rattle.compile_laws.proofs.ContentLaw.{AreLeavesKept, content_law}
 use Rattle.compile_laws.proofs.HeldDefines.{defined_held, held_defined}
-use Rattle.compile_defines.proofs.Holds.{IsElementAt}
+use Rattle.compile_contents.proofs.Holds.{IsElementAt}
 use Rattle.compile_laws.proofs.Leaves.{leaves_kept}
 use Rattle.compile_laws.proofs.Levels.{all_kept, child_less}
 use Rattle.compile_laws.proofs.MacroLaw.{BreaksNone, names_kept}

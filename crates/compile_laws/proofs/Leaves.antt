@@ -2,10 +2,10 @@
 use Rattle.std.proofs.Common.{◌≡◌, ◌↔◌, ◌≤◌, ℕ, zero, suc, Bool, true, false, List, [], ◌∷◌, cond, inl, inr, refl, sym, subst, ◌∙◌}
 use Rattle.std.proofs.lemmas.Bool.{false≢true}
 use Rattle.std.specs.Prelude.{All}
-use Rattle.odd_reader.specs.Elements.{StandsIn}
-use Rattle.odd_reader.specs.Significant.{Marking, depth}
-use Rattle.odd_reader.specs.declared.tree.Node.{Node, Element}
-use Rattle.odd_reader.specs.declared.tree.Tree.{Tree}
+use Rattle.odd_tree.specs.Elements.{StandsIn}
+use Rattle.odd_tree.specs.Significant.{Marking, depth}
+use Rattle.odd_tree.specs.declared.tree.Node.{Node, Element}
+use Rattle.odd_tree.specs.declared.tree.Tree.{Tree}
 use Rattle.odd_content.specs.declared.content.Condition.{Condition}
 use Rattle.odd_decls.specs.declared.library.Library.{Library}
 use Rattle.odd_meaning.specs.Admission.{IsValidWithin, counting}
@@ -19,14 +19,14 @@ use Rattle.rng_patterns.specs.declared.grammar.Expr.TheOpen as shape
 use Rattle.rng_patterns.specs.declared.grammar.Expr.TheVariants as expr
 use Rattle.rng_patterns.specs.declared.grammar.Grammar.{Grammar}
 use Rattle.compile_defines.specs.Compiled.{IsGrammarOf}
-use Rattle.compile_defines.specs.Contents.{condition_name, condition_pattern, define_name, element_pattern, holds_element, reference}
+use Rattle.compile_contents.specs.Contents.{condition_name, condition_pattern, define_name, element_pattern, holds_element, reference}
 use Rattle.compile_defines.specs.Formed.{IsFormed}
 use Rattle.compile_laws.proofs.ChoiceLaw.{none_matched}
 use Rattle.compile_laws.proofs.ClassLaw.{class_kept}
 use Rattle.compile_laws.proofs.ConditionLaw.{condition_law, condition_part}
 use Rattle.compile_laws.proofs.ContentLaw.{AreLeavesKept}
 use Rattle.compile_laws.proofs.HeldDefines.{hold_elements}
-use Rattle.compile_defines.proofs.Holds.{element_held}
+use Rattle.compile_contents.proofs.Holds.{element_held}
 use Rattle.compile_laws.proofs.Pieces.{Same}
 use Rattle.compile_laws.proofs.SameMarkings.{alone_is}
 use Rattle.compile_laws.proofs.StartLaw.{reference_law}

@@ -1,20 +1,20 @@
 -- The depth of a tree is levels enough: within more levels an element is accepted, or valid, for the same names. So a child counts for what it is valid for.
 use Rattle.std.proofs.Common.{◌≡◌, ◌↔◌, ℕ, zero, suc, max, ◌<◌, ◌≤◌, fold, List, [], ◌∷◌, map, inl, inr, arith, rules}
 use Rattle.std.specs.Prelude.{All}
-use Rattle.odd_reader.specs.declared.tree.Node.{Node, Element, fold-Node}
-use Rattle.odd_reader.specs.declared.tree.Node as N
-use Rattle.odd_reader.specs.declared.tree.Tree.{Tree, out-Tree}
-use Rattle.odd_reader.specs.declared.tree.Tree as T
-use Rattle.odd_reader.specs.Elements.{StandsIn}
-use Rattle.odd_reader.specs.Significant.{IsSignificant, Marking, beside_elements, blank, depth, node_depth, tree_depth, whole}
+use Rattle.odd_tree.specs.declared.tree.Node.{Node, Element, fold-Node}
+use Rattle.odd_tree.specs.declared.tree.Node as N
+use Rattle.odd_tree.specs.declared.tree.Tree.{Tree, out-Tree}
+use Rattle.odd_tree.specs.declared.tree.Tree as T
+use Rattle.odd_tree.specs.Elements.{StandsIn}
+use Rattle.odd_tree.specs.Significant.{IsSignificant, Marking, beside_elements, blank, depth, node_depth, tree_depth, whole}
 use Rattle.odd_decls.specs.declared.library.Library.{Library}
 use Rattle.odd_meaning.specs.Admission.{IsValid, IsValidBy, IsValidWithin, counting}
 use Rattle.odd_meaning.specs.Labels.{Label, condition, element}
-use Rattle.odd_reader.proofs.InList.{first_or_later, map_stands, nothing_stands}
+use Rattle.odd_tree.proofs.InList.{first_or_later, map_stands, nothing_stands}
 use Rattle.rng_patterns.specs.Acceptance.{IsAcceptedWithin}
 use Rattle.rng_patterns.specs.declared.grammar.Grammar.{Grammar}
 use Rattle.compile_laws.proofs.SameMarkings.{admits_same, matched_on}
-use Rattle.compile_defines.proofs.Standing.{each_stands, filter_stands}
+use Rattle.compile_contents.proofs.Standing.{each_stands, filter_stands}
 
 -- the greatest of some numbers is none less
 from_start : (start : ℕ) (ns : List ℕ) → start ≤ fold max start ns

@@ -9,9 +9,9 @@ use Rattle.std.specs.FinMap.{find}
 use Rattle.odd_base.specs.Key.{key_cmp}
 use Rattle.odd_base.specs.KeyOrder.{key_total, key_exact}
 use Rattle.odd_base.specs.declared.key.Key.{Key}
-use Rattle.odd_reader.specs.Elements.{StandsIn}
-use Rattle.odd_reader.specs.Significant.{Marking}
-use Rattle.odd_reader.specs.declared.tree.Node.{Node}
+use Rattle.odd_tree.specs.Elements.{StandsIn}
+use Rattle.odd_tree.specs.Significant.{Marking}
+use Rattle.odd_tree.specs.declared.tree.Node.{Node}
 use Rattle.odd_decls.specs.Library.{content_of}
 use Rattle.odd_decls.specs.declared.library.Component.{Component}
 use Rattle.odd_decls.specs.declared.library.Component.TheVariants as component
@@ -25,16 +25,16 @@ use Rattle.rng_patterns.specs.Patterns.{IsMatched}
 use Rattle.rng_patterns.specs.declared.grammar.Expr.TheVariants as expr
 use Rattle.rng_patterns.specs.declared.grammar.Grammar.{Grammar}
 use Rattle.compile_defines.specs.Compiled.{IsGrammarOf}
-use Rattle.compile_defines.specs.Conditions.{conditions_of}
-use Rattle.compile_defines.specs.Contents.{holds_macro, macro_name, macro_pattern}
+use Rattle.compile_contents.specs.Conditions.{conditions_of}
+use Rattle.compile_contents.specs.Contents.{holds_macro, macro_name, macro_pattern}
 use Rattle.compile_defines.specs.Formed.{IsFormed}
 use Rattle.compile_laws.proofs.ChoiceLaw.{none_matched}
 use Rattle.compile_laws.proofs.ContentLaw.{AreLeavesKept, AreNamesKept, content_law}
-use Rattle.compile_defines.proofs.Filtered.{stands_filter}
+use Rattle.compile_contents.proofs.Filtered.{stands_filter}
 use Rattle.compile_laws.proofs.HeldDefines.{macro_law}
-use Rattle.compile_defines.proofs.Holds.{IsMacroAt, macro_found, macro_held}
+use Rattle.compile_contents.proofs.Holds.{IsMacroAt, macro_found, macro_held}
 use Rattle.compile_laws.proofs.Pieces.{Same, trans}
-use Rattle.compile_defines.proofs.Standing.{held_stands}
+use Rattle.compile_contents.proofs.Standing.{held_stands}
 
 -- it breaks no rule
 abbrev pub BreaksNone : Library → Type 0

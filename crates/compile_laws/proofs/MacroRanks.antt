@@ -8,11 +8,11 @@ use Rattle.odd_base.specs.declared.key.Kind.TheVariants as kind
 use Rattle.odd_graph.specs.Graph.{Chained}
 use Rattle.odd_graph.proofs.Chains.{last_step}
 use Rattle.odd_graph.proofs.Ranked.{by_rank}
-use Rattle.odd_reader.proofs.InList.{map_stands, stands_around}
-use Rattle.odd_reader.proofs.InList as around
-use Rattle.odd_reader.specs.Elements.{StandsIn}
-use Rattle.odd_reader.specs.Significant.{Marking}
-use Rattle.odd_reader.specs.declared.tree.Node.{Node}
+use Rattle.odd_tree.proofs.InList.{map_stands, stands_around}
+use Rattle.odd_tree.proofs.InList as around
+use Rattle.odd_tree.specs.Elements.{StandsIn}
+use Rattle.odd_tree.specs.Significant.{Marking}
+use Rattle.odd_tree.specs.declared.tree.Node.{Node}
 use Rattle.odd_decls.specs.declared.library.Component.{Component}
 use Rattle.odd_decls.specs.declared.library.Library.{Library}
 use Rattle.odd_meaning.specs.Contents.{IsOfMacro}
@@ -21,14 +21,14 @@ use Rattle.odd_meaning.specs.Links.{IsLinked, is_macro, macro_key, macros_of, na
 use Rattle.odd_meaning.specs.Rules.{reaches_itself}
 use Rattle.rng_patterns.specs.declared.grammar.Grammar.{Grammar}
 use Rattle.compile_defines.specs.Compiled.{IsGrammarOf}
-use Rattle.compile_defines.specs.Contents.{holds_macro}
+use Rattle.compile_contents.specs.Contents.{holds_macro}
 use Rattle.compile_defines.specs.Formed.{IsFormed}
 use Rattle.compile_laws.proofs.ContentLaw.{AreLeavesKept}
-use Rattle.compile_defines.proofs.Filtered.{filter_passed}
+use Rattle.compile_contents.proofs.Filtered.{filter_passed}
 use Rattle.odd_classes.proofs.Linked.{held}
-use Rattle.compile_defines.proofs.Holds.{macro_found}
+use Rattle.compile_contents.proofs.Holds.{macro_found}
 use Rattle.compile_laws.proofs.MacroLaw.{BreaksNone, IsKept, IsKeptBy, held_kept, unheld_kept}
-use Rattle.compile_defines.proofs.Standing.{held_stands, stands_left, stands_right}
+use Rattle.compile_contents.proofs.Standing.{held_stands, stands_left, stands_right}
 use Rattle.odd_classes.proofs.CycleRules.{macro_kind}
 
 -- the keys of entries

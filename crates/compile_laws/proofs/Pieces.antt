@@ -3,7 +3,7 @@ use Rattle.std.proofs.Common.{◌≡◌, ◌↔◌, ◌⊎◌, inl, inr, ℕ, ze
 use Rattle.std.specs.Prelude.{All}
 use Rattle.std.proofs.lemmas.List.{append-nil}
 use Rattle.std.proofs.lemmas.List.Elements.{All-nil, All-cons, All-head, All-tail}
-use Rattle.odd_reader.specs.Splits.{Counted, Pieces, Then}
+use Rattle.odd_tree.specs.Splits.{Counted, Pieces, Then}
 
 module _ {C : Type 0} (Q : C → Type 0) where
   -- what holds of each item of a list holds of each of a front of it

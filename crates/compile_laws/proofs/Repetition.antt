@@ -1,9 +1,9 @@
 -- The pattern of a repetition matches the lists that split into a number of pieces within its bounds.
 use Rattle.std.proofs.Common.{◌≡◌, ◌↔◌, ◌⊎◌, inl, inr, ℕ, zero, suc, ◌+◌, ◌-◌, ◌≤◌, Option, Some, None, List, [], ◌∷◌, ◌++◌, replicate, refl, sym, subst, arith}
 use Rattle.std.specs.Prelude.{All}
-use Rattle.odd_reader.specs.Significant.{Marking}
-use Rattle.odd_reader.specs.Splits.{Counted, Pieces, Then}
-use Rattle.odd_reader.specs.declared.tree.Node.{Node}
+use Rattle.odd_tree.specs.Significant.{Marking}
+use Rattle.odd_tree.specs.Splits.{Counted, Pieces, Then}
+use Rattle.odd_tree.specs.declared.tree.Node.{Node}
 use Rattle.rng_values.specs.declared.bounds.Bounds.{Bounds}
 use Rattle.odd_meaning.specs.Contents.{IsUpTo, IsWithin}
 use Rattle.rng_patterns.proofs.Told.{empty_shown, group_shown, one_or_more_shown, optional_shown, told, zero_or_more_shown}
@@ -13,7 +13,7 @@ use Rattle.rng_patterns.specs.declared.grammar.Expr.TheOpen as shape
 use Rattle.rng_patterns.specs.declared.grammar.Expr.TheVariants as expr
 use Rattle.rng_patterns.specs.declared.grammar.Expr.{Expr}
 use Rattle.rng_patterns.specs.declared.grammar.Grammar.{Grammar}
-use Rattle.compile_defines.specs.Repeating.{further, group_pattern, repeated, repeated_within}
+use Rattle.compile_contents.specs.Repeating.{further, group_pattern, repeated, repeated_within}
 use Rattle.compile_defines.specs.OrderedBounds.{IsOrdered}
 use Rattle.compile_laws.proofs.Pieces.{Same, at_most_more, counted_same, counts_same, none_same, one_more, swap, then_end, then_same, trans}
 

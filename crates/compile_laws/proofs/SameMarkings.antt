@@ -2,11 +2,11 @@
 use Rattle.std.proofs.Common.{◌≡◌, ◌↔◌, ℕ, zero, suc, List, [], ◌∷◌, ◌++◌, length, sym, subst}
 use Rattle.std.specs.Prelude.{All}
 use Rattle.std.proofs.lemmas.List.Elements.{All-head}
-use Rattle.odd_reader.proofs.InList.{stands_first}
-use Rattle.odd_reader.specs.Elements.{StandsIn}
-use Rattle.odd_reader.specs.Significant.{Marking}
-use Rattle.odd_reader.specs.declared.tree.Node.{Node, Element as AnElement}
-use Rattle.odd_reader.specs.declared.tree.Tree.{Tree}
+use Rattle.odd_tree.proofs.InList.{stands_first}
+use Rattle.odd_tree.specs.Elements.{StandsIn}
+use Rattle.odd_tree.specs.Significant.{Marking}
+use Rattle.odd_tree.specs.declared.tree.Node.{Node, Element as AnElement}
+use Rattle.odd_tree.specs.declared.tree.Tree.{Tree}
 use Rattle.odd_content.specs.declared.content.Content.{Content, Empty, Text, Element, Class, Macro, Any, Sequence', Alternate', Row_of-Content, end_of-Content, more_of-Content}
 use Rattle.odd_content.specs.declared.content.Pick.{Pick}
 use Rattle.odd_decls.specs.declared.library.Library.{Library}
@@ -17,7 +17,7 @@ use Rattle.rng_patterns.specs.Patterns.{AreMatched, IsMatched, IsRepeated}
 use Rattle.rng_patterns.specs.declared.grammar.Expr.{Expr}
 use Rattle.rng_patterns.specs.declared.grammar.Grammar.{Grammar}
 use Rattle.compile_laws.proofs.Pieces.{Same, counted_same, or_same, same, then_same}
-use Rattle.compile_defines.proofs.Standing.{stands_left, stands_right}
+use Rattle.compile_contents.proofs.Standing.{stands_left, stands_right}
 
 -- what holds of each of a list of one element holds of that
 pub alone_is : (Q : Node → Type 0) (t : Tree) (children : List Node) → children ≡ AnElement t ∷ [] → All Q children → Q (AnElement t)

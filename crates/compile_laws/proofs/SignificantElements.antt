@@ -2,16 +2,16 @@
 use Rattle.std.proofs.Common.{◌≡◌, ℕ, true, false, not, List, [], ◌∷◌, ◌++◌, filter, inl, inr, refl, sym, ap, subst, ◌∙◌, ⊎_elim, rules}
 use Rattle.std.proofs.lemmas.Bool.{cases_Bool, false≢true, not_from_false, or_parts}
 use Rattle.std.specs.List.{list_any}
-use Rattle.odd_reader.proofs.AmongChildren.{elements_append, with_element, with_text}
-use Rattle.odd_reader.proofs.InList.{first_or_later, nothing_stands, stands_first, stands_later}
-use Rattle.odd_reader.specs.Elements.{StandsIn, elements_of}
-use Rattle.odd_reader.specs.Significant.{IsSignificant, beside_elements, blank, is_blank, is_element, whole}
-use Rattle.odd_reader.specs.declared.tree.Node.{Node, Element, Text, out-Node, roll-Node, roll-out-Node}
-use Rattle.odd_reader.specs.declared.tree.Node as N
-use Rattle.odd_reader.specs.declared.tree.Node.TheOpen as shown
-use Rattle.odd_reader.specs.declared.tree.Node.TheVariants.{rolls-Element, rolls-Text}
-use Rattle.odd_reader.specs.declared.tree.Tree.{Tree}
-use Rattle.compile_defines.proofs.Filtered.{stands_filter}
+use Rattle.odd_tree.proofs.AmongChildren.{elements_append, with_element, with_text}
+use Rattle.odd_tree.proofs.InList.{first_or_later, nothing_stands, stands_first, stands_later}
+use Rattle.odd_tree.specs.Elements.{StandsIn, elements_of}
+use Rattle.odd_tree.specs.Significant.{IsSignificant, beside_elements, blank, is_blank, is_element, whole}
+use Rattle.odd_tree.specs.declared.tree.Node.{Node, Element, Text, out-Node, roll-Node, roll-out-Node}
+use Rattle.odd_tree.specs.declared.tree.Node as N
+use Rattle.odd_tree.specs.declared.tree.Node.TheOpen as shown
+use Rattle.odd_tree.specs.declared.tree.Node.TheVariants.{rolls-Element, rolls-Text}
+use Rattle.odd_tree.specs.declared.tree.Tree.{Tree}
+use Rattle.compile_contents.proofs.Filtered.{stands_filter}
 
 -- an element is one, a text is none, and an element is not blank
 pub element_is : (t : Tree) → is_element (Element t) ≡ true

@@ -1,10 +1,10 @@
 -- The start of a grammar matches the root where a start word names an element that the root counts for.
 use Rattle.std.proofs.Common.{◌≡◌, ◌↔◌, ℕ, List, [], ◌∷◌, inl, inr, refl, sym, subst, ◌∙◌}
-use Rattle.odd_reader.specs.declared.tree.Tree.{Tree}
-use Rattle.odd_reader.specs.declared.tree.Node.{Node, Element}
-use Rattle.odd_reader.specs.Elements.{StandsIn}
-use Rattle.odd_reader.specs.Significant.{Marking}
-use Rattle.odd_reader.proofs.AmongChildren.{element_shown}
+use Rattle.odd_tree.specs.declared.tree.Tree.{Tree}
+use Rattle.odd_tree.specs.declared.tree.Node.{Node, Element}
+use Rattle.odd_tree.specs.Elements.{StandsIn}
+use Rattle.odd_tree.specs.Significant.{Marking}
+use Rattle.odd_tree.proofs.AmongChildren.{element_shown}
 use Rattle.rng_patterns.proofs.Told.{ref_shown, told}
 use Rattle.rng_patterns.specs.Patterns as patterns
 use Rattle.rng_patterns.specs.Patterns.{DefinesElement, IsDefined, IsMatched}
@@ -12,8 +12,7 @@ use Rattle.rng_patterns.specs.declared.grammar.Body.TheVariants as body
 use Rattle.rng_patterns.specs.declared.grammar.Expr.TheOpen as shape
 use Rattle.rng_patterns.specs.declared.grammar.Expr.{Expr}
 use Rattle.rng_patterns.specs.declared.grammar.Grammar.{Grammar}
-use Rattle.compile_defines.specs.Compiled.{references_pattern}
-use Rattle.compile_defines.specs.Contents.{define_name, reference}
+use Rattle.compile_contents.specs.Contents.{define_name, reference, references_pattern}
 use Rattle.compile_laws.proofs.ChoiceLaw.{references_law}
 
 -- equal nodes hold equal elements

@@ -1,11 +1,11 @@
 -- The content of a condition's define: texts, and elements that each count for the define.
 use Rattle.std.proofs.Common.{◌≡◌, ℕ, List, [], ◌∷◌, length, inl, inr, refl, sym, subst, rules}
 use Rattle.std.proofs.lemmas.Bool.{or_from}
-use Rattle.odd_reader.proofs.InList.{first_or_later, nothing_stands, stands_first, stands_later}
-use Rattle.odd_reader.specs.Elements.{StandsIn}
-use Rattle.odd_reader.specs.Significant.{Marking}
-use Rattle.odd_reader.specs.declared.tree.Node.{Node, Element}
-use Rattle.odd_reader.specs.declared.tree.Tree.{Tree}
+use Rattle.odd_tree.proofs.InList.{first_or_later, nothing_stands, stands_first, stands_later}
+use Rattle.odd_tree.specs.Elements.{StandsIn}
+use Rattle.odd_tree.specs.Significant.{Marking}
+use Rattle.odd_tree.specs.declared.tree.Node.{Node, Element}
+use Rattle.odd_tree.specs.declared.tree.Tree.{Tree}
 use Rattle.rng_patterns.proofs.Told.{choice_shown, ref_shown, text_shown, told, zero_or_more_shown}
 use Rattle.rng_patterns.specs.Patterns as patterns
 use Rattle.rng_patterns.specs.Patterns.{DefinesElement, IsDefined, IsMatched, IsRepeated}
@@ -16,9 +16,9 @@ use Rattle.rng_patterns.specs.declared.grammar.Expr.TheVariants as expr
 use Rattle.rng_patterns.specs.declared.grammar.Expr.{Expr}
 use Rattle.rng_patterns.specs.declared.grammar.Grammar.{Grammar}
 use Rattle.compile_defines.specs.Compiled.{content_throughout}
-use Rattle.odd_reader.proofs.AmongChildren.{with_element}
+use Rattle.odd_tree.proofs.AmongChildren.{with_element}
 use Rattle.compile_laws.proofs.SignificantElements.{element, kind_of, no_element, stands_element, text, text_is_none}
-use Rattle.compile_defines.proofs.Standing.{stands_either, stands_left}
+use Rattle.compile_contents.proofs.Standing.{stands_either, stands_left}
 
 -- the kind of `notAllowed`
 not_allowed_shown : E.out-Expr expr.NotAllowed ≡ shape.NotAllowed

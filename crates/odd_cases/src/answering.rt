@@ -5,8 +5,9 @@ use crate::comparing::{Answer, is_answered, is_wanted};
 use crate::draft::read_question;
 use crate::question::{Faulty, Question, Reply, Wanted};
 use crate::showing::shown_text;
-use odd_base::{Bytes, Files, MemShelf, MemSink, Words};
+use odd_base::{Bytes, Words};
 use odd_case_files::{Asking, CaseFault, Part, add_place, text_difference};
+use odd_outside::{Files, MemShelf, MemSink};
 use odd_run::run;
 use std::alloc::Global;
 

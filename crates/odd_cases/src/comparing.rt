@@ -1,4 +1,4 @@
-ghost use Rattle.std.specs.Prelude.{◌≡◌, ◌↔◌, IsTrue};
+ghost use Rattle.std.specs.Prelude.{◌↔◌, IsTrue};
 ghost use Rattle.odd_cases.specs.Comparing.{IsAnswered, IsWanted, StandsIn, HoldsEach};
 
 use crate::question::{Reply, Wanted};

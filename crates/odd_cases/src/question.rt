@@ -1,5 +1,6 @@
-use odd_base::{Bytes, Calls, Files, Words};
+use odd_base::{Bytes, Words};
 use odd_case_files::Shown;
+use odd_outside::{Calls, Files};
 
 /// Bytes that are written, or the parts that they must have.
 #[derive(Drop)]

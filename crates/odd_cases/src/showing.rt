@@ -3,7 +3,8 @@ use odd_case_files::{Shown, add_content, add_name};
 use odd_content::{ContentRefusal, read_content};
 use odd_forms::Element;
 use odd_members::{Membership, read_classes};
-use odd_reader::{Node, Tree, elements, read_tree};
+use odd_reader::read_tree;
+use odd_tree::{Node, Tree, elements};
 use std::alloc::Global;
 
 /// A file, as this of it is shown.

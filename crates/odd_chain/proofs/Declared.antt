@@ -1,9 +1,9 @@
 -- What follows where files declare docs, one after another.
 use Rattle.std.proofs.Common.{◌≡◌, suc, List, [], ◌∷◌, ◌++◌, length, ⊎_elim, refl, ap, subst}
-use Rattle.odd_reader.specs.declared.tree.Tree.{Tree}
-use Rattle.odd_reader.proofs.InList.{first_or_later, nothing_stands}
-use Rattle.odd_docs.specs.Declares.{Declares}
-use Rattle.odd_docs.specs.Pending.{IsPending}
+use Rattle.odd_tree.specs.declared.tree.Tree.{Tree}
+use Rattle.odd_tree.proofs.InList.{first_or_later, nothing_stands}
+use Rattle.odd_items.specs.Declares.{Declares}
+use Rattle.odd_items.specs.Pending.{IsPending}
 use Rattle.odd_decls.specs.declared.odd.OddDoc.{OddDoc}
 use Rattle.odd_docs.proofs.OneDoc.{one_doc}
 use Rattle.odd_chain.specs.Files.{AreAllRead, AreDeclared, more, none}

@@ -4,10 +4,10 @@ use Rattle.std.specs.declared.cmp.Ordering.TheVariants.{Less, Greater}
 use Rattle.odd_base.specs.declared.key.Key.{Key}
 use Rattle.odd_base.specs.declared.key.Kind.{Kind}
 use Rattle.odd_base.specs.declared.key.Kind.TheVariants as kind
-use Rattle.odd_reader.proofs.InList.{nothing_stands}
-use Rattle.odd_reader.specs.declared.tree.Tree.{Tree}
-use Rattle.odd_docs.specs.Declares.{Declares}
-use Rattle.odd_docs.specs.Offences.{HasOffence}
+use Rattle.odd_tree.proofs.InList.{nothing_stands}
+use Rattle.odd_tree.specs.declared.tree.Tree.{Tree}
+use Rattle.odd_items.specs.Declares.{Declares}
+use Rattle.odd_items.specs.Offences.{HasOffence}
 use Rattle.odd_decls.specs.declared.odd.OddDoc.{OddDoc}
 use Rattle.odd_chain.specs.Files.{ChainOffends, Gives, more, none, of_doc, of_form}
 use Rattle.odd_chain.specs.Offences.{OffendsIn, of_item, of_library}

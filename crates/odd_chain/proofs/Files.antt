@@ -1,13 +1,13 @@
 -- The first offence of a chain, by what its files declare.
 use Rattle.std.proofs.Common.{◌≡◌, ◌≤◌, ℕ, suc, List, [], ◌∷◌, ◌++◌, length, inl, inr, refl, sym, ap, subst, ◌∙◌, append_assoc, arith, length-append, append-nil}
 use Rattle.odd_base.specs.declared.offence.Offence.{Offence}
-use Rattle.odd_reader.specs.declared.tree.Tree.{Tree}
-use Rattle.odd_reader.proofs.InList.{nothing_stands}
-use Rattle.odd_docs.specs.Declares.{Declares}
-use Rattle.odd_docs.specs.Offences.{HasOffence}
+use Rattle.odd_tree.specs.declared.tree.Tree.{Tree}
+use Rattle.odd_tree.proofs.InList.{nothing_stands}
+use Rattle.odd_items.specs.Declares.{Declares}
+use Rattle.odd_items.specs.Offences.{HasOffence}
 use Rattle.odd_decls.specs.declared.library.Library.{Library}
 use Rattle.odd_decls.specs.declared.odd.OddDoc.{OddDoc}
-use Rattle.odd_modes.specs.After.{IsLibraryAfter}
+use Rattle.odd_choosing.specs.After.{IsLibraryAfter}
 use Rattle.odd_chain.specs.Files.{AreDeclared, ChainOffends, Gives, IsChainRefusal, of_doc, of_form}
 use Rattle.odd_chain.specs.Offences.{OffendsIn, of_item, of_library}
 use Rattle.odd_chain.specs.Order.{ComesNotAfter, IsFirst, Position, form}

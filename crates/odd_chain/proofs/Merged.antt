@@ -5,12 +5,12 @@ use Rattle.std.proofs.Math.Seq.{get_or-append_seam}
 use Rattle.std.proofs.lemmas.List.{length-take-le, take-append-drop, take_at}
 use Rattle.odd_base.specs.declared.key.Key.{Key}
 use Rattle.odd_base.specs.declared.offence.Offence.{Offence}
-use Rattle.odd_reader.proofs.InList.{begins, ends}
+use Rattle.odd_tree.proofs.InList.{begins, ends}
 use Rattle.odd_decls.specs.declared.library.Library.{Library}
 use Rattle.odd_decls.specs.declared.odd.OddDoc.{OddDoc}
 use Rattle.odd_meaning.specs.Rules.{Breaks}
-use Rattle.odd_modes.specs.After.{IsLibraryAfter}
-use Rattle.odd_modes.specs.Offences.{IsFirstOffence, Offends}
+use Rattle.odd_choosing.specs.After.{IsLibraryAfter}
+use Rattle.odd_choosing.specs.Offences.{IsFirstOffence, Offends}
 use Rattle.odd_modes.proofs.OneLibrary.{one_library}
 use Rattle.odd_chain.specs.Offences.{OffendsIn, of_item, of_library}
 use Rattle.odd_chain.specs.Order.{ComesNotAfter, IsFirst, Position, form, held, item}

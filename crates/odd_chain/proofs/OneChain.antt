@@ -6,13 +6,13 @@ use Rattle.odd_base.specs.Key.{key_cmp}
 use Rattle.odd_base.specs.KeyOrder.{key_exact, key_total}
 use Rattle.odd_base.specs.declared.key.Key.{Key}
 use Rattle.odd_base.specs.declared.offence.Offence.{Offence}
-use Rattle.odd_reader.specs.declared.tree.Tree.{Tree}
-use Rattle.odd_reader.proofs.InList.{Stands, stands_around}
+use Rattle.odd_tree.specs.declared.tree.Tree.{Tree}
+use Rattle.odd_tree.proofs.InList.{Stands, stands_around}
 use Rattle.odd_decls.specs.declared.library.Library.{Library}
 use Rattle.odd_decls.proofs.OffenceOrder.{neither_after}
 use Rattle.odd_forms.proofs.OneSet.{turned}
 use Rattle.odd_meaning.specs.Rules.{IsNotBehind}
-use Rattle.odd_modes.specs.After.{IsLibraryAfter}
+use Rattle.odd_choosing.specs.After.{IsLibraryAfter}
 use Rattle.odd_modes.proofs.OneLibrary.{one_library}
 use Rattle.odd_chain.specs.Files.{AreAllRead, Gives, IsChainRefusal, IsFirstPending}
 use Rattle.odd_chain.specs.Order.{ComesNotAfter, IsNotLater, Position, form, held, item, offence_at}

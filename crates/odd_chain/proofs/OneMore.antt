@@ -1,10 +1,10 @@
 -- What is kept of the files of a chain, with one file more.
 use Rattle.std.proofs.Common.{◌≡◌, ℕ, suc, List, [], ◌∷◌, ◌++◌, length, ⊎_elim, refl, sym, ap, subst, ◌∙◌, append_assoc}
 use Rattle.odd_base.specs.declared.offence.Offence.{Offence}
-use Rattle.odd_reader.specs.declared.tree.Tree.{Tree}
-use Rattle.odd_reader.proofs.InList.{stands_push}
-use Rattle.odd_docs.specs.Offences.{IsRefusal}
-use Rattle.odd_docs.specs.Pending.{IsPending}
+use Rattle.odd_tree.specs.declared.tree.Tree.{Tree}
+use Rattle.odd_tree.proofs.InList.{stands_push}
+use Rattle.odd_items.specs.Offences.{IsRefusal}
+use Rattle.odd_items.specs.Pending.{IsPending}
 use Rattle.odd_decls.specs.declared.odd.OddDoc.{OddDoc}
 use Rattle.odd_chain.specs.Files.{AreAllRead, AreDeclared, IsFirstPending}
 use Rattle.odd_chain.specs.Reading.{IsBrokenAfter}

@@ -4,8 +4,8 @@ use Rattle.odd_base.specs.declared.key.Key.{Key}
 use Rattle.odd_decls.specs.declared.library.Library.{Library}
 use Rattle.odd_decls.specs.declared.odd.OddDoc.{OddDoc}
 use Rattle.odd_meaning.specs.Rules.{Breaks}
-use Rattle.odd_modes.specs.After.{IsLibraryAfter}
-use Rattle.odd_modes.specs.Offences.{Offends}
+use Rattle.odd_choosing.specs.After.{IsLibraryAfter}
+use Rattle.odd_choosing.specs.Offences.{Offends}
 use Rattle.odd_chain.specs.Order.{Position, held, item}
 
 -- the number of a doc is its place, counted from 1

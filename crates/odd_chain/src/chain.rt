@@ -2,19 +2,19 @@ ghost use Rattle.std.specs.Prelude.{◌≡◌, ◌≢◌, ◌<◌, ◌^◌, ℕ,
 ghost use Rattle.odd_base.specs.declared.key.Key.{Key as AKey};
 ghost use Rattle.odd_base.specs.declared.offence.Offence.{Offence as AnOffence};
 ghost use Rattle.odd_meaning.specs.Rules.{Breaks};
-ghost use Rattle.odd_modes.specs.After.{IsLibraryAfter};
+ghost use Rattle.odd_choosing.specs.After.{IsLibraryAfter};
 ghost use Rattle.odd_chain.specs.Files.{AreAllRead, AreDeclared, Gives, IsChainRefusal, IsFirstPending};
 ghost use Rattle.odd_chain.specs.Offences.{OffendsIn};
 ghost use Rattle.odd_chain.specs.Order.{IsFirst, Position};
 ghost use Rattle.odd_chain.specs.Reading.{HasFewDocs, IsBrokenAfter, IsChainOf};
-ghost use Rattle.odd_reader.specs.Formed.{IsFormed};
-ghost use Rattle.odd_reader.specs.declared.tree.Tree.{Tree as ATree};
+ghost use Rattle.odd_tree.specs.Formed.{IsFormed};
+ghost use Rattle.odd_tree.specs.declared.tree.Tree.{Tree as ATree};
 
 use crate::merging::{OddDocs, merge};
 use odd_base::{NoMemory, Offence};
 use odd_decls::{Library, OddRefusal};
 use odd_docs::read_odd;
-use odd_reader::Tree;
+use odd_tree::Tree;
 use std::alloc::Global;
 
 /// What the files of a chain that are read so far declare. Files are numbered from 1.

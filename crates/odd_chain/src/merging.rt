@@ -2,7 +2,7 @@ ghost use Rattle.std.specs.Prelude.{◌≡◌, ◌≢◌, ◌<◌, ◌^◌, ℕ,
 ghost use Rattle.odd_base.specs.declared.key.Key.{Key as AKey};
 ghost use Rattle.odd_base.specs.declared.offence.Offence.{Offence as AnOffence};
 ghost use Rattle.odd_meaning.specs.Rules.{Breaks};
-ghost use Rattle.odd_modes.specs.After.{IsLibraryAfter};
+ghost use Rattle.odd_choosing.specs.After.{IsLibraryAfter};
 ghost use Rattle.odd_chain.specs.Offences.{OffendsIn};
 ghost use Rattle.odd_chain.specs.Order.{IsFirst, Position};
 ghost use Rattle.odd_chain.specs.Reading.{IsFirstOfLibrary};

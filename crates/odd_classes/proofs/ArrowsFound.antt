@@ -10,8 +10,8 @@ use Rattle.std.proofs.lemmas.List.Elements.{Contains-append_left, Contains-push,
 use Rattle.std.proofs.lemmas.Option.{same_Some, slice_get_within}
 use Rattle.odd_base.specs.Key.{key_cmp}
 use Rattle.odd_base.specs.declared.key.Key.{Key}
-use Rattle.odd_reader.specs.Elements.{StandsIn}
-use Rattle.odd_reader.proofs.InList.{StandsOnce, ends, once_push}
+use Rattle.odd_tree.specs.Elements.{StandsIn}
+use Rattle.odd_tree.proofs.InList.{StandsOnce, ends, once_push}
 use Rattle.odd_decls.specs.declared.library.Component.{Component}
 use Rattle.odd_classes.specs.Placing.{ArePlacesOf, IsEntryAt, IsGraphOf}
 use Rattle.odd_classes.proofs.OneMore.{both_more, none_more}

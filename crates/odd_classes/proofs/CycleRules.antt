@@ -5,8 +5,8 @@ use Rattle.odd_base.specs.declared.key.Key.{Key}
 use Rattle.odd_base.specs.declared.key.Kind.{Kind}
 use Rattle.odd_base.specs.declared.key.Kind.TheVariants as kind
 use Rattle.odd_graph.proofs.Chains.{last_step}
-use Rattle.odd_reader.specs.Elements.{StandsIn}
-use Rattle.odd_reader.proofs.InList.{contained}
+use Rattle.odd_tree.specs.Elements.{StandsIn}
+use Rattle.odd_tree.proofs.InList.{contained}
 use Rattle.odd_decls.specs.declared.library.Library.{Library}
 use Rattle.odd_meaning.specs.Links.{IsLinked, class_key, classes_of, is_macro, macro_key, macros_of, memberships, named_by}
 use Rattle.odd_meaning.specs.Rules.{Breaks, BreaksByCycle, IsFirstBreak, macro_not_held, own_member, reaches_itself, of_attributes}

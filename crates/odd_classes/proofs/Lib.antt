@@ -4,6 +4,7 @@ mod ElementsAmong
 mod Filled
 mod FirstBreaks
 pub mod Linked
+mod ListExamples
 mod Listed
 mod ListedEach
 mod ListedMembers
@@ -14,6 +15,7 @@ mod MembersReached
 mod ModelPlaces
 pub mod NamedParts
 mod OneMore
+mod OrderExamples
 mod Places
 mod PlacesPut
 pub mod Rising

@@ -8,7 +8,7 @@ use Rattle.odd_base.specs.Key.{key_cmp}
 use Rattle.odd_base.specs.declared.key.Key.{Key}
 use Rattle.odd_graph.specs.Graph.{Chained, HasArrow, Leads}
 use Rattle.odd_graph.proofs.Chains.{chained_along}
-use Rattle.odd_reader.specs.Elements.{StandsIn}
+use Rattle.odd_tree.specs.Elements.{StandsIn}
 use Rattle.odd_decls.specs.declared.library.Component.{Component}
 use Rattle.odd_decls.specs.declared.library.Library.{Library}
 use Rattle.odd_meaning.specs.Links.{IsLinked}

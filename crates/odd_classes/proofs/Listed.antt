@@ -12,7 +12,7 @@ use Rattle.std.proofs.lemmas.Option.{same_Some, slice_get_within}
 use Rattle.odd_base.specs.Key.{key_cmp}
 use Rattle.odd_base.specs.Text.{text_cmp}
 use Rattle.odd_base.specs.declared.key.Key.{Key}
-use Rattle.odd_reader.proofs.InList.{stands_push}
+use Rattle.odd_tree.proofs.InList.{stands_push}
 use Rattle.odd_forms.specs.Sorted.{IsSet}
 use Rattle.odd_graph.specs.Graph.{Leads}
 use Rattle.odd_decls.specs.Odd.{element_key}

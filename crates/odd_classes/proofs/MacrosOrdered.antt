@@ -9,8 +9,8 @@ use Rattle.odd_base.specs.Key.{key_cmp}
 use Rattle.odd_base.specs.declared.key.Key.{Key}
 use Rattle.odd_base.specs.declared.key.Kind.TheVariants as kind
 use Rattle.odd_graph.specs.Ordering.{IsApart, IsOrder}
-use Rattle.odd_reader.specs.Elements.{StandsIn}
-use Rattle.odd_reader.proofs.InList.{StandsOnce, after, before, begins, contained, ends, here, nothing_stands, once_push, standing, stands_around, stands_push}
+use Rattle.odd_tree.specs.Elements.{StandsIn}
+use Rattle.odd_tree.proofs.InList.{StandsOnce, after, before, begins, contained, ends, here, nothing_stands, once_push, standing, stands_around, stands_push}
 use Rattle.odd_decls.specs.declared.library.Component.{Component}
 use Rattle.odd_decls.specs.declared.library.Library.{Library}
 use Rattle.odd_meaning.specs.Links.{IsLinked, macro_key, macros_of}

@@ -5,7 +5,7 @@ use Rattle.std.specs.FinMap.{find, is_sorted}
 use Rattle.std.specs.declared.cmp.Ordering.{Ordering}
 use Rattle.odd_base.specs.Key.{key_cmp}
 use Rattle.odd_base.specs.declared.key.Key.{Key}
-use Rattle.odd_reader.proofs.InList.{nothing_stands}
+use Rattle.odd_tree.proofs.InList.{nothing_stands}
 use Rattle.odd_forms.specs.Sorted.{IsSet}
 use Rattle.odd_graph.specs.Graph.{HasArrow, Leads}
 use Rattle.odd_graph.proofs.Chains.{chained_back, last_step}

@@ -5,8 +5,8 @@ use Rattle.std.specs.Cmp.{IsTotalOrder}
 use Rattle.std.proofs.lemmas.List.Sums.{sum_by-cons}
 use Rattle.std.specs.declared.cmp.Ordering.{Ordering}
 use Rattle.std.specs.declared.cmp.Ordering.TheVariants.{Less}
-use Rattle.odd_reader.specs.Elements.{StandsIn}
-use Rattle.odd_reader.proofs.InList.{first_or_later, nothing_stands, stands_first, stands_later, stands_push}
+use Rattle.odd_tree.specs.Elements.{StandsIn}
+use Rattle.odd_tree.proofs.InList.{first_or_later, nothing_stands, stands_first, stands_later, stands_push}
 use Rattle.odd_forms.proofs.OneSet.{first_below, not_below, rest_rising}
 use Rattle.odd_forms.specs.Sorted.{AreRising}
 use Rattle.odd_forms.proofs.SetOf.{none_rising, rising_more}

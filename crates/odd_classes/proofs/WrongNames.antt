@@ -10,7 +10,7 @@ use Rattle.odd_base.specs.Key.{key_cmp}
 use Rattle.odd_base.specs.KeyOrder.{key_total}
 use Rattle.odd_base.specs.declared.key.Key.{Key}
 use Rattle.odd_base.specs.declared.key.Kind.TheVariants as kind
-use Rattle.odd_reader.proofs.InList.{StandsOnce}
+use Rattle.odd_tree.proofs.InList.{StandsOnce}
 use Rattle.odd_decls.specs.declared.library.ClassPart.{ClassPart}
 use Rattle.odd_decls.specs.declared.library.Component.{Component}
 use Rattle.odd_decls.specs.declared.library.Component.TheVariants as component

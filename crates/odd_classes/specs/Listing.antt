@@ -5,7 +5,7 @@ use Rattle.std.specs.List.{Contains}
 use Rattle.odd_base.specs.Text.{text_cmp}
 use Rattle.odd_base.specs.declared.key.Key.{Key}
 use Rattle.odd_graph.specs.Graph.{Leads}
-use Rattle.odd_reader.specs.Elements.{StandsIn}
+use Rattle.odd_tree.specs.Elements.{StandsIn}
 use Rattle.odd_forms.specs.Sorted.{AreRising, IsSet}
 use Rattle.odd_decls.specs.Odd.{element_key}
 use Rattle.odd_decls.specs.declared.library.ClassPart.{ClassPart}

@@ -7,7 +7,7 @@ ghost use Rattle.odd_decls.specs.declared.library.Component.TheVariants as the_c
 ghost use Rattle.odd_decls.specs.declared.library.ElementPart.{ElementPart as AnElementPart};
 ghost use Rattle.odd_meaning.specs.Classes.{IsElementOf};
 ghost use Rattle.odd_meaning.specs.Links.{class_key as the_class_key};
-ghost use Rattle.odd_reader.specs.Elements.{StandsIn};
+ghost use Rattle.odd_tree.specs.Elements.{StandsIn};
 ghost use Rattle.odd_classes.specs.Placing.{IsEntryAt};
 
 use crate::graph::{places_of, turned_by};

@@ -1,4 +1,4 @@
-ghost use Rattle.std.specs.Prelude.{◌≡◌, ◌≢◌, ℕ, Err, IsOk};
+ghost use Rattle.std.specs.Prelude.{◌≡◌, ℕ, Err, IsOk};
 ghost use Rattle.odd_base.specs.declared.key.Key.{Key as AKey};
 ghost use Rattle.odd_meaning.specs.Rules.{BreaksByCycle, IsFirstBreak};
 ghost use Rattle.odd_classes.specs.Placing.{IsFirstAmong, LeadsToItself};

@@ -3,7 +3,7 @@ ghost use Rattle.std.specs.FinMap.{find, is_sorted};
 ghost use Rattle.std.specs.List.{Contains};
 ghost use Rattle.odd_base.specs.Key.{key_cmp};
 ghost use Rattle.odd_base.specs.declared.key.Key.{Key as AKey};
-ghost use Rattle.odd_reader.specs.Elements.{StandsIn};
+ghost use Rattle.odd_tree.specs.Elements.{StandsIn};
 ghost use Rattle.odd_classes.specs.Placing.{ArePlacesOf, IsGraphOf, IsTurnedGraphOf, keys_by};
 
 use crate::links::{Link, linked};

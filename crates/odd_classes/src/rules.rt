@@ -1,6 +1,6 @@
 ghost use Rattle.std.specs.Prelude.{◌≡◌, ◌↔◌, ℕ, Err, IfOk, IsOk, IsTrue};
 ghost use Rattle.odd_base.specs.declared.key.Key.{Key as AKey};
-ghost use Rattle.odd_reader.specs.Elements.{StandsIn};
+ghost use Rattle.odd_tree.specs.Elements.{StandsIn};
 ghost use Rattle.odd_decls.specs.declared.library.ClassPart.{ClassPart as AClassPart};
 ghost use Rattle.odd_decls.specs.declared.library.Component.TheVariants as the_component;
 ghost use Rattle.odd_meaning.specs.Links.{named_by};

@@ -1,8 +1,9 @@
 ghost use Rattle.std.specs.Prelude.{◌≡◌, ◌<◌, ◌≤◌, length, take, IfSome};
 ghost use Rattle.std.specs.Io.KnownBytes.{Consumes, IsAtEnd};
 
+use odd_base::Text;
 use odd_base::count::next_count;
-use odd_base::{Shelf, ShelfFault, Text};
+use odd_outside::{Shelf, ShelfFault};
 use std::fs;
 use std::io::Read;
 use std::rt::Files;

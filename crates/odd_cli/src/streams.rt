@@ -2,7 +2,7 @@ ghost use Rattle.std.specs.Prelude.{◌≡◌, ◌<◌, ◌≤◌, length, take,
 ghost use Rattle.std.specs.Io.KnownBytes.{Appends};
 
 use odd_base::count::next_count;
-use odd_base::{Sink, SinkFault};
+use odd_outside::{Sink, SinkFault};
 use std::io::Write;
 
 /// An output of the process. It tells nothing of what is written.

@@ -2,7 +2,8 @@
 
 use crate::files::FileShelf;
 use crate::streams::StdSink;
-use odd_base::{Calls, Key, Kind, MemSink, Offence, Shelf, ShelfFault, Sink, SinkFault, Text, Who};
+use odd_base::{Key, Kind, Offence, Text, Who};
+use odd_outside::{Calls, MemSink, Shelf, ShelfFault, Sink, SinkFault};
 use odd_run::{LimitKind, Status, write_note};
 use std::io::{ErrorKind, Write};
 use std::test::Fail;

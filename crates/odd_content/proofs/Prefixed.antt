@@ -11,7 +11,7 @@ use Rattle.odd_base.specs.declared.name.Name.{Name}
 use Rattle.odd_tokens.specs.Characters.{IsNCName, is_name_char}
 use Rattle.odd_tokens.proofs.Fronts.{same_until}
 use Rattle.odd_tokens.proofs.NamesLexed.{colon_ends, ncname_chars}
-use Rattle.odd_reader.specs.Names.{in_force}
+use Rattle.odd_tree.specs.Names.{in_force}
 use Rattle.odd_forms.proofs.Named.{same_name}
 use Rattle.odd_content.specs.Excepting.{IsNameOf, IsPrefixed, IsReadAs, IsSpace, IsUnbound}
 use Rattle.odd_content.specs.declared.excepted.Excepted.TheVariants as excepted

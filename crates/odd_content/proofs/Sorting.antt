@@ -6,9 +6,9 @@ use Rattle.odd_base.specs.declared.name.Bind.{Bind}
 use Rattle.odd_base.specs.declared.name.Name.{Name}
 use Rattle.odd_base.specs.NameOrder.{name_cmp}
 use Rattle.odd_base.specs.Text.{text_cmp}
-use Rattle.odd_reader.specs.Elements.{StandsIn}
-use Rattle.odd_reader.specs.declared.tree.Tree.{Tree}
-use Rattle.odd_reader.proofs.InList.{StandsOnce, nothing_stands, once_push, stands_push}
+use Rattle.odd_tree.specs.Elements.{StandsIn}
+use Rattle.odd_tree.specs.declared.tree.Tree.{Tree}
+use Rattle.odd_tree.proofs.InList.{StandsOnce, nothing_stands, once_push, stands_push}
 use Rattle.odd_forms.specs.Sorted.{IsSet}
 use Rattle.odd_forms.proofs.SetOf.{set_same}
 use Rattle.odd_content.specs.Excepting.{IsExceptedName, IsExceptedSpace, IsNameOf, IsReadAs, IsSpace, IsUnbound}

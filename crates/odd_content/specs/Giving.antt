@@ -2,8 +2,8 @@
 use Rattle.std.specs.Prelude.{◌≡◌, ℕ, List, [], ◌∷◌, filter, Option, Some, None, if◌then◌else◌, is_some, codes, unwrap_or}
 use Rattle.odd_base.specs.declared.name.Bind.{Bind}
 use Rattle.odd_tokens.specs.Same.{is_same}
-use Rattle.odd_reader.specs.Elements.{children_of, given, within}
-use Rattle.odd_reader.specs.declared.tree.Tree.{Tree}
+use Rattle.odd_tree.specs.Elements.{children_of, given, within}
+use Rattle.odd_tree.specs.declared.tree.Tree.{Tree}
 use Rattle.rng_values.specs.declared.bounds.Bounds.{Bounds}
 use Rattle.odd_forms.specs.Faults.{child_in}
 use Rattle.odd_forms.specs.Form.{number_told}

@@ -1,12 +1,12 @@
-ghost use Rattle.std.specs.Prelude.{◌≡◌, ◌↔◌, map, IfOk, IsTrue};
-ghost use Rattle.odd_reader.specs.Elements.{all_binds};
+ghost use Rattle.std.specs.Prelude.{◌↔◌, map, IfOk, IsTrue};
+ghost use Rattle.odd_tree.specs.Elements.{all_binds};
 ghost use Rattle.odd_content.specs.Excepting.{HasUnbound, IsConditionOf};
 
 use crate::content::Condition;
 use crate::excepted::{Excepted, read_excepted};
 use odd_base::{Names, NoMemory, Words};
 use odd_forms::{sorted, words_given};
-use odd_reader::{Bindings, Tree};
+use odd_tree::{Bindings, Tree};
 use std::alloc::Global;
 
 /// A condition, and whether a prefix in it is not bound.

@@ -1,9 +1,9 @@
 ghost use Rattle.std.specs.Prelude.{IfOk, map};
-ghost use Rattle.odd_reader.specs.Elements.{all_binds};
+ghost use Rattle.odd_tree.specs.Elements.{all_binds};
 ghost use Rattle.odd_content.specs.Excepting.{IsReadAs};
 
 use odd_base::{Name, NoMemory, Text, TryCopy};
-use odd_reader::{Bindings, is_ncname, namespace_of};
+use odd_tree::{Bindings, is_ncname, namespace_of};
 use std::alloc::Global;
 
 /// What a word of `except` names.

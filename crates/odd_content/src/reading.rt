@@ -1,18 +1,18 @@
 ghost use Rattle.std.specs.Prelude.{◌≡◌, ◌≢◌, ◌++◌, ℕ, List, map, if◌then◌else◌, Err, IfOk, IsOk, Some};
 ghost use Rattle.odd_base.specs.declared.name.Bind.{Bind};
-ghost use Rattle.odd_reader.specs.Elements.{all_binds};
+ghost use Rattle.odd_tree.specs.Elements.{all_binds};
 ghost use Rattle.odd_forms.specs.Least.{IsLeast};
 ghost use Rattle.odd_content.specs.Breaking.{ContentFault, InnerFault, IsLevel, PartFault, PartsFault, has_several as the_has_several};
 ghost use Rattle.odd_content.specs.Giving.{AreParts, IsContentOf, IsPart, bounds_given as the_bounds_given, joined_parts, key_given as the_key_given, part_of as the_part_of, parts_of};
 ghost use Rattle.odd_forms.specs.declared.element.Element.TheVariants as the_element;
-ghost use Rattle.odd_reader.specs.declared.tree.Tree.{out-Tree};
+ghost use Rattle.odd_tree.specs.declared.tree.Tree.{out-Tree};
 
 use crate::condition::read_condition;
 use crate::content::{Content, Contents};
 use crate::picking::read_pick;
 use odd_base::{NoMemory, Scope, Text, TryCopy};
 use odd_forms::{Element, LEFT_OUT, MALFORMED, child_of, fault_where, form_fault, lesser, number};
-use odd_reader::{Bindings, Node, Tree, attribute, elements, entered};
+use odd_tree::{Bindings, Node, Tree, attribute, elements, entered};
 use rng_values::Bounds;
 use std::alloc::Global;
 

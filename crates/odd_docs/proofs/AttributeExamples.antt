@@ -4,14 +4,14 @@ use Rattle.std.proofs.lemmas.Cmp.{nat_list_cmp_total}
 use Rattle.std.specs.FinMap.{slice_cmp-IsAntisymmetric, nat_cmp-IsAntisymmetric}
 use Rattle.odd_base.specs.Text.{text_cmp}
 use Rattle.odd_base.specs.declared.key.Kind.TheVariants as kind
-use Rattle.odd_reader.specs.Elements.{StandsIn}
-use Rattle.odd_reader.specs.declared.tree.Attr.{Attr}
-use Rattle.odd_reader.specs.declared.tree.Tree.{Tree}
+use Rattle.odd_tree.specs.Elements.{StandsIn}
+use Rattle.odd_tree.specs.declared.tree.Attr.{Attr}
+use Rattle.odd_tree.specs.declared.tree.Tree.{Tree}
 use Rattle.odd_forms.specs.Names.{tei_namespace}
 use Rattle.odd_forms.specs.Sorted.{IsSet}
 use Rattle.odd_forms.proofs.SmallElements.{attribute}
 use Rattle.odd_forms.proofs.SetOf.{set_of_is}
-use Rattle.odd_docs.specs.Declares.{mode_given, namespace_given, namespace_in, namespace_of, start_of, type_given}
+use Rattle.odd_items.specs.Declares.{mode_given, namespace_given, namespace_in, namespace_of, start_of, type_given}
 use Rattle.odd_decls.specs.declared.spec.Mode.TheVariants as mode
 use Rattle.odd_docs.proofs.SmallFiles.{element}
 use Rattle.odd_docs.proofs.SmallItems.{bare, declared, of_mode, schema_at, spec_given}

@@ -1,8 +1,8 @@
 -- Small theorems on the content that an `elementSpec` gives.
 use Rattle.std.proofs.Common.{◌≡◌, true, List, [], ◌∷◌, Option, Some, None, refl, sym, subst, codes}
 use Rattle.std.specs.Prelude.{is_some}
-use Rattle.odd_reader.specs.Elements.{children_of}
-use Rattle.odd_reader.specs.declared.tree.Tree.{Tree}
+use Rattle.odd_tree.specs.Elements.{children_of}
+use Rattle.odd_tree.specs.declared.tree.Tree.{Tree}
 use Rattle.odd_forms.specs.Children.{GivesOne}
 use Rattle.odd_forms.specs.declared.element.Element.{Element}
 use Rattle.odd_forms.specs.declared.element.Element.TheVariants as elements
@@ -11,7 +11,7 @@ use Rattle.odd_content.specs.Giving.{AreParts, IsPart, part_of, IsContentOf}
 use Rattle.odd_content.specs.declared.content.Content.{Content}
 use Rattle.odd_content.specs.declared.content.Content.TheVariants as content
 use Rattle.odd_members.specs.Members.{IsMembershipOf}
-use Rattle.odd_docs.specs.Declares.{ChildrenGive}
+use Rattle.odd_items.specs.Declares.{ChildrenGive}
 use Rattle.odd_docs.proofs.SmallFiles.{Each, among, each_such, only_child}
 use Rattle.odd_docs.proofs.SmallItems.{IsNot, constraint_spec, content_no_classes, content_with, of_no_kind, only_part, part, spec_with}
 

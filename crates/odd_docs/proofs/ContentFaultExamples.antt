@@ -1,9 +1,9 @@
 -- Small theorems on what breaks the rule of an `elementSpec` in its `content`.
 use Rattle.std.proofs.Common.{◌≡◌, ℕ, List, [], ◌∷◌, refl, sym, subst, codes}
 use Rattle.std.specs.Prelude.{filter, is_some}
-use Rattle.odd_reader.specs.Elements.{StandsIn}
-use Rattle.odd_reader.specs.declared.tree.Tree.{Tree}
-use Rattle.odd_reader.proofs.InList.{stands_first}
+use Rattle.odd_tree.specs.Elements.{StandsIn}
+use Rattle.odd_tree.specs.declared.tree.Tree.{Tree}
+use Rattle.odd_tree.proofs.InList.{stands_first}
 use Rattle.odd_forms.specs.Faults.{ChildFault, FormFault}
 use Rattle.odd_forms.specs.Names.{relax_ng_namespace}
 use Rattle.odd_forms.specs.Table.{form_at}
@@ -11,7 +11,7 @@ use Rattle.odd_forms.specs.declared.element.Element.TheVariants as elements
 use Rattle.odd_forms.proofs.SmallElements.{elements_are}
 use Rattle.odd_content.specs.Breaking.{ContentFault, PartFault}
 use Rattle.odd_content.specs.Giving.{part_of}
-use Rattle.odd_docs.specs.Offences.{ItemFault, ItemOffends}
+use Rattle.odd_items.specs.Offences.{ItemFault, ItemOffends}
 use Rattle.odd_docs.proofs.SmallFiles.{element, element_in, only_child}
 use Rattle.odd_docs.proofs.SmallItems.{content_with, desc_with, spec_with}
 use Rattle.odd_docs.proofs.SmallSound.{MayStand, may_stand}

@@ -2,25 +2,25 @@
 use Rattle.std.proofs.Common.{◌≡◌, ◌<◌, List, [], ◌∷◌, ◌++◌, get_or, Option, Some, None, refl, sym, ap, ◌∙◌, codes, arith}
 use Rattle.std.specs.Cmp.Lexicographic.{other_text}
 use Rattle.odd_tokens.proofs.Ascii.{is_name}
-use Rattle.odd_reader.specs.declared.tree.Node.{Node, Text}
-use Rattle.odd_reader.specs.declared.tree.Tree.{Tree, roll-Tree}
+use Rattle.odd_tree.specs.declared.tree.Node.{Node, Text}
+use Rattle.odd_tree.specs.declared.tree.Tree.{Tree, roll-Tree}
 use Rattle.odd_forms.specs.Names.{tei, tei_namespace}
 use Rattle.odd_forms.specs.Table.{form_at}
 use Rattle.odd_forms.specs.declared.element.Element.TheVariants as elements
 use Rattle.odd_forms.proofs.SmallElements.{attribute, elements_are, nodes}
 use Rattle.odd_content.specs.declared.content.Content.{Content}
-use Rattle.odd_docs.specs.Declares.{Declares, IsEntryOf, PlacesRise}
+use Rattle.odd_items.specs.Declares.{Declares, IsEntryOf, PlacesRise}
 use Rattle.odd_decls.specs.Odd.{element_key}
-use Rattle.odd_docs.specs.Offences.{IsSpecOf}
-use Rattle.odd_docs.specs.Pending.{outermost}
-use Rattle.odd_docs.specs.Search.{Finds}
+use Rattle.odd_items.specs.Offences.{IsSpecOf}
+use Rattle.odd_items.specs.Pending.{outermost}
+use Rattle.odd_items.specs.Search.{Finds}
 use Rattle.odd_decls.specs.declared.odd.Entry.{Entry}
 use Rattle.odd_decls.specs.declared.odd.OddDoc.{OddDoc}
 use Rattle.odd_decls.specs.declared.spec.Spec.{Spec}
-use Rattle.odd_docs.specs.Search as search
+use Rattle.odd_items.specs.Search as search
 use Rattle.odd_decls.specs.declared.odd.Entry.TheVariants as entry
 use Rattle.odd_decls.specs.declared.spec.Mode.TheVariants as mode
-use Rattle.odd_docs.proofs.ItemFaults.{other_by_standing}
+use Rattle.odd_items.proofs.ItemFaults.{other_by_standing}
 use Rattle.odd_docs.proofs.ContentExamples.{Gives, bare_gives}
 use Rattle.odd_docs.proofs.OffenceExamples.{second_schema}
 use Rattle.odd_docs.proofs.OneDoc.{one_doc}

@@ -1,18 +1,18 @@
 -- Small theorems on items that refer to something: the entries that they are read as, and what they break.
 use Rattle.std.proofs.Common.{◌≡◌, List, [], ◌∷◌, Some, None, refl, codes}
 use Rattle.odd_base.specs.declared.key.Kind.TheVariants as kind
-use Rattle.odd_reader.specs.declared.tree.Attr.{Attr}
-use Rattle.odd_reader.specs.declared.tree.Tree.{Tree}
-use Rattle.odd_reader.proofs.InList.{stands_first, stands_later}
+use Rattle.odd_tree.specs.declared.tree.Attr.{Attr}
+use Rattle.odd_tree.specs.declared.tree.Tree.{Tree}
+use Rattle.odd_tree.proofs.InList.{stands_first, stands_later}
 use Rattle.odd_forms.specs.Faults.{AttributeFault, ChildFault, DemandFault, FormFault, OwnFault}
 use Rattle.odd_forms.specs.Table as table
 use Rattle.odd_forms.specs.declared.element.Element.TheVariants as elements
 use Rattle.odd_forms.proofs.SmallElements.{attribute}
 use Rattle.odd_content.specs.Giving.{pick_given}
 use Rattle.odd_content.specs.declared.content.Pick.TheVariants as pick
-use Rattle.odd_docs.specs.Declares.{IsEntryOf}
-use Rattle.odd_docs.specs.Offences.{ItemFault}
-use Rattle.odd_docs.specs.Search.{Found}
+use Rattle.odd_items.specs.Declares.{IsEntryOf}
+use Rattle.odd_items.specs.Offences.{ItemFault}
+use Rattle.odd_items.specs.Search.{Found}
 use Rattle.odd_decls.specs.declared.odd.Entry.{Entry}
 use Rattle.odd_decls.specs.declared.odd.Entry.TheVariants as entry
 use Rattle.odd_docs.proofs.SmallFiles.{element, only_child}

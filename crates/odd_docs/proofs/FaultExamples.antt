@@ -3,9 +3,9 @@ use Rattle.std.proofs.Common.{◌≡◌, ℕ, ◌≤◌, List, [], ◌∷◌, So
 use Rattle.std.specs.Prelude.{count_by}
 use Rattle.std.proofs.lemmas.Bool.{false≢true}
 use Rattle.odd_base.specs.declared.name.Bind.{Bind}
-use Rattle.odd_reader.specs.Elements.{StandsIn}
-use Rattle.odd_reader.specs.declared.tree.Tree.{Tree}
-use Rattle.odd_reader.proofs.InList.{stands_first, stands_later}
+use Rattle.odd_tree.specs.Elements.{StandsIn}
+use Rattle.odd_tree.specs.declared.tree.Tree.{Tree}
+use Rattle.odd_tree.proofs.InList.{stands_first, stands_later}
 use Rattle.odd_forms.specs.Faults.{AttributeFault, ChildFault, DemandFault, FormFault, OwnFault, ValueFault, child_in}
 use Rattle.odd_forms.specs.Form.{AttributeForm}
 use Rattle.odd_forms.specs.Least.{IsLeast}
@@ -15,7 +15,7 @@ use Rattle.odd_forms.specs.Form as form
 use Rattle.odd_forms.specs.Table as table
 use Rattle.odd_forms.specs.declared.element.Element.TheVariants as elements
 use Rattle.odd_forms.proofs.SmallElements.{attribute, elements_are}
-use Rattle.odd_docs.specs.Offences.{IsItem, ItemFault}
+use Rattle.odd_items.specs.Offences.{IsItem, ItemFault}
 use Rattle.odd_docs.proofs.SmallFiles.{Each, element, only_child, stands}
 use Rattle.odd_docs.proofs.SmallItems.{constraint_spec, content_with, declared, of_mode, of_no_kind, part, spec_given, spec_named, spec_with}
 use Rattle.odd_docs.proofs.SmallSound.{AreOnce, IsFine, spec_by_children}

@@ -3,14 +3,14 @@ use Rattle.std.proofs.Common.{◌≡◌, ℕ, ◌+◌, ◌<◌, true, false, Lis
 use Rattle.std.proofs.lemmas.Bool.{false≢true}
 use Rattle.std.proofs.lemmas.List.{append-nil, map-append, reverse-append}
 use Rattle.odd_base.specs.declared.name.Bind.{Bind}
-use Rattle.odd_reader.specs.declared.tree.Node.{Node, Text}
-use Rattle.odd_reader.specs.declared.tree.Tree.{Tree, out-Tree}
-use Rattle.odd_reader.specs.Elements.{all_binds, children_of, elements_of, within}
+use Rattle.odd_tree.specs.declared.tree.Node.{Node, Text}
+use Rattle.odd_tree.specs.declared.tree.Tree.{Tree, out-Tree}
+use Rattle.odd_tree.specs.Elements.{all_binds, children_of, elements_of, within}
 use Rattle.odd_docs.specs.Reading.{AddsFound, IsPathTo}
-use Rattle.odd_docs.specs.Search.{Finds, FindsAmong, Found, foreign, through, element}
+use Rattle.odd_items.specs.Search.{Finds, FindsAmong, Found, foreign, through, element}
 use Rattle.odd_forms.specs.Names.{is_one_of, is_tei}
-use Rattle.odd_reader.proofs.AmongChildren.{text_shown}
-use Rattle.odd_reader.proofs.InList.{begins}
+use Rattle.odd_tree.proofs.AmongChildren.{text_shown}
+use Rattle.odd_tree.proofs.InList.{begins}
 use Rattle.odd_docs.proofs.Searched.{FoundWith, found_with, none_found, schemas_of}
 
 -- the elements from a place on, where a text stands there

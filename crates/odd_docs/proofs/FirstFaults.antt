@@ -3,9 +3,9 @@ use Rattle.std.proofs.Common.{◌≡◌, ◌≤◌, ◌<◌, ℕ, suc, List, [],
 use Rattle.std.proofs.Math.Nat.{eq-or-lt_of_le}
 use Rattle.std.proofs.lemmas.List.{map-append}
 use Rattle.std.proofs.lemmas.Option.{same_Some}
-use Rattle.odd_reader.specs.declared.tree.Tree.{Tree, out-Tree}
-use Rattle.odd_reader.specs.Elements.{StandsIn, children_of, within}
-use Rattle.odd_reader.proofs.InList.{first_or_later, nothing_stands, stands_first, stands_later}
+use Rattle.odd_tree.specs.declared.tree.Tree.{Tree, out-Tree}
+use Rattle.odd_tree.specs.Elements.{StandsIn, children_of, within}
+use Rattle.odd_tree.proofs.InList.{first_or_later, nothing_stands, stands_first, stands_later}
 use Rattle.odd_forms.specs.Faults.{OwnFault}
 use Rattle.odd_forms.specs.Least.{IsLeast}
 use Rattle.odd_forms.specs.Table.{form_at}
@@ -13,10 +13,10 @@ use Rattle.odd_forms.specs.declared.element.Element.TheVariants as element
 use Rattle.odd_decls.specs.declared.fault.Fault.{Fault}
 use Rattle.odd_decls.specs.First.{IsEarlier, IsNotAfter}
 use Rattle.odd_docs.specs.Faults.{StandsAgain}
-use Rattle.odd_docs.specs.Offences.{ItemOffends, Offends}
+use Rattle.odd_items.specs.Offences.{ItemOffends, Offends}
 use Rattle.odd_docs.specs.Reading.{AllRise, IsFirstFault, Rises}
-use Rattle.odd_docs.specs.Search.{Found}
-use Rattle.odd_docs.specs.Offences as offences
+use Rattle.odd_items.specs.Search.{Found}
+use Rattle.odd_items.specs.Offences as offences
 use Rattle.odd_docs.proofs.Searched.{schemas_of}
 use Rattle.odd_docs.proofs.ItemOffences.{offence_stands}
 use Rattle.odd_decls.proofs.OffenceOrder.{not_after_through}

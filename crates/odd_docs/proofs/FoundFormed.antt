@@ -2,17 +2,17 @@
 use Rattle.std.proofs.Common.{◌≡◌, ℕ, suc, ◌≤◌, Bool, true, false, codes, if◌then◌else◌, List, [], ◌∷◌, ◌++◌, ⊎_elim, sym, ap, subst, ◌∙◌, arith}
 use Rattle.std.proofs.lemmas.List.{map-append}
 use Rattle.odd_base.specs.declared.name.Bind.{Bind}
-use Rattle.odd_reader.specs.Formed.{AreFormed, IsFormed}
-use Rattle.odd_reader.specs.Formed as formed
-use Rattle.odd_reader.specs.declared.tree.Node.{Node}
-use Rattle.odd_reader.specs.declared.tree.Tree.{Tree, out-Tree}
-use Rattle.odd_reader.specs.Elements.{StandsIn, elements_of}
-use Rattle.odd_docs.specs.Search.{Finds, FindsAmong, Found}
+use Rattle.odd_tree.specs.Formed.{AreFormed, IsFormed}
+use Rattle.odd_tree.specs.Formed as formed
+use Rattle.odd_tree.specs.declared.tree.Node.{Node}
+use Rattle.odd_tree.specs.declared.tree.Tree.{Tree, out-Tree}
+use Rattle.odd_tree.specs.Elements.{StandsIn, elements_of}
+use Rattle.odd_items.specs.Search.{Finds, FindsAmong, Found}
 use Rattle.odd_forms.specs.Names.{is_one_of}
-use Rattle.odd_docs.specs.Search as search
-use Rattle.odd_reader.proofs.AmongChildren.{with_element, with_text}
+use Rattle.odd_items.specs.Search as search
+use Rattle.odd_tree.proofs.AmongChildren.{with_element, with_text}
 use Rattle.odd_docs.proofs.Searched.{FoundWith, found_with, none_found, schemas_of}
-use Rattle.odd_reader.proofs.InList.{first_or_later, map_stands, nothing_stands}
+use Rattle.odd_tree.proofs.InList.{first_or_later, map_stands, nothing_stands}
 
 -- the element is formed, between some places
 abbrev pub IsFormedSomewhere : Tree → Type 0

@@ -4,12 +4,12 @@ use Rattle.std.specs.List.{list_any}
 use Rattle.std.proofs.lemmas.Bool.{and_from, and_parts, false≢true, or_cases, or_left, or_right}
 use Rattle.std.proofs.lemmas.List.{take-append-drop}
 use Rattle.std.proofs.lemmas.List.Folds.{list_any-append}
-use Rattle.odd_reader.specs.declared.tree.Tree.{Tree}
-use Rattle.odd_reader.specs.Elements.{StandsIn, children_of}
-use Rattle.odd_docs.specs.Pending.{HoldsForm, IsForm, around_in, here, inside}
-use Rattle.odd_docs.specs.Pending as pending
+use Rattle.odd_tree.specs.declared.tree.Tree.{Tree}
+use Rattle.odd_tree.specs.Elements.{StandsIn, children_of}
+use Rattle.odd_items.specs.Pending.{HoldsForm, IsForm, around_in, here, inside}
+use Rattle.odd_items.specs.Pending as pending
 use Rattle.odd_forms.specs.Names.{is_one_of}
-use Rattle.odd_reader.proofs.InList.{StandsOnce, first_or_later}
+use Rattle.odd_tree.proofs.InList.{StandsOnce, first_or_later}
 
 -- the names of a row, and whether the row speaks of an element with these around it
 abbrev Row : Type 0

@@ -1,17 +1,17 @@
 -- The offences of items that are read one after another, and the first fault among them.
 use Rattle.std.proofs.Common.{◌≡◌, ◌≤◌, ℕ, suc, List, [], ◌∷◌, ◌++◌, Some, inl, inr, refl, sym, ap, subst, ◌∙◌}
 use Rattle.odd_base.specs.declared.name.Bind.{Bind}
-use Rattle.odd_reader.specs.declared.tree.Tree.{Tree, out-Tree}
-use Rattle.odd_reader.specs.Elements.{StandsIn}
-use Rattle.odd_reader.proofs.InList.{nothing_stands, stands_around}
-use Rattle.odd_reader.proofs.InList as standing
+use Rattle.odd_tree.specs.declared.tree.Tree.{Tree, out-Tree}
+use Rattle.odd_tree.specs.Elements.{StandsIn}
+use Rattle.odd_tree.proofs.InList.{nothing_stands, stands_around}
+use Rattle.odd_tree.proofs.InList as standing
 use Rattle.odd_forms.specs.Least.{IsLeast}
 use Rattle.odd_forms.proofs.Twice.{later_stands, twice_around, twice_with}
 use Rattle.odd_forms.proofs.Twice as twice
 use Rattle.odd_decls.specs.First.{IsNotAfter}
-use Rattle.odd_docs.specs.Offences.{IsSpecOf, ItemFault, ItemOffends}
+use Rattle.odd_items.specs.Offences.{IsSpecOf, ItemFault, ItemOffends}
 use Rattle.odd_docs.specs.Reading.{IsFirstFault, Rises}
-use Rattle.odd_docs.specs.Offences as offences
+use Rattle.odd_items.specs.Offences as offences
 use Rattle.odd_docs.proofs.Repeats.{BreaksAfter}
 use Rattle.odd_docs.proofs.RisingPlaces.{first_fault, place_from, rises_after}
 

@@ -3,12 +3,13 @@ use Rattle.std.proofs.Common.{◌≡◌, ℕ, List, [], ◌∷◌, ◌++◌, Opt
 use Rattle.std.specs.BTreeSet.{BTreeSet}
 use Rattle.odd_base.specs.declared.key.Key.{Key}
 use Rattle.odd_base.specs.declared.name.Bind.{Bind}
-use Rattle.odd_reader.specs.Elements.{children_of, within}
-use Rattle.odd_reader.specs.declared.tree.Tree.{Tree, out-Tree}
+use Rattle.odd_tree.specs.Elements.{children_of, within}
+use Rattle.odd_tree.specs.declared.tree.Tree.{Tree, out-Tree}
 use Rattle.odd_forms.specs.Least.{IsLeast}
 use Rattle.odd_docs.specs.Faults.{HoldsKeys}
-use Rattle.odd_docs.specs.Reading.{AreItemsRead, AreRead, GivesEntry}
-use Rattle.odd_docs.specs.Search.{Found}
+use Rattle.odd_items.specs.Reading.{GivesEntry}
+use Rattle.odd_docs.specs.Reading.{AreItemsRead, AreRead}
+use Rattle.odd_items.specs.Search.{Found}
 use Rattle.odd_decls.specs.declared.odd.Entry.{Entry}
 use Rattle.odd_docs.specs.declared.reading.ReadItems.TheVariants as items
 use Rattle.odd_docs.proofs.ItemOffences.{NoneOffends, first_broken, none_more, none_offends}

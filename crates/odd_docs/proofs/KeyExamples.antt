@@ -4,13 +4,13 @@ use Rattle.std.proofs.lemmas.Option.{same_Some}
 use Rattle.odd_base.specs.declared.key.Key.{Key}
 use Rattle.odd_base.specs.declared.key.Kind.TheVariants as kind
 use Rattle.odd_tokens.specs.Characters.{IsNCName}
-use Rattle.odd_reader.specs.declared.tree.Tree.{Tree, out-Tree}
+use Rattle.odd_tree.specs.declared.tree.Tree.{Tree, out-Tree}
 use Rattle.odd_forms.specs.declared.element.Element.{Element}
 use Rattle.odd_forms.specs.declared.element.Element.TheVariants as elements
 use Rattle.odd_forms.proofs.SmallElements.{attribute}
 use Rattle.odd_decls.specs.Odd.{element_key}
-use Rattle.odd_docs.specs.Offences.{IsItem, IsSpecOf, ItemOffends, kind_declared}
-use Rattle.odd_docs.proofs.ItemFaults.{one_element}
+use Rattle.odd_items.specs.Offences.{IsItem, IsSpecOf, ItemOffends, kind_declared}
+use Rattle.odd_items.proofs.ItemFaults.{one_element}
 use Rattle.odd_docs.proofs.SmallFiles.{element}
 use Rattle.odd_docs.proofs.SmallItems.{constraint_spec, declared, of_mode, reference, spec_key, spec_with}
 use Rattle.odd_docs.proofs.WordExamples.{one_is_no_name}

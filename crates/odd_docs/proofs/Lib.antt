@@ -8,9 +8,6 @@ pub mod Finding
 pub mod FirstFaults
 pub mod FoundFormed
 pub mod Holding
-pub mod ItemElements
-pub mod ItemEntries
-pub mod ItemFaults
 pub mod ItemOffences
 pub mod ItemsRead
 pub mod KeyExamples

@@ -2,8 +2,8 @@
 use Rattle.std.proofs.Common.{◌≡◌, ℕ, List, [], ◌∷◌, inl, inr, refl, sym, codes, arith}
 use Rattle.std.proofs.lemmas.List.Elements.{All-contains}
 use Rattle.odd_tokens.specs.Characters.{IsNCName}
-use Rattle.odd_reader.specs.declared.tree.Tree.{Tree, out-Tree}
-use Rattle.odd_reader.proofs.InList.{stands_first, stands_later}
+use Rattle.odd_tree.specs.declared.tree.Tree.{Tree, out-Tree}
+use Rattle.odd_tree.proofs.InList.{stands_first, stands_later}
 use Rattle.odd_forms.specs.Faults.{AttributeFault, ChildFault, OwnFault, ValueFault}
 use Rattle.odd_forms.specs.Form.{AreNames}
 use Rattle.odd_forms.specs.Table.{form_at}
@@ -13,9 +13,9 @@ use Rattle.odd_forms.specs.Table as table
 use Rattle.odd_forms.specs.declared.element.Element.TheVariants as elements
 use Rattle.odd_forms.proofs.SmallElements.{attribute}
 use Rattle.odd_decls.specs.First.{IsFirstOf, IsNotAfter}
-use Rattle.odd_docs.specs.Offences.{HasOffence, ItemFault, ItemOffends, Offends}
-use Rattle.odd_docs.specs.Search.{Finds, Found, through}
-use Rattle.odd_docs.specs.Search as search
+use Rattle.odd_items.specs.Offences.{HasOffence, ItemFault, ItemOffends, Offends}
+use Rattle.odd_items.specs.Search.{Finds, Found, through}
+use Rattle.odd_items.specs.Search as search
 use Rattle.odd_decls.proofs.OffenceOrder.{neither_after}
 use Rattle.odd_docs.proofs.SearchExamples.{found_after_outer, outer, two_found, two_schemas}
 use Rattle.odd_docs.proofs.SmallFiles.{alone, element, only_child}

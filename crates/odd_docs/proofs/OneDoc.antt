@@ -6,8 +6,8 @@ use Rattle.std.specs.Cmp.{nat_cmp_is}
 use Rattle.std.specs.Ordering.{nat_cmp}
 use Rattle.std.specs.declared.cmp.Ordering.{Ordering}
 use Rattle.std.specs.declared.cmp.Ordering.TheVariants.{Less}
-use Rattle.odd_reader.specs.Elements.{StandsIn, children_of}
-use Rattle.odd_reader.specs.declared.tree.Tree.{Tree, out-Tree}
+use Rattle.odd_tree.specs.Elements.{StandsIn, children_of}
+use Rattle.odd_tree.specs.declared.tree.Tree.{Tree, out-Tree}
 use Rattle.odd_forms.specs.Faults.{FormFault}
 use Rattle.odd_forms.specs.Sorted.{IsSet}
 use Rattle.odd_forms.specs.declared.element.Element.{Element}
@@ -15,10 +15,10 @@ use Rattle.odd_forms.proofs.OneSet.{one_set}
 use Rattle.odd_content.proofs.OneContent.{one_texts}
 use Rattle.odd_decls.specs.declared.odd.Entry.{Entry}
 use Rattle.odd_decls.specs.declared.odd.OddDoc.{OddDoc}
-use Rattle.odd_docs.specs.Declares.{AreEntriesOf, Declares, IsDocOf, IsEntryOf, PlacesRise}
+use Rattle.odd_items.specs.Declares.{AreEntriesOf, Declares, IsDocOf, IsEntryOf, PlacesRise}
 use Rattle.odd_decls.specs.Odd.{place_of}
-use Rattle.odd_docs.specs.Offences.{IsItem, ItemFault, ItemOffends, Offends}
-use Rattle.odd_docs.specs.Search.{Found}
+use Rattle.odd_items.specs.Offences.{IsItem, ItemFault, ItemOffends, Offends}
+use Rattle.odd_items.specs.Search.{Found}
 use Rattle.odd_docs.proofs.Searched.{one_search}
 use Rattle.odd_docs.proofs.OneEntry.{HasNoTwo, made_of, one_entry}
 

@@ -4,8 +4,8 @@ use Rattle.std.specs.Prelude.{count_by}
 use Rattle.std.proofs.lemmas.Option.{same_Some}
 use Rattle.std.specs.Option.{option_map}
 use Rattle.odd_base.specs.declared.key.Kind.{Kind}
-use Rattle.odd_reader.specs.Elements.{StandsIn, children_of, within}
-use Rattle.odd_reader.specs.declared.tree.Tree.{Tree, out-Tree}
+use Rattle.odd_tree.specs.Elements.{StandsIn, children_of, within}
+use Rattle.odd_tree.specs.declared.tree.Tree.{Tree, out-Tree}
 use Rattle.odd_forms.specs.Children.{GivesOne}
 use Rattle.odd_forms.specs.Names.{is_one_of}
 use Rattle.odd_forms.specs.Table.{form_at}
@@ -18,12 +18,12 @@ use Rattle.odd_members.specs.Members.{IsMembershipOf}
 use Rattle.odd_members.proofs.OneMembership.{one_membership}
 use Rattle.odd_decls.specs.declared.odd.Entry.{Entry}
 use Rattle.odd_decls.specs.declared.spec.Spec.{Spec}
-use Rattle.odd_docs.specs.Declares.{ChildrenGive, IsEntryOf, IsReadAs, kind_taken, namespace_of, type_given}
-use Rattle.odd_docs.specs.Offences.{IsItem, kind_declared}
-use Rattle.odd_docs.specs.Reading.{reference_of, taken_of}
-use Rattle.odd_docs.specs.Search.{Found}
+use Rattle.odd_items.specs.Declares.{ChildrenGive, IsEntryOf, IsReadAs, kind_taken, namespace_of, type_given}
+use Rattle.odd_items.specs.Offences.{IsItem, kind_declared}
+use Rattle.odd_items.specs.Reading.{reference_of, taken_of}
+use Rattle.odd_items.specs.Search.{Found}
 use Rattle.odd_decls.specs.declared.odd.Entry.TheVariants as entry
-use Rattle.odd_docs.proofs.ItemElements.{reference_taken, stands_once}
+use Rattle.odd_items.proofs.ItemElements.{reference_taken, stands_once}
 use Rattle.odd_docs.proofs.Repeats.{one_key}
 use Rattle.odd_docs.proofs.OnePasses.{one_passes}
 

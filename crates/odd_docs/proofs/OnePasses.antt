@@ -2,8 +2,8 @@
 use Rattle.std.proofs.Common.{◌≡◌, ◌≤◌, ◌+◌, Bool, true, cond, List, [], ◌∷◌, ⊎_elim, sym, ap, ◌∙◌, arith, suc}
 use Rattle.std.specs.Prelude.{count_by}
 use Rattle.std.proofs.lemmas.List.Sums.{sum_by-cons}
-use Rattle.odd_reader.specs.Elements.{StandsIn}
-use Rattle.odd_reader.proofs.InList.{first_or_later, nothing_stands}
+use Rattle.odd_tree.specs.Elements.{StandsIn}
+use Rattle.odd_tree.proofs.InList.{first_or_later, nothing_stands}
 
 -- an item more that passes a test
 one_more : {A : Type 0} (test : A → Bool) (xs : List A) (y : A) → test y ≡ true → count_by test (y ∷ xs) ≡ suc (count_by test xs)

@@ -1,12 +1,12 @@
 -- Small theorems on the forms that are not read yet: where one stands, and where none does.
 use Rattle.std.proofs.Common.{◌≡◌, ℕ, List, [], ◌∷◌, refl, codes, false}
 use Rattle.std.proofs.lemmas.Bool.{false≢true}
-use Rattle.odd_reader.specs.declared.tree.Tree.{Tree}
+use Rattle.odd_tree.specs.declared.tree.Tree.{Tree}
 use Rattle.odd_forms.proofs.SmallElements.{elements_are}
-use Rattle.odd_docs.specs.Pending.{IsForm, IsPending, outermost, around_in}
-use Rattle.odd_docs.specs.Search.{through}
-use Rattle.odd_docs.specs.Pending as pending
-use Rattle.odd_docs.specs.Search as search
+use Rattle.odd_items.specs.Pending.{IsForm, IsPending, outermost, around_in}
+use Rattle.odd_items.specs.Search.{through}
+use Rattle.odd_items.specs.Pending as pending
+use Rattle.odd_items.specs.Search as search
 use Rattle.odd_docs.proofs.SmallFiles.{element, element_in}
 use Rattle.odd_docs.proofs.SmallItems.{content_with, desc_with, p_with, part}
 use Rattle.odd_docs.proofs.SmallPending.{HoldsNone, in_child, none_held, plain}

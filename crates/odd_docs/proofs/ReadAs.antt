@@ -1,16 +1,16 @@
 -- The entries that items are read as, with one item more.
 use Rattle.std.proofs.Common.{◌≡◌, ◌<◌, List, [], ◌∷◌, ◌++◌, inl, inr, ⊎_elim, refl, sym, subst, ◌∙◌, append_assoc}
-use Rattle.odd_reader.specs.Elements.{StandsIn}
-use Rattle.odd_reader.specs.declared.tree.Tree.{Tree, out-Tree}
-use Rattle.odd_reader.proofs.InList.{nothing_stands, stands_around, stands_push}
-use Rattle.odd_reader.proofs.InList as standing
+use Rattle.odd_tree.specs.Elements.{StandsIn}
+use Rattle.odd_tree.specs.declared.tree.Tree.{Tree, out-Tree}
+use Rattle.odd_tree.proofs.InList.{nothing_stands, stands_around, stands_push}
+use Rattle.odd_tree.proofs.InList as standing
 use Rattle.odd_forms.specs.declared.element.Element.{Element}
-use Rattle.odd_docs.specs.Declares.{IsEntryOf, PlacesRise}
-use Rattle.odd_docs.specs.Declares as entries
+use Rattle.odd_items.specs.Declares.{IsEntryOf, PlacesRise}
+use Rattle.odd_items.specs.Declares as entries
 use Rattle.odd_decls.specs.Odd.{place_of}
-use Rattle.odd_docs.specs.Offences.{IsItem}
+use Rattle.odd_items.specs.Offences.{IsItem}
 use Rattle.odd_docs.specs.Reading.{AreRead, Rises}
-use Rattle.odd_docs.specs.Search.{Found}
+use Rattle.odd_items.specs.Search.{Found}
 use Rattle.odd_decls.specs.declared.odd.Entry.{Entry}
 use Rattle.odd_docs.proofs.RisingPlaces.{before_last, rises_first}
 

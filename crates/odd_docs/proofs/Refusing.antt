@@ -3,17 +3,17 @@ use Rattle.std.proofs.Common.{◌≡◌, ◌<◌, ℕ, List, [], ◌∷◌, ◌+
 use Rattle.std.proofs.lemmas.List.{take_all}
 use Rattle.odd_base.specs.declared.offence.Offence.{Offence}
 use Rattle.odd_base.specs.declared.offence.Who.TheVariants as who
-use Rattle.odd_reader.specs.Formed.{IsFormed}
-use Rattle.odd_reader.specs.declared.tree.Tree.{Tree}
+use Rattle.odd_tree.specs.Formed.{IsFormed}
+use Rattle.odd_tree.specs.declared.tree.Tree.{Tree}
 use Rattle.odd_decls.specs.declared.odd.OddDoc.{OddDoc}
 use Rattle.odd_decls.specs.declared.fault.Fault.{Fault}
 use Rattle.odd_docs.specs.declared.reading.Read.{Read}
 use Rattle.odd_docs.specs.declared.reading.Read.TheVariants as read
-use Rattle.odd_docs.specs.Declares.{Declares}
-use Rattle.odd_docs.specs.Offences.{HasOffence, IsOffenceOf, IsRefusal, Offends}
-use Rattle.odd_docs.specs.Pending.{HoldsForm, IsPending, form, no_schema, outermost}
+use Rattle.odd_items.specs.Declares.{Declares}
+use Rattle.odd_items.specs.Offences.{HasOffence, IsOffenceOf, IsRefusal, Offends}
+use Rattle.odd_items.specs.Pending.{HoldsForm, IsPending, form, no_schema, outermost}
 use Rattle.odd_docs.specs.Reading.{AddsFound, IsReadOrBroken}
-use Rattle.odd_docs.specs.Search.{Finds, Found}
+use Rattle.odd_items.specs.Search.{Finds, Found}
 use Rattle.odd_docs.proofs.Rising.{places_rise}
 use Rattle.odd_docs.proofs.Searched.{one_search, schemas_of}
 

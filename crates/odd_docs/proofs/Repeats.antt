@@ -9,13 +9,13 @@ use Rattle.std.specs.Ordering.{eq_by_cmp, is_eq}
 use Rattle.odd_base.specs.Key.{key_cmp}
 use Rattle.odd_base.specs.declared.key.Key.{Key}
 use Rattle.odd_base.specs.declared.name.Bind.{Bind}
-use Rattle.odd_reader.specs.declared.tree.Tree.{Tree}
+use Rattle.odd_tree.specs.declared.tree.Tree.{Tree}
 use Rattle.odd_forms.specs.Least.{IsLeast, lesser_rule}
 use Rattle.odd_forms.proofs.Least.{least_if, least_or}
 use Rattle.odd_decls.proofs.SameKey.{key_itself, same_key}
 use Rattle.odd_docs.specs.Faults.{HoldsKeys, IsKeyIn}
-use Rattle.odd_docs.specs.Offences.{IsSpecOf, ItemFault, kind_declared}
-use Rattle.odd_reader.proofs.InList.{nothing_stands, once_push}
+use Rattle.odd_items.specs.Offences.{IsSpecOf, ItemFault, kind_declared}
+use Rattle.odd_tree.proofs.InList.{nothing_stands, once_push}
 
 -- an item declares at one key
 pub one_key : (item : Tree) (key other : Key) → IsSpecOf key item → IsSpecOf other item → key ≡ other

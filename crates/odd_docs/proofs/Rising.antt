@@ -1,11 +1,11 @@
 -- The elements that the search finds, and the children of an element, begin at places that rise.
 use Rattle.std.proofs.Common.{ℕ, suc, List, [], ◌∷◌}
-use Rattle.odd_reader.specs.Formed.{IsFormed}
-use Rattle.odd_reader.specs.Formed as formed
-use Rattle.odd_reader.specs.declared.tree.Tree.{Tree, out-Tree}
+use Rattle.odd_tree.specs.Formed.{IsFormed}
+use Rattle.odd_tree.specs.Formed as formed
+use Rattle.odd_tree.specs.declared.tree.Tree.{Tree, out-Tree}
 use Rattle.odd_docs.specs.Reading.{AllRise, Rises}
-use Rattle.odd_docs.specs.Search.{Finds, Found}
-use Rattle.odd_reader.specs.Elements.{children_of}
+use Rattle.odd_items.specs.Search.{Finds, Found}
+use Rattle.odd_tree.specs.Elements.{children_of}
 use Rattle.odd_docs.proofs.FoundFormed.{IsFormedSomewhere, LieIn, found_lie, nodes_lie}
 use Rattle.odd_docs.proofs.Searched.{schemas_of}
 

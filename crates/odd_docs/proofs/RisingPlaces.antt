@@ -1,8 +1,8 @@
 -- Elements whose places rise: which of them is below another, which of them rise by themselves, and which fault is the first.
 use Rattle.std.proofs.Common.{◌≡◌, ◌≤◌, ◌<◌, ℕ, suc, List, [], ◌∷◌, ◌++◌, refl, ap, subst, ◌∙◌, append_assoc, arith}
-use Rattle.odd_reader.specs.declared.tree.Tree.{Tree, out-Tree}
-use Rattle.odd_reader.specs.Elements.{StandsIn}
-use Rattle.odd_reader.proofs.InList.{nothing_stands}
+use Rattle.odd_tree.specs.declared.tree.Tree.{Tree, out-Tree}
+use Rattle.odd_tree.specs.Elements.{StandsIn}
+use Rattle.odd_tree.proofs.InList.{nothing_stands}
 use Rattle.odd_decls.specs.First.{IsNotAfter}
 use Rattle.odd_decls.specs.declared.fault.Fault.{Fault}
 use Rattle.odd_docs.specs.Reading.{IsFirstFault, Rises}

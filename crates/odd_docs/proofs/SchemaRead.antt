@@ -3,19 +3,19 @@ use Rattle.std.proofs.Common.{◌≡◌, ℕ, List, [], ◌∷◌, ◌++◌, Opt
 use Rattle.std.specs.Prelude.{codes, unwrap_or}
 use Rattle.odd_base.specs.Text.{text_cmp}
 use Rattle.odd_base.specs.declared.name.Bind.{Bind}
-use Rattle.odd_reader.specs.Elements.{StandsIn, children_of, given, within}
-use Rattle.odd_reader.specs.declared.tree.Tree.{Tree, out-Tree}
-use Rattle.odd_reader.proofs.InList.{stands_first}
+use Rattle.odd_tree.specs.Elements.{StandsIn, children_of, given, within}
+use Rattle.odd_tree.specs.declared.tree.Tree.{Tree, out-Tree}
+use Rattle.odd_tree.proofs.InList.{stands_first}
 use Rattle.odd_forms.specs.Faults.{AttributeFault, OwnFault}
 use Rattle.odd_forms.specs.Form.{name}
 use Rattle.odd_forms.specs.Least.{IsLeast}
 use Rattle.odd_forms.specs.Sorted.{IsSet}
 use Rattle.odd_forms.specs.Table.{form_at, needed}
 use Rattle.odd_forms.specs.declared.element.Element.TheVariants as element
-use Rattle.odd_docs.specs.Declares.{AreEntriesOf, PlacesRise, start_of}
+use Rattle.odd_items.specs.Declares.{AreEntriesOf, PlacesRise, start_of}
 use Rattle.odd_docs.specs.Faults.{StandsAgain}
 use Rattle.odd_docs.specs.Reading.{AreItemsRead, ArePartsRead, IsFirstIn, IsReadOrBroken, Rises}
-use Rattle.odd_docs.specs.Search.{Found}
+use Rattle.odd_items.specs.Search.{Found}
 use Rattle.odd_decls.specs.declared.odd.Entry.{Entry}
 use Rattle.odd_decls.specs.declared.odd.OddDoc.{OddDoc}
 use Rattle.odd_decls.specs.declared.fault.Fault.{Fault}

@@ -2,13 +2,13 @@
 use Rattle.std.proofs.Common.{◌≡◌, ℕ, List, [], ◌∷◌, refl, ap, codes, arith}
 use Rattle.odd_base.specs.declared.name.Bind.{Bind}
 use Rattle.odd_tokens.proofs.Ascii.{is_name}
-use Rattle.odd_reader.specs.declared.tree.Node.{Element, Text}
-use Rattle.odd_reader.specs.declared.tree.Tree.{Tree, out-Tree, roll-Tree}
+use Rattle.odd_tree.specs.declared.tree.Node.{Element, Text}
+use Rattle.odd_tree.specs.declared.tree.Tree.{Tree, out-Tree, roll-Tree}
 use Rattle.odd_forms.specs.Names.{tei}
 use Rattle.odd_forms.proofs.SmallElements.{elements_are, nodes}
 use Rattle.odd_content.specs.Excepting.{IsNameOf}
-use Rattle.odd_docs.specs.Search.{Finds, Found, foreign, through}
-use Rattle.odd_docs.specs.Search as search
+use Rattle.odd_items.specs.Search.{Finds, Found, foreign, through}
+use Rattle.odd_items.specs.Search as search
 use Rattle.odd_docs.proofs.Searched.{one_search}
 use Rattle.odd_docs.proofs.SmallFiles.{alone, element, element_first, element_in, found_first, found_through, text_first}
 use Rattle.odd_docs.proofs.SmallItems.{schema_at}

@@ -2,9 +2,9 @@
 use Rattle.std.proofs.Common.{◌≡◌, List, [], ◌∷◌, ◌++◌, map, refl, sym, ap₂, ◌∙◌}
 use Rattle.std.proofs.lemmas.Bool.{false≢true}
 use Rattle.odd_base.specs.declared.name.Bind.{Bind}
-use Rattle.odd_reader.specs.declared.tree.Tree.{Tree}
-use Rattle.odd_reader.specs.Elements.{children_of, within}
-use Rattle.odd_docs.specs.Search.{Finds, FindsAmong, Found, foreign, through, nothing, element}
+use Rattle.odd_tree.specs.declared.tree.Tree.{Tree}
+use Rattle.odd_tree.specs.Elements.{children_of, within}
+use Rattle.odd_items.specs.Search.{Finds, FindsAmong, Found, foreign, through, nothing, element}
 
 -- the elements that were found
 abbrev pub schemas_of : List Found → List Tree

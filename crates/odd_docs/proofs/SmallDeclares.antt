@@ -6,9 +6,9 @@ use Rattle.std.proofs.lemmas.Bool.{and_parts}
 use Rattle.odd_base.specs.declared.key.Key.{Key}
 use Rattle.odd_base.specs.Text.{text_cmp}
 use Rattle.odd_tokens.specs.Same.{is_same}
-use Rattle.odd_reader.specs.Elements.{StandsIn, children_of, within}
-use Rattle.odd_reader.specs.declared.tree.Tree.{Tree}
-use Rattle.odd_reader.proofs.InList.{first_or_later, nothing_stands, stands_first, stands_later}
+use Rattle.odd_tree.specs.Elements.{StandsIn, children_of, within}
+use Rattle.odd_tree.specs.declared.tree.Tree.{Tree}
+use Rattle.odd_tree.proofs.InList.{first_or_later, nothing_stands, stands_first, stands_later}
 use Rattle.odd_forms.specs.Children.{StandsTwice}
 use Rattle.odd_forms.specs.Faults.{child_in}
 use Rattle.odd_forms.specs.Names.{is_one_of, is_tei}
@@ -17,10 +17,10 @@ use Rattle.odd_forms.specs.Table.{form_at}
 use Rattle.odd_forms.specs.Words.{words_of}
 use Rattle.odd_forms.specs.declared.element.Element.TheVariants as elements
 use Rattle.odd_forms.proofs.Named.{by_name, named_one}
-use Rattle.odd_docs.specs.Declares.{AreEntriesOf, Declares, IsEntryOf, PlacesRise}
-use Rattle.odd_docs.specs.Offences.{IsSpecOf}
-use Rattle.odd_docs.specs.Pending.{IsForm, around_in, outermost}
-use Rattle.odd_docs.specs.Search.{Finds, FindsAmong, Found, through}
+use Rattle.odd_items.specs.Declares.{AreEntriesOf, Declares, IsEntryOf, PlacesRise}
+use Rattle.odd_items.specs.Offences.{IsSpecOf}
+use Rattle.odd_items.specs.Pending.{IsForm, around_in, outermost}
+use Rattle.odd_items.specs.Search.{Finds, FindsAmong, Found, through}
 use Rattle.odd_decls.specs.declared.odd.Entry.{Entry}
 use Rattle.odd_docs.proofs.SmallFiles.{Each, alone}
 use Rattle.odd_docs.proofs.SmallOffences.{IsNamedSchema, items_alone, sound_items}

@@ -4,18 +4,18 @@ use Rattle.std.proofs.lemmas.List.Elements.{All-nil, All-cons}
 use Rattle.odd_base.specs.declared.name.Bind.{Bind}
 use Rattle.odd_tokens.specs.Characters.{IsNCName}
 use Rattle.odd_tokens.proofs.Ascii.{is_name}
-use Rattle.odd_reader.specs.Elements.{StandsIn, children_of, elements_of, within}
-use Rattle.odd_reader.specs.declared.tree.Attr.{Attr}
-use Rattle.odd_reader.specs.declared.tree.Node.{Node, Element, Text}
-use Rattle.odd_reader.specs.declared.tree.Tree.{Tree, roll-Tree}
-use Rattle.odd_reader.proofs.AmongChildren.{with_element, with_text}
-use Rattle.odd_reader.proofs.InList.{first_or_later, nothing_stands, stands_first}
+use Rattle.odd_tree.specs.Elements.{StandsIn, children_of, elements_of, within}
+use Rattle.odd_tree.specs.declared.tree.Attr.{Attr}
+use Rattle.odd_tree.specs.declared.tree.Node.{Node, Element, Text}
+use Rattle.odd_tree.specs.declared.tree.Tree.{Tree, roll-Tree}
+use Rattle.odd_tree.proofs.AmongChildren.{with_element, with_text}
+use Rattle.odd_tree.proofs.InList.{first_or_later, nothing_stands, stands_first}
 use Rattle.odd_forms.specs.Children.{StandsTwice}
 use Rattle.odd_forms.specs.Form.{AreNames}
 use Rattle.odd_forms.specs.Names.{tei_namespace, is_tei}
 use Rattle.odd_forms.proofs.SmallElements.{elements_are, nodes}
-use Rattle.odd_docs.specs.Search.{Finds, FindsAmong, Found, own, through}
-use Rattle.odd_docs.specs.Search as search
+use Rattle.odd_items.specs.Search.{Finds, FindsAmong, Found, own, through}
+use Rattle.odd_items.specs.Search as search
 
 -- Trees, names and lists
 

@@ -2,8 +2,8 @@
 use Rattle.std.proofs.Common.{◌≡◌, ℕ, true, List, [], ◌∷◌, Some, None, refl, sym, ap, ◌∙◌, codes}
 use Rattle.std.specs.Prelude.{if◌then◌else◌, filter, is_some}
 use Rattle.odd_tokens.proofs.Ascii.{is_name}
-use Rattle.odd_reader.specs.declared.tree.Attr.{Attr}
-use Rattle.odd_reader.specs.declared.tree.Tree.{Tree}
+use Rattle.odd_tree.specs.declared.tree.Attr.{Attr}
+use Rattle.odd_tree.specs.declared.tree.Tree.{Tree}
 use Rattle.odd_forms.specs.Children.{IsChild}
 use Rattle.odd_forms.specs.Faults.{child_in}
 use Rattle.odd_forms.specs.Table.{form_at}
@@ -12,7 +12,7 @@ use Rattle.odd_forms.specs.declared.element.Element.TheVariants as elements
 use Rattle.odd_forms.proofs.SmallElements.{attribute, elements_are}
 use Rattle.odd_content.specs.Giving.{part_of, parts_of}
 use Rattle.odd_decls.specs.Odd.{element_key}
-use Rattle.odd_docs.specs.Offences.{IsSpecOf}
+use Rattle.odd_items.specs.Offences.{IsSpecOf}
 use Rattle.odd_docs.proofs.SmallFiles.{element}
 use Rattle.odd_docs.proofs.SmallSound.{IsNamedSpec}
 

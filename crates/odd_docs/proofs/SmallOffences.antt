@@ -4,9 +4,9 @@ use Rattle.std.proofs.lemmas.Bool.{both_ways}
 use Rattle.odd_base.specs.declared.key.Key.{Key}
 use Rattle.odd_base.specs.declared.name.Bind.{Bind}
 use Rattle.odd_tokens.specs.Characters.{IsNCName}
-use Rattle.odd_reader.specs.Elements.{StandsIn, children_of, given, within}
-use Rattle.odd_reader.specs.declared.tree.Tree.{Tree, out-Tree}
-use Rattle.odd_reader.proofs.InList.{nothing_stands, only_item}
+use Rattle.odd_tree.specs.Elements.{StandsIn, children_of, given, within}
+use Rattle.odd_tree.specs.declared.tree.Tree.{Tree, out-Tree}
+use Rattle.odd_tree.proofs.InList.{nothing_stands, only_item}
 use Rattle.odd_forms.specs.Children.{StandsTwice}
 use Rattle.odd_forms.specs.Faults.{ChildFault, OwnFault, child_in}
 use Rattle.odd_forms.specs.Form.{AreNames}
@@ -14,9 +14,9 @@ use Rattle.odd_forms.specs.Names.{HasName, is_one_of, is_relax_ng}
 use Rattle.odd_forms.specs.Table.{form_at}
 use Rattle.odd_forms.specs.Words.{words_of}
 use Rattle.odd_forms.specs.declared.element.Element.TheVariants as elements
-use Rattle.odd_docs.specs.Offences.{HasOffence, IsSpecOf, ItemFault, ItemOffends, Offends}
-use Rattle.odd_docs.specs.Search.{Finds, Found}
-use Rattle.odd_docs.proofs.ItemFaults.{other_by_standing}
+use Rattle.odd_items.specs.Offences.{HasOffence, IsSpecOf, ItemFault, ItemOffends, Offends}
+use Rattle.odd_items.specs.Search.{Finds, Found}
+use Rattle.odd_items.proofs.ItemFaults.{other_by_standing}
 use Rattle.odd_docs.proofs.Searched.{one_search}
 use Rattle.odd_docs.proofs.SmallFiles.{Each, alone, each_such, few}
 use Rattle.odd_docs.proofs.SmallSound.{IsSound, given_well, no_own_fault}

@@ -4,13 +4,13 @@ use Rattle.std.specs.Cmp.Lexicographic.{same_text}
 use Rattle.std.specs.List.{list_all}
 use Rattle.std.proofs.lemmas.Bool.{and_from, and_parts, both_ways, or_cases}
 use Rattle.odd_tokens.specs.Same.{is_same}
-use Rattle.odd_reader.specs.Elements.{children_of}
-use Rattle.odd_reader.specs.declared.tree.Tree.{Tree, out-Tree}
-use Rattle.odd_reader.proofs.InList.{stands_first}
+use Rattle.odd_tree.specs.Elements.{children_of}
+use Rattle.odd_tree.specs.declared.tree.Tree.{Tree, out-Tree}
+use Rattle.odd_tree.proofs.InList.{stands_first}
 use Rattle.odd_forms.specs.Names.{is_one_of, is_tei}
 use Rattle.odd_forms.specs.Words.{is_among}
-use Rattle.odd_docs.specs.Pending.{HoldsForm, IsForm, IsPending, around_in, outermost}
-use Rattle.odd_docs.specs.Search.{Finds, Found}
+use Rattle.odd_items.specs.Pending.{HoldsForm, IsForm, IsPending, around_in, outermost}
+use Rattle.odd_items.specs.Search.{Finds, Found}
 use Rattle.odd_docs.proofs.Searched.{one_search}
 use Rattle.odd_docs.proofs.SmallFiles.{Each, among, each_such}
 

@@ -6,9 +6,9 @@ use Rattle.std.proofs.lemmas.Option.{same_Some}
 use Rattle.odd_base.specs.declared.name.Bind.{Bind}
 use Rattle.odd_tokens.specs.Characters.{IsNCName}
 use Rattle.odd_tokens.specs.Same.{is_same}
-use Rattle.odd_reader.specs.Elements.{StandsIn, children_of, given, within}
-use Rattle.odd_reader.specs.declared.tree.Tree.{Tree}
-use Rattle.odd_reader.proofs.InList.{nothing_stands}
+use Rattle.odd_tree.specs.Elements.{StandsIn, children_of, given, within}
+use Rattle.odd_tree.specs.declared.tree.Tree.{Tree}
+use Rattle.odd_tree.proofs.InList.{nothing_stands}
 use Rattle.odd_forms.specs.Children.{IsChild}
 use Rattle.odd_forms.specs.Faults.{AttributeFault, ChildFault, FormFault, OwnFault, ValueFault, child_in}
 use Rattle.odd_forms.specs.Form.{AttributeForm, Form, Suits}
@@ -18,8 +18,8 @@ use Rattle.odd_forms.specs.Table.{form_at}
 use Rattle.odd_forms.specs.Words.{is_among}
 use Rattle.odd_forms.specs.declared.element.Element.TheVariants as elements
 use Rattle.odd_content.specs.Breaking.{ContentFault}
-use Rattle.odd_docs.specs.Offences.{IsItem, ItemFault}
-use Rattle.odd_docs.proofs.ItemFaults.{item_placed, one_element}
+use Rattle.odd_items.specs.Offences.{IsItem, ItemFault}
+use Rattle.odd_items.proofs.ItemFaults.{item_placed, one_element}
 use Rattle.odd_docs.proofs.SmallFiles.{Each, among, each_such}
 
 -- an attribute that is given well, and one that is absent and may be so

@@ -2,9 +2,9 @@
 use Rattle.std.proofs.Common.{◌≡◌, ℕ, List, [], ◌∷◌, Option, Some, None, ⊎_elim, refl, sym, ap, subst, ◌∙◌, codes, arith}
 use Rattle.std.proofs.lemmas.Option.{same_Some}
 use Rattle.odd_base.specs.declared.name.Bind.{Bind}
-use Rattle.odd_reader.specs.Elements.{children_of}
-use Rattle.odd_reader.specs.declared.tree.Tree.{Tree}
-use Rattle.odd_reader.proofs.InList.{nothing_stands, only_item}
+use Rattle.odd_tree.specs.Elements.{children_of}
+use Rattle.odd_tree.specs.declared.tree.Tree.{Tree}
+use Rattle.odd_tree.proofs.InList.{nothing_stands, only_item}
 use Rattle.odd_forms.specs.Children.{IsChild}
 use Rattle.odd_forms.specs.Faults.{FormFault}
 use Rattle.odd_forms.specs.Table.{form_at}
@@ -14,11 +14,11 @@ use Rattle.odd_content.specs.Breaking.{ContentFault, PartFault, InnerFault}
 use Rattle.odd_content.specs.Giving.{part_of}
 use Rattle.odd_content.specs.declared.content.Content.{Content}
 use Rattle.odd_content.specs.declared.content.Content.TheVariants as content
-use Rattle.odd_docs.specs.Declares.{Declares}
-use Rattle.odd_docs.specs.Pending.{outermost}
-use Rattle.odd_docs.specs.Search.{Finds}
+use Rattle.odd_items.specs.Declares.{Declares}
+use Rattle.odd_items.specs.Pending.{outermost}
+use Rattle.odd_items.specs.Search.{Finds}
 use Rattle.odd_decls.specs.declared.odd.Entry.{Entry}
-use Rattle.odd_docs.specs.Search as search
+use Rattle.odd_items.specs.Search as search
 use Rattle.odd_decls.specs.declared.odd.Entry.TheVariants as entry
 use Rattle.odd_docs.proofs.ContentExamples.{gives_text}
 use Rattle.odd_docs.proofs.DeclareExamples.{doc_of, file_with, one_item_declares}

@@ -4,8 +4,8 @@ use Rattle.std.specs.Cmp.Lexicographic.{other_text}
 use Rattle.std.specs.declared.cmp.Ordering.TheVariants.{Less}
 use Rattle.odd_base.specs.Text.{text_cmp}
 use Rattle.odd_tokens.specs.Characters.{IsNCName, is_name_start}
-use Rattle.odd_reader.specs.Elements.{StandsIn}
-use Rattle.odd_reader.proofs.InList.{first_or_later, nothing_stands, stands_first}
+use Rattle.odd_tree.specs.Elements.{StandsIn}
+use Rattle.odd_tree.proofs.InList.{first_or_later, nothing_stands, stands_first}
 use Rattle.odd_forms.specs.Sorted.{AreRising, IsSet}
 use Rattle.odd_forms.specs.Words.{words_of}
 use Rattle.odd_forms.proofs.SmallElements.{no_name}

@@ -3,9 +3,9 @@ use Rattle.std.specs.Prelude.{◌≡◌, ◌↔◌, ℕ, List, IsTrue}
 use Rattle.std.specs.BTreeSet.{BTreeSet, contains_by}
 use Rattle.odd_base.specs.Key.{key_cmp}
 use Rattle.odd_base.specs.declared.key.Key.{Key}
-use Rattle.odd_reader.specs.declared.tree.Tree.{Tree, out-Tree}
-use Rattle.odd_reader.specs.Elements.{StandsIn}
-use Rattle.odd_docs.specs.Offences.{IsSpecOf}
+use Rattle.odd_tree.specs.declared.tree.Tree.{Tree, out-Tree}
+use Rattle.odd_tree.specs.Elements.{StandsIn}
+use Rattle.odd_items.specs.Offences.{IsSpecOf}
 
 -- one of the items has this key
 abbrev pub IsKeyIn : List Tree → Key → Type 0

@@ -1,6 +1,2 @@
-pub mod Declares
 pub mod Faults
-pub mod Offences
-pub mod Pending
 pub mod Reading
-pub mod Search

@@ -1,10 +1,10 @@
 ghost use Rattle.std.specs.Prelude.{◌≡◌, ◌↔◌, ◌&&◌, map, IsTrue};
 ghost use Rattle.std.specs.List.{list_any};
 ghost use Rattle.odd_forms.specs.Names.{is_one_of as the_is_one_of};
-ghost use Rattle.odd_docs.specs.Pending.{HoldsForm, IsForm, around_in};
+ghost use Rattle.odd_items.specs.Pending.{HoldsForm, IsForm, around_in};
 
 use odd_forms::is_one_of;
-use odd_reader::{Node, Tree};
+use odd_tree::{Node, Tree};
 
 /// Whether an element holds a form that is not read yet, or is one. `in_content` says whether a `content` stands around it.
 pub fn is_pending(tree: &Tree, in_content: bool) -> bool

@@ -2,25 +2,24 @@ ghost use Rattle.std.specs.Prelude.{◌≡◌, ◌↔◌, ℕ, List, [], ◌∷�
 ghost use Rattle.odd_base.specs.Text.{text_cmp};
 ghost use Rattle.odd_base.specs.declared.key.Key.{Key as AKey};
 ghost use Rattle.odd_base.specs.declared.offence.Offence.{Offence as AnOffence};
-ghost use Rattle.odd_reader.specs.Elements.{StandsIn, all_binds, given};
-ghost use Rattle.odd_reader.specs.Formed.{IsFormed};
-ghost use Rattle.odd_reader.specs.declared.tree.Tree.{Tree as ATree};
+ghost use Rattle.odd_tree.specs.Elements.{StandsIn, all_binds, given};
+ghost use Rattle.odd_tree.specs.Formed.{IsFormed};
+ghost use Rattle.odd_tree.specs.declared.tree.Tree.{Tree as ATree};
 ghost use Rattle.odd_forms.specs.Sorted.{IsSet};
-ghost use Rattle.odd_docs.specs.Declares.{Declares, start_of};
+ghost use Rattle.odd_items.specs.Declares.{Declares, start_of};
 ghost use Rattle.odd_docs.specs.Faults.{HoldsKeys, IsKeyIn, StandsAgain};
-ghost use Rattle.odd_docs.specs.Offences.{IsOffenceOf, IsRefusal, IsSpecOf};
-ghost use Rattle.odd_docs.specs.Pending.{IsPending};
-ghost use Rattle.odd_docs.specs.Search.{Finds, Found as AFound};
+ghost use Rattle.odd_items.specs.Offences.{IsOffenceOf, IsRefusal, IsSpecOf};
+ghost use Rattle.odd_items.specs.Pending.{IsPending};
+ghost use Rattle.odd_items.specs.Search.{Finds, Found as AFound};
 ghost use Rattle.odd_docs.specs.Reading.{AreItemsRead, IsFirstIn, IsJoined, IsReadOrBroken, Rises};
 
-use crate::declarations::key_declared;
-use crate::items::{ReadItem, read_item};
 use crate::pending::is_pending;
 use crate::searching::{binds_along, find_schemas, path_to_first};
 use odd_base::{Key, NoMemory, Offence, Scope, Text, TryCopy, Words};
 use odd_decls::{Entries, Fault, OddDoc, OddRefusal, earlier};
 use odd_forms::{Element, fault_where, lesser, own_fault, sorted, words_of};
-use odd_reader::{Bindings, Tree, attribute, elements};
+use odd_items::{ReadItem, key_declared, read_item};
+use odd_tree::{Bindings, Tree, attribute, elements};
 use std::alloc::Global;
 use std::collections::BTreeSet;
 
@@ -31,7 +30,7 @@ const TWICE: u8 = 4;
 /// taken out; that comes later.
 ///
 /// NotYet comes where the file has a form that is not read yet (docs/odd-files.md), and before any offence. Offence
-/// comes at an offence of form; of a formed tree, as `spell` gives it, at the first one, by place and then by rule.
+/// comes at an offence of form; of a formed tree, as `read_tree` gives it, at the first one, by place and then by rule.
 pub fn read_odd(alloc: Global, tree: &Tree, file: u32, _aside: bool) -> Result<OddDoc, OddRefusal>
     ensures ok { IfOk result (λ doc. (first end : ℕ) → IsFormed first end tree.now → Declares tree.now doc) }
     ensures offends { (offence : AnOffence) → result ≡ Err (OddRefusal.Offence offence) → IsOffenceOf tree.now file offence }

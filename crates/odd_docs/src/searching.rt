@@ -1,13 +1,13 @@
 ghost use Rattle.std.specs.Prelude.{◌≡◌, ◌++◌, map, reverse, IfOk, OnOk, List};
 ghost use Rattle.std.specs.Option.{option_map};
 ghost use Rattle.odd_base.specs.declared.name.Bind.{Bind as ABind};
-ghost use Rattle.odd_reader.specs.Elements.{all_binds};
+ghost use Rattle.odd_tree.specs.Elements.{all_binds};
 ghost use Rattle.odd_docs.specs.Reading.{AddsFound, IsPathTo};
-ghost use Rattle.odd_docs.specs.Search.{Finds, Found as AFound};
+ghost use Rattle.odd_items.specs.Search.{Finds, Found as AFound};
 
 use odd_base::{NoMemory, Scope, TryCopy};
 use odd_forms::{is_one_of, is_tei};
-use odd_reader::{Node, Tree};
+use odd_tree::{Node, Tree};
 use std::alloc::Global;
 
 /// Adds every `schemaSpec` in the element around which all elements are TEI's, in document order.

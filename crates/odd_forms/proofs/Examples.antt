@@ -4,9 +4,9 @@ use Rattle.std.proofs.lemmas.Bool.{false≢true}
 use Rattle.std.proofs.lemmas.Option.{same_Some}
 use Rattle.std.proofs.lemmas.List.Elements.{All-nil}
 use Rattle.odd_base.specs.Text.{text_cmp}
-use Rattle.odd_reader.specs.declared.tree.Attr.{Attr}
-use Rattle.odd_reader.specs.declared.tree.Tree.{Tree}
-use Rattle.odd_reader.proofs.InList.{stands_first, stands_later}
+use Rattle.odd_tree.specs.declared.tree.Attr.{Attr}
+use Rattle.odd_tree.specs.declared.tree.Tree.{Tree}
+use Rattle.odd_tree.proofs.InList.{stands_first, stands_later}
 use Rattle.odd_forms.specs.Faults.{AttributeFault, ChildFault, DemandFault, FormFault, OwnFault, ValueFault}
 use Rattle.odd_forms.specs.Form.{AttributeForm, Suits, any_names, are_digits, count, digits, needed_unless, not_both, number_told}
 use Rattle.odd_forms.specs.Sorted.{set_of}

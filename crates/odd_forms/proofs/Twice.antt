@@ -1,10 +1,10 @@
 -- Two elements of one kind in a list, and where the later of them stands.
 use Rattle.std.proofs.Common.{◌≡◌, ◌↔◌, ◌⊎◌, inl, inr, ⊎_elim, List, [], ◌∷◌, ◌++◌, refl, sym, ap, ◌∙◌, append_assoc, subst}
-use Rattle.odd_reader.specs.declared.tree.Tree.{Tree}
-use Rattle.odd_reader.specs.Elements.{StandsIn}
+use Rattle.odd_tree.specs.declared.tree.Tree.{Tree}
+use Rattle.odd_tree.specs.Elements.{StandsIn}
 use Rattle.odd_forms.specs.Children.{StandsTwice}
-use Rattle.odd_reader.proofs.InList.{StandsOnce, nothing_stands, stands_around}
-use Rattle.odd_reader.proofs.InList as standing
+use Rattle.odd_tree.proofs.InList.{StandsOnce, nothing_stands, stands_around}
+use Rattle.odd_tree.proofs.InList as standing
 
 -- one that is such, and a later one
 abbrev pub twice_with : (Is : Tree → Type 0) (xs ys : List Tree) (k : Tree) → StandsOnce Is xs → Is k → StandsTwice Is (xs ++ k ∷ ys)

@@ -3,8 +3,8 @@ use Rattle.std.proofs.Common.{◌≡◌, ◌≢◌, ◌↔◌, ◌≤◌, ◌<�
 use Rattle.std.specs.Prelude.{IsTrue, is_some, nat_lt}
 use Rattle.std.proofs.lemmas.Bool.{and_from, and_parts, both_ways, false_from_ne_true, lt-ltb, ltb-true, not-true}
 use Rattle.std.proofs.lemmas.Option.{same_Some}
-use Rattle.odd_reader.specs.declared.tree.Tree.{Tree}
-use Rattle.odd_reader.specs.Elements.{given}
+use Rattle.odd_tree.specs.declared.tree.Tree.{Tree}
+use Rattle.odd_tree.specs.Elements.{given}
 use Rattle.odd_forms.specs.Faults.{AttributeFault, DemandFault, ValueFault}
 use Rattle.odd_forms.specs.Form.{AttributeForm, Suits, in_order, needed_unless, not_both, number_told}
 use Rattle.odd_forms.specs.Least.{IsLeast}

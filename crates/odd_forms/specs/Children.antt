@@ -1,7 +1,7 @@
 -- Children of an element of the table: which are of a kind, what one of them gives, what they break, and two that are alike.
 use Rattle.std.specs.Prelude.{◌≡◌, ℕ, List, ◌∷◌, ◌++◌, Option, Some, None}
-use Rattle.odd_reader.specs.Elements.{StandsIn}
-use Rattle.odd_reader.specs.declared.tree.Tree.{Tree}
+use Rattle.odd_tree.specs.Elements.{StandsIn}
+use Rattle.odd_tree.specs.declared.tree.Tree.{Tree}
 use Rattle.odd_forms.specs.Faults.{child_in}
 use Rattle.odd_forms.specs.Table.{form_at}
 use Rattle.odd_forms.specs.declared.element.Element.{Element}

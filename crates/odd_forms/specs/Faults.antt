@@ -1,8 +1,8 @@
 -- What an element breaks by its form: rule 1, a needed attribute is absent or one is malformed; 2, a form that is left out; 3, a child that may not
 -- stand there, a `mode` or a `type` that is unknown, or what contradicts itself; 4, twice in one place.
 use Rattle.std.specs.Prelude.{◌≡◌, ◌≢◌, ◌≤◌, ◌<◌, ℕ, true, false, ◌||◌, List, [], ◌∷◌, ◌++◌, find, count_by, Option, Some, None, IsSome, IsTrue}
-use Rattle.odd_reader.specs.Elements.{StandsIn, children_of, given}
-use Rattle.odd_reader.specs.declared.tree.Tree.{Tree}
+use Rattle.odd_tree.specs.Elements.{StandsIn, children_of, given}
+use Rattle.odd_tree.specs.declared.tree.Tree.{Tree}
 use Rattle.odd_forms.specs.Form.{AttributeForm, Demand, Form, Suits, in_order, needed_unless, not_both, number_told}
 use Rattle.odd_forms.specs.Names.{is_one_of, is_passed_over, is_relax_ng, is_tei}
 use Rattle.odd_forms.specs.Table.{form_at}

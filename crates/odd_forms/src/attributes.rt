@@ -1,7 +1,7 @@
 ghost use Rattle.std.specs.Prelude.{◌≡◌, ◌≢◌, ◌↔◌, All, IfOk, IsTrue, Some, [], is_some, map};
 ghost use Rattle.std.specs.Char.{is_ascii_digit};
 ghost use Rattle.std.specs.List.{list_all};
-ghost use Rattle.odd_reader.specs.Elements.{given};
+ghost use Rattle.odd_tree.specs.Elements.{given};
 ghost use Rattle.odd_forms.specs.Faults.{AttributeFault, DemandFault, ValueFault};
 ghost use Rattle.odd_forms.specs.Form.{Suits, are_digits as the_are_digits, number_told};
 ghost use Rattle.odd_forms.specs.Least.{IsLeast};
@@ -13,8 +13,8 @@ use crate::faults::{LEFT_OUT, MALFORMED, UNKNOWN, fault_where};
 use crate::form::{AttributeForm, Demand, Kind};
 use crate::words::{is_among, words_of};
 use odd_base::{NoMemory, Text};
-use odd_reader::{Tree, attribute, is_ncname};
 use odd_tokens::is_space;
+use odd_tree::{Tree, attribute, is_ncname};
 use std::alloc::Global;
 
 /// The least rule that an element breaks by an attribute that it may have.

@@ -1,6 +1,6 @@
 ghost use Rattle.std.specs.Prelude.{◌≡◌, ◌↔◌, [], ◌∷◌, count_by, if◌then◌else◌, IfOk, IsTrue, Some, None, map, is_some, nat_le};
 ghost use Rattle.std.specs.List.{list_any};
-ghost use Rattle.odd_reader.specs.Elements.{children_of, given};
+ghost use Rattle.odd_tree.specs.Elements.{children_of, given};
 ghost use Rattle.odd_forms.specs.Children.{IsChild};
 ghost use Rattle.odd_forms.specs.Faults.{AttributeFault, ChildFault, DemandFault, FormFault, OwnFault, child_in, element_among as the_element_among};
 ghost use Rattle.odd_forms.specs.Least.{Among, IsLeast, lesser_rule};
@@ -13,7 +13,7 @@ use crate::element::Element;
 use crate::form::{AttributeForm, Demand, Form};
 use crate::names::{is_one_of, is_passed_over, is_relax_ng, is_tei};
 use odd_base::NoMemory;
-use odd_reader::{Tree, attribute, elements};
+use odd_tree::{Tree, attribute, elements};
 use std::alloc::Global;
 
 /// A needed attribute is absent, or one is malformed.

@@ -1,4 +1,4 @@
-ghost use Rattle.std.specs.Prelude.{◌≡◌, ◌↔◌, ℕ, [], get_or, IfOk, OnOk};
+ghost use Rattle.std.specs.Prelude.{◌↔◌, ℕ, [], get_or, IfOk, OnOk};
 ghost use Rattle.std.specs.List.{Contains};
 ghost use Rattle.odd_graph.specs.Graph.{Leads, StandOnce};
 ghost use Rattle.odd_graph.specs.Marking.{AreClear, HasCleared, HasMarked};

@@ -2,7 +2,7 @@
 
 use crate::making::text;
 use odd_base::Text;
-use odd_reader::{escape_text, escape_value};
+use odd_printing::{escape_text, escape_value};
 use std::test::Fail;
 
 // Texts, with what is written of each as a text and as a value.

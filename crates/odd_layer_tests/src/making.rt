@@ -2,7 +2,8 @@
 
 ghost use Rattle.std.specs.Prelude.{◌≡◌, IfOk, [], ◌∷◌, length};
 
-use odd_base::{Calls, Key, Kind, NoMemory, Text, Words};
+use odd_base::{Key, Kind, NoMemory, Text, Words};
+use odd_outside::Calls;
 use std::alloc::Global;
 
 /// The text. The only error is NoMemory, for want of memory.

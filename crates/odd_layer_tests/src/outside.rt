@@ -1,10 +1,10 @@
 //! Files and outputs in memory that fault at each call in turn.
 
 use crate::making::{calls, text};
-use odd_base::writing::write_whole;
-use odd_base::{
-    Bytes, Calls, File, Files, MemShelf, MemSink, NoMemory, Shelf, ShelfFault, Sink, SlurpRefusal,
-    slurp,
+use odd_base::{Bytes, NoMemory};
+use odd_outside::{
+    Calls, File, Files, MemShelf, MemSink, Shelf, ShelfFault, Sink, SlurpRefusal, slurp,
+    write_whole,
 };
 use std::alloc::Global;
 use std::test::Fail;

@@ -1,5 +1,5 @@
 -- Small theorems on members, on macros that reach one another, on what a reference to a class or a macro admits, and on the rules of a library.
-use Rattle.std.proofs.Common.{◌≡◌, ◌↔◌, ℕ, suc, Bool, true, false, List, [], ◌∷◌, length, Some, refl, sym, ap, subst, ◌∙◌, codes}
+use Rattle.std.proofs.Common.{◌≡◌, ◌↔◌, ℕ, suc, true, false, List, [], ◌∷◌, length, Some, refl, sym, ap, subst, ◌∙◌, codes}
 use Rattle.std.specs.FinMap.{find}
 use Rattle.std.specs.Option.{is_some}
 use Rattle.std.specs.Prelude.{IsTrue}
@@ -8,37 +8,24 @@ use Rattle.std.proofs.lemmas.Bool.{false≢true}
 use Rattle.std.proofs.lemmas.Option.{same_Some}
 use Rattle.odd_base.specs.Key.{key_cmp}
 use Rattle.odd_base.specs.declared.key.Key.{Key}
-use Rattle.odd_content.specs.declared.content.Content.{Content, Empty, Macro}
+use Rattle.odd_content.specs.declared.content.Content.{Content, Macro}
 use Rattle.odd_content.specs.declared.content.Pick.TheVariants as pick
 use Rattle.odd_decls.specs.Odd.{element_key}
 use Rattle.odd_decls.specs.declared.library.ClassPart.{ClassPart}
-use Rattle.odd_decls.specs.declared.library.Component.{Component}
 use Rattle.odd_decls.specs.declared.library.Component.TheVariants as component
 use Rattle.odd_decls.specs.declared.library.Library.{Library}
 use Rattle.odd_decls.specs.declared.library.OtherPart.{OtherPart}
 use Rattle.odd_graph.specs.Graph.{at_once, through}
 use Rattle.odd_graph.proofs.Chains.{first_step, last_step}
-use Rattle.odd_reader.proofs.InList.{nothing_stands, stands_first}
-use Rattle.odd_reader.specs.Significant.{Marking}
-use Rattle.odd_reader.specs.declared.tree.Node.{Node}
+use Rattle.odd_tree.proofs.InList.{nothing_stands, stands_first}
+use Rattle.odd_tree.specs.Significant.{Marking}
+use Rattle.odd_tree.specs.declared.tree.Node.{Node}
+use Rattle.odd_meaning.proofs.SmallLibraries.{class_in, element_in, library_of, macro_of}
 use Rattle.odd_meaning.specs.Classes.{IsMember, IsModel, Reaches}
 use Rattle.odd_meaning.specs.Contents.{AdmitsBy, IsOneMember, MacroAdmits}
 use Rattle.odd_meaning.specs.Labels.{Label}
 use Rattle.odd_meaning.specs.Links.{IsHeld, IsLinked, class_key, classes_of, macro_key, macros_of}
 use Rattle.odd_meaning.specs.Rules.{Breaks, IsOfAttributes, macro_not_held, own_member, reaches_itself}
-
--- a component of each kind, with its memberships or its content
-abbrev element_in : List (List ℕ) → Component
-element_in classes = component.Element (record { «module» = []; ns = []; classes = classes; content = Empty })
-
-abbrev class_in : Bool → List (List ℕ) → Component
-class_in gives classes = component.Class (record { «module» = []; gives = gives; classes = classes })
-
-abbrev macro_of : Content → Component
-macro_of k = component.Macro (record { «module» = []; content = k })
-
-abbrev library_of : List (Key × Component) → Library
-library_of parts = record { ident = codes "s"; start = codes "x" ∷ []; parts = parts }
 
 -- `x` is said to be in `b` and `b` in `a`, and both in `z`, which is not held; `c` is in itself
 abbrev classes : Library

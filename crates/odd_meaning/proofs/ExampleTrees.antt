@@ -3,12 +3,12 @@ use Rattle.std.proofs.Common.{◌≡◌, ℕ, true, false, not, ◌||◌, List, 
 use Rattle.std.specs.List.{list_any}
 use Rattle.std.proofs.lemmas.Bool.{false≢true}
 use Rattle.odd_forms.specs.Names.{tei}
-use Rattle.odd_reader.specs.Significant.{IsSignificant, beside_elements, blank, depth, is_blank, is_element, whole}
-use Rattle.odd_reader.specs.declared.tree.Attr.{Attr}
-use Rattle.odd_reader.specs.declared.tree.Node as N
-use Rattle.odd_reader.specs.declared.tree.Node.{Node, Element, Text}
-use Rattle.odd_reader.specs.declared.tree.Tree as T
-use Rattle.odd_reader.specs.declared.tree.Tree.{Tree, roll-Tree}
+use Rattle.odd_tree.specs.Significant.{IsSignificant, beside_elements, blank, depth, is_blank, is_element, whole}
+use Rattle.odd_tree.specs.declared.tree.Attr.{Attr}
+use Rattle.odd_tree.specs.declared.tree.Node as N
+use Rattle.odd_tree.specs.declared.tree.Node.{Node, Element, Text}
+use Rattle.odd_tree.specs.declared.tree.Tree as T
+use Rattle.odd_tree.specs.declared.tree.Tree.{Tree, roll-Tree}
 
 -- nodes and trees
 

@@ -2,10 +2,10 @@
 use Rattle.std.proofs.Common.{◌≡◌, ℕ, zero, suc, List, [], ◌∷◌, ◌++◌, length, codes, ◌≤◌, refl, sym, ap, arith, length-append}
 use Rattle.std.proofs.lemmas.List.{append-nil}
 use Rattle.std.specs.Prelude.{Option, Some, None}
-use Rattle.odd_reader.specs.Significant.{Marking}
-use Rattle.odd_reader.specs.Splits.{Counted, Pieces}
-use Rattle.odd_reader.specs.declared.tree.Node.{Node, Element as AnElement}
-use Rattle.odd_reader.specs.declared.tree.Tree.{Tree}
+use Rattle.odd_tree.specs.Significant.{Marking}
+use Rattle.odd_tree.specs.Splits.{Counted, Pieces}
+use Rattle.odd_tree.specs.declared.tree.Node.{Node, Element as AnElement}
+use Rattle.odd_tree.specs.declared.tree.Tree.{Tree}
 use Rattle.rng_values.specs.declared.bounds.Bounds.{Bounds}
 use Rattle.odd_content.specs.declared.content.Content.{Content, Alternate, Element, Sequence}
 use Rattle.odd_decls.specs.declared.library.Library.{Library}

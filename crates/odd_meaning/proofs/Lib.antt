@@ -5,4 +5,5 @@ pub mod ExampleTrees
 pub mod Examples
 pub mod Idle
 pub mod Rows
+pub mod SmallLibraries
 pub mod ValidityExamples

@@ -11,15 +11,15 @@ use Rattle.odd_decls.specs.declared.library.Component.TheVariants as component
 use Rattle.odd_decls.specs.declared.library.ElementPart.{ElementPart}
 use Rattle.odd_decls.specs.declared.library.Library.{Library}
 use Rattle.odd_forms.specs.Names.{tei_namespace}
-use Rattle.odd_reader.proofs.InList.{nothing_stands}
-use Rattle.odd_reader.specs.Significant.{IsSignificant, Marking, depth, is_element, whole}
-use Rattle.odd_reader.specs.declared.tree.Node.{Node}
-use Rattle.odd_reader.specs.declared.tree.Tree.{Tree}
+use Rattle.odd_tree.proofs.InList.{nothing_stands}
+use Rattle.odd_tree.specs.Significant.{IsSignificant, Marking, depth, is_element, whole}
+use Rattle.odd_tree.specs.declared.tree.Node.{Node}
+use Rattle.odd_tree.specs.declared.tree.Tree.{Tree}
 use Rattle.odd_meaning.specs.Admission.{IsValid, IsValidBy, IsValidWithin, counting}
 use Rattle.odd_meaning.specs.Contents as contents
 use Rattle.odd_meaning.specs.Labels.{Label}
 use Rattle.odd_meaning.specs.Offers.{AreOffered, IsOffered}
-use Rattle.odd_reader.proofs.StandsNames.{apart}
+use Rattle.odd_tree.proofs.SameTexts.{apart}
 use Rattle.odd_meaning.proofs.ExampleTrees.{attribute, bare_depth, branch, branch_depth, childless_depth, element, element_in, leaf, leaf_alone_counts, leaf_element}
 use Rattle.odd_meaning.proofs.ExampleTrees.{none_counts, space, space_alone, space_counts, space_depth, space_is_passed, words, words_alone, words_count, words_depth}
 

@@ -3,10 +3,10 @@ use Rattle.std.specs.Prelude.{◌≡◌, ℕ, zero, suc, List, [], Some}
 use Rattle.std.specs.FinMap.{find}
 use Rattle.odd_base.specs.Key.{key_cmp}
 use Rattle.odd_base.specs.declared.name.Name.{Name}
-use Rattle.odd_reader.specs.Elements.{StandsIn}
-use Rattle.odd_reader.specs.Significant.{IsSignificant, Marking, depth}
-use Rattle.odd_reader.specs.declared.tree.Node.{Node}
-use Rattle.odd_reader.specs.declared.tree.Tree.{Tree, out-Tree}
+use Rattle.odd_tree.specs.Elements.{StandsIn}
+use Rattle.odd_tree.specs.Significant.{IsSignificant, Marking, depth}
+use Rattle.odd_tree.specs.declared.tree.Node.{Node}
+use Rattle.odd_tree.specs.declared.tree.Tree.{Tree, out-Tree}
 use Rattle.odd_decls.specs.Odd.{element_key}
 use Rattle.odd_decls.specs.declared.library.Component.TheVariants as component
 use Rattle.odd_decls.specs.declared.library.ElementPart.{ElementPart}

@@ -1,8 +1,8 @@
 -- The condition of `anyElement`, which is asked of the element and of every element below it.
 use Rattle.std.specs.Prelude.{◌≡◌, ◌⊎◌, []}
 use Rattle.odd_base.specs.declared.name.Name.{Name}
-use Rattle.odd_reader.specs.Elements.{StandsIn, StandsWithin}
-use Rattle.odd_reader.specs.declared.tree.Tree.{Tree, out-Tree}
+use Rattle.odd_tree.specs.Elements.{StandsIn, StandsWithin}
+use Rattle.odd_tree.specs.declared.tree.Tree.{Tree, out-Tree}
 use Rattle.odd_content.specs.declared.content.Condition.{Condition}
 
 -- a name that is in one of the required namespaces, where there is one, and is not excepted

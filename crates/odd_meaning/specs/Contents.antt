@@ -3,10 +3,10 @@ use Rattle.std.specs.Prelude.{◌≡◌, ◌⊎◌, ◌≤◌, ℕ, zero, suc, f
 use Rattle.std.specs.FinMap.{find}
 use Rattle.std.specs.List.{list_any}
 use Rattle.odd_base.specs.Key.{key_cmp}
-use Rattle.odd_reader.specs.Significant.{Marking, is_element}
-use Rattle.odd_reader.specs.Splits.{Counted, Then}
-use Rattle.odd_reader.specs.declared.tree.Node.{Node, Element as AnElement}
-use Rattle.odd_reader.specs.declared.tree.Tree.{Tree}
+use Rattle.odd_tree.specs.Significant.{Marking, is_element}
+use Rattle.odd_tree.specs.Splits.{Counted, Then}
+use Rattle.odd_tree.specs.declared.tree.Node.{Node, Element as AnElement}
+use Rattle.odd_tree.specs.declared.tree.Tree.{Tree}
 use Rattle.rng_values.specs.declared.bounds.Bounds.{Bounds}
 use Rattle.odd_content.specs.Picking.{is_picked}
 use Rattle.odd_content.specs.declared.content.Content.{Content, Empty, Text, Element, Class, Macro, Any, Sequence', Alternate', Row_of-Content, end_of-Content, more_of-Content}

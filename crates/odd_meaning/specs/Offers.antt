@@ -1,8 +1,8 @@
 -- The attributes that an element offers.
 use Rattle.std.specs.Prelude.{◌≡◌, Bool, List, All, IsTrue}
 use Rattle.odd_base.specs.declared.name.Name.{Name}
-use Rattle.odd_reader.specs.Elements.{StandsIn}
-use Rattle.odd_reader.specs.declared.tree.Attr.{Attr}
+use Rattle.odd_tree.specs.Elements.{StandsIn}
+use Rattle.odd_tree.specs.declared.tree.Attr.{Attr}
 
 -- an attribute that is offered, by its name in documents
 pub record Offer : Type 0 where

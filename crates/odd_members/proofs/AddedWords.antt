@@ -7,8 +7,8 @@ use Rattle.std.specs.Ordering.{eq_by_cmp, is_eq, ordering_reverse}
 use Rattle.std.specs.declared.cmp.Ordering.{Ordering}
 use Rattle.std.specs.declared.cmp.Ordering.TheVariants.{Less, Equal}
 use Rattle.odd_base.proofs.Entries.{first, is_less, second}
-use Rattle.odd_reader.specs.Elements.{StandsIn}
-use Rattle.odd_reader.proofs.InList.{first_or_later, nothing_stands, stands_first, stands_later}
+use Rattle.odd_tree.specs.Elements.{StandsIn}
+use Rattle.odd_tree.proofs.InList.{first_or_later, nothing_stands, stands_first, stands_later}
 use Rattle.odd_forms.specs.Sorted.{IsSet}
 use Rattle.odd_forms.proofs.SetOf.{none_rising, rising_more}
 

@@ -1,8 +1,8 @@
 -- What a `classes` breaks and gives, by what its `memberOf` break and name.
 use Rattle.std.proofs.Common.{◌⊎◌, ℕ, Bool, true, List, Option, inl, inr}
 use Rattle.odd_base.specs.Text.{text_cmp}
-use Rattle.odd_reader.specs.Elements.{children_of}
-use Rattle.odd_reader.specs.declared.tree.Tree.{Tree}
+use Rattle.odd_tree.specs.Elements.{children_of}
+use Rattle.odd_tree.specs.declared.tree.Tree.{Tree}
 use Rattle.odd_forms.specs.Faults.{FormFault}
 use Rattle.odd_forms.specs.Least.{IsLeast, lesser_rule}
 use Rattle.odd_forms.specs.Sorted.{IsSet}

@@ -4,10 +4,10 @@ use Rattle.std.proofs.lemmas.Bool.{false≢true}
 use Rattle.std.proofs.lemmas.Option.{same_Some}
 use Rattle.odd_base.specs.Text.{text_cmp}
 use Rattle.odd_tokens.specs.Characters.{IsNCName, is_name_start}
-use Rattle.odd_reader.specs.Elements.{StandsIn, given}
-use Rattle.odd_reader.proofs.InList.{first_or_later, nothing_stands, stands_first}
-use Rattle.odd_reader.specs.declared.tree.Attr.{Attr}
-use Rattle.odd_reader.specs.declared.tree.Tree.{Tree}
+use Rattle.odd_tree.specs.Elements.{StandsIn, given}
+use Rattle.odd_tree.proofs.InList.{first_or_later, nothing_stands, stands_first}
+use Rattle.odd_tree.specs.declared.tree.Attr.{Attr}
+use Rattle.odd_tree.specs.declared.tree.Tree.{Tree}
 use Rattle.odd_forms.specs.Sorted.{IsSet}
 use Rattle.odd_tokens.proofs.Ascii.{is_name}
 use Rattle.odd_forms.proofs.SetOf.{none_rising, rising_more}

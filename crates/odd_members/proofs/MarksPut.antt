@@ -9,8 +9,8 @@ use Rattle.std.specs.FinMap.{find, slice_cmp-IsAntisymmetric, nat_cmp-IsAntisymm
 use Rattle.std.specs.Ordering.{eq_by_cmp, is_eq}
 use Rattle.odd_base.specs.Map.{SetsOnly}
 use Rattle.odd_base.specs.Text.{text_cmp}
-use Rattle.odd_reader.specs.declared.tree.Tree.{Tree}
-use Rattle.odd_reader.proofs.InList.{StandsOnce, once_push}
+use Rattle.odd_tree.specs.declared.tree.Tree.{Tree}
+use Rattle.odd_tree.proofs.InList.{StandsOnce, once_push}
 use Rattle.odd_members.specs.Members.{IsMarked, IsMemberOf, Names, adds}
 
 -- the marks tell of which classes one of the children is a `memberOf`

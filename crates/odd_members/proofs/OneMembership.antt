@@ -5,7 +5,7 @@ use Rattle.std.proofs.lemmas.Cmp.{nat_list_cmp_total}
 use Rattle.std.specs.FinMap.{find, nat_cmp-IsAntisymmetric, slice_cmp-IsAntisymmetric}
 use Rattle.odd_base.proofs.Entries.{same_map}
 use Rattle.odd_base.specs.Text.{text_cmp}
-use Rattle.odd_reader.specs.declared.tree.Tree.{Tree}
+use Rattle.odd_tree.specs.declared.tree.Tree.{Tree}
 use Rattle.odd_forms.proofs.OneSet.{one_set}
 use Rattle.odd_members.specs.Members.{HasMarks, IsMembershipOf}
 use Rattle.odd_members.specs.declared.membership.Membership.{Membership}

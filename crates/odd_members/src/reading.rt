@@ -3,15 +3,14 @@ ghost use Rattle.odd_base.specs.Text.{text_cmp};
 ghost use Rattle.odd_forms.specs.Children.{ChildOfFault, GivesOne};
 ghost use Rattle.odd_forms.specs.Least.{Among, IsLeast};
 ghost use Rattle.odd_forms.specs.Sorted.{IsSet};
-ghost use Rattle.odd_forms.specs.declared.element.Element.{Element as AnElement};
 ghost use Rattle.odd_forms.specs.declared.element.Element.TheVariants as the_element;
-ghost use Rattle.odd_reader.specs.Elements.{children_of};
+ghost use Rattle.odd_tree.specs.Elements.{children_of};
 ghost use Rattle.odd_members.specs.Members.{ClassesFault, HasMarks, IsAddedBy, IsMembershipOf, MembersFault, adds as the_adds, is_change as the_is_change};
 
 use crate::membership::{ClassMarks, Membership};
 use odd_base::{NoMemory, TryCopy, Words};
 use odd_forms::{Element, TWICE, fault_where, form_fault, is_child, lesser};
-use odd_reader::{Tree, attribute, elements, is_ncname};
+use odd_tree::{Tree, attribute, elements, is_ncname};
 use std::alloc::Global;
 
 /// What the `classes` of a declaration give, where they break no rule, and the least rule that they break.

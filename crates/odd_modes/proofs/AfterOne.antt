@@ -10,15 +10,15 @@ use Rattle.std.proofs.lemmas.Option.{same_Some}
 use Rattle.odd_base.specs.Key.{key_cmp}
 use Rattle.odd_base.specs.Map.{SetsOnly}
 use Rattle.odd_base.specs.declared.key.Key.{Key}
-use Rattle.odd_reader.specs.Elements.{StandsIn}
+use Rattle.odd_tree.specs.Elements.{StandsIn}
 use Rattle.odd_forms.proofs.Lists.{any_stands}
 use Rattle.odd_decls.specs.declared.library.Component.{Component}
 use Rattle.odd_decls.specs.declared.library.Library.{Library}
 use Rattle.odd_decls.specs.declared.odd.OddDoc.{OddDoc}
 use Rattle.odd_decls.specs.declared.spec.Spec.{Spec}
-use Rattle.odd_modes.specs.After.{after_one, held_by, kept, spec_at}
-use Rattle.odd_modes.specs.Choosing.{IsChosen, is_referred}
-use Rattle.odd_modes.specs.Index.{IsKeyOfSpec, over}
+use Rattle.odd_choosing.specs.After.{after_one, held_by, kept, spec_at}
+use Rattle.odd_choosing.specs.Choosing.{IsChosen, is_referred}
+use Rattle.odd_choosing.specs.Index.{IsKeyOfSpec, over}
 use Rattle.std.proofs.lemmas.Map.Views.{tells_apart}
 use Rattle.odd_base.specs.KeyOrder.{key_exact}
 use Rattle.odd_decls.proofs.SameKey.{key_itself}

@@ -8,11 +8,11 @@ use Rattle.std.specs.declared.cmp.Ordering.TheVariants.{Less, Equal, Greater}
 use Rattle.odd_base.specs.Key.{key_cmp, kind_rank}
 use Rattle.odd_base.specs.KeyOrder.{key_exact}
 use Rattle.odd_base.specs.declared.key.Key.{Key}
-use Rattle.odd_reader.specs.Elements.{StandsIn}
+use Rattle.odd_tree.specs.Elements.{StandsIn}
 use Rattle.odd_forms.specs.Sorted.{IsSet}
 use Rattle.odd_modes.specs.Fronts.{front_of, fronted, fronted_cmp, unfronted}
 use Rattle.odd_modes.specs.declared.fronted.FrontedKey.{FrontedKey}
-use Rattle.odd_reader.proofs.InList.{map_stands, stands_map}
+use Rattle.odd_tree.proofs.InList.{map_stands, stands_map}
 
 -- what comes after decides no tie that is not there
 no_tie : (r s : Ordering) → is_eq s ≡ false → is_eq (ordering_then r s) ≡ false

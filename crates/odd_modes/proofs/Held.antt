@@ -7,7 +7,7 @@ use Rattle.std.specs.Option.{IfSome}
 use Rattle.std.specs.Prelude.{All, reverse}
 use Rattle.odd_base.specs.Key.{key_cmp}
 use Rattle.odd_base.specs.declared.key.Key.{Key}
-use Rattle.odd_reader.specs.Elements.{StandsIn}
+use Rattle.odd_tree.specs.Elements.{StandsIn}
 use Rattle.odd_decls.specs.Library.{component_of}
 use Rattle.odd_decls.specs.declared.library.Component.{Component}
 use Rattle.odd_decls.specs.declared.library.Library.{Library}
@@ -17,8 +17,8 @@ use Rattle.odd_decls.specs.declared.odd.OddDoc.{OddDoc}
 use Rattle.odd_decls.specs.declared.spec.Mode.{Mode}
 use Rattle.odd_decls.specs.declared.spec.Mode.TheVariants as mode
 use Rattle.odd_decls.specs.declared.spec.Spec.{Spec}
-use Rattle.odd_modes.specs.After.{IsLibraryAfter, after_one, declared, held_after, held_by, kept, laid_over, spec_at}
-use Rattle.odd_modes.specs.Choosing.{is_referred}
+use Rattle.odd_choosing.specs.After.{IsLibraryAfter, after_one, declared, held_after, held_by, kept, laid_over, spec_at}
+use Rattle.odd_choosing.specs.Choosing.{is_referred}
 use Rattle.odd_modes.proofs.SpecAt.{spec_stands}
 
 -- it holds of each spec of the file

@@ -6,8 +6,8 @@ use Rattle.odd_decls.specs.Library.{component_of}
 use Rattle.odd_decls.specs.declared.library.Component.TheVariants as component
 use Rattle.odd_decls.specs.declared.odd.Entry.TheVariants as entry
 use Rattle.odd_decls.specs.declared.spec.Mode.TheVariants as mode
-use Rattle.odd_modes.specs.After.{declared, held_after, laid_over}
-use Rattle.odd_modes.proofs.SmallEntries.{a, add_a, bare, file, model, of_module, typed}
+use Rattle.odd_choosing.specs.After.{declared, held_after, laid_over}
+use Rattle.odd_choosing.proofs.SmallEntries.{a, add_a, bare, file, model, of_module, typed}
 
 -- What is laid over what
 

@@ -1,14 +1,6 @@
 pub mod AfterOne
-pub mod ChoiceExamples
-pub mod FaultExamples
-pub mod FirstFault
 pub mod Fronts
 pub mod Held
-pub mod HeldEntries
 pub mod HeldExamples
-pub mod ItemFaults
 pub mod OneLibrary
-pub mod Referring
-pub mod SmallEntries
 pub mod SpecAt
-pub mod TextSets

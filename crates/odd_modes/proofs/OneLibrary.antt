@@ -5,7 +5,7 @@ use Rattle.odd_base.specs.KeyOrder.{key_exact, key_total}
 use Rattle.odd_base.proofs.Entries.{same_map}
 use Rattle.odd_decls.specs.declared.library.Library.{Library}
 use Rattle.odd_decls.specs.declared.odd.OddDoc.{OddDoc}
-use Rattle.odd_modes.specs.After.{IsLibraryAfter}
+use Rattle.odd_choosing.specs.After.{IsLibraryAfter}
 
 -- two libraries after the same files are the same
 pub one_library : (docs : List OddDoc) (l m : Library) → IsLibraryAfter docs l → IsLibraryAfter docs m → l ≡ m

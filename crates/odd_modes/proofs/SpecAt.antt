@@ -8,17 +8,17 @@ use Rattle.std.proofs.lemmas.Cmp.{eq_by_cmp_equiv}
 use Rattle.odd_base.specs.Key.{key_cmp}
 use Rattle.odd_base.specs.KeyOrder.{key_exact, key_total}
 use Rattle.odd_base.specs.declared.key.Key.{Key}
-use Rattle.odd_reader.specs.Elements.{StandsIn}
-use Rattle.odd_reader.proofs.InList.{ends, stands_first, stands_later}
+use Rattle.odd_tree.specs.Elements.{StandsIn}
+use Rattle.odd_tree.proofs.InList.{ends, stands_first, stands_later}
 use Rattle.odd_decls.specs.declared.odd.Entry.{Entry}
 use Rattle.odd_decls.specs.declared.odd.Entry.TheVariants as entry
 use Rattle.odd_decls.specs.declared.spec.Spec.{Spec}
-use Rattle.odd_modes.specs.After.{spec_at, spec_in}
-use Rattle.odd_modes.specs.Index.{IsKeyOfSpec}
+use Rattle.odd_choosing.specs.After.{spec_at, spec_in}
+use Rattle.odd_choosing.specs.Index.{IsKeyOfSpec}
 use Rattle.odd_modes.specs.Fronts.{fronted, fronted_cmp}
 use Rattle.odd_modes.specs.declared.fronted.FrontedKey.{FrontedKey}
 use Rattle.odd_modes.proofs.Fronts.{fronted_ties}
-use Rattle.odd_modes.proofs.HeldEntries.{put_key}
+use Rattle.odd_choosing.proofs.HeldEntries.{put_key}
 use Rattle.std.proofs.lemmas.Map.Views.{tells_apart}
 use Rattle.odd_decls.proofs.SameKey.{key_itself}
 

@@ -1,5 +1,5 @@
 ghost use Rattle.std.specs.Prelude.{◌≡◌, IfOk, unwrap_or};
-ghost use Rattle.odd_modes.specs.After.{class_laid_over, element_laid_over, laid_over, other_laid_over};
+ghost use Rattle.odd_choosing.specs.After.{class_laid_over, element_laid_over, laid_over, other_laid_over};
 
 use odd_base::{NoMemory, TryCopy};
 use odd_content::Content;

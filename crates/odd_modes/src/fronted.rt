@@ -1,6 +1,6 @@
 ghost use Rattle.std.specs.Prelude.{◌≡◌, ◌↔◌, IfOk, map};
 ghost use Rattle.odd_base.specs.declared.key.Key.{Key as AKey};
-ghost use Rattle.odd_reader.specs.Elements.{StandsIn};
+ghost use Rattle.odd_tree.specs.Elements.{StandsIn};
 ghost use Rattle.odd_modes.specs.Fronts.{front_of, fronted, unfronted};
 
 use odd_base::{ExactOrd, Key, Keys, NoMemory, Seq, TryCopy};
@@ -22,7 +22,7 @@ impl ExactOrd for FrontedKey {
 }
 
 impl FrontedKey {
-    /// The key beside its front.
+    /// The key after the rank of its kind and the front of its ident. The only error is NoMemory, for want of memory.
     pub fn of(alloc: Global, key: &Key) -> Result<FrontedKey, NoMemory>
         ensures { IfOk result (λ made. made ≡ fronted key.now) }
     {
@@ -56,7 +56,7 @@ pub fn in_order(alloc: Global, keys: &Keys) -> Result<Keys, NoMemory>
     keys_of(alloc, &rows)
 }
 
-// The keys beside their fronts.
+// The keys after their ranks and fronts.
 fn rows_of(alloc: Global, keys: &Keys) -> Result<Seq<FrontedKey>, NoMemory>
     ensures { IfOk result (λ rows. rows ≡ map fronted keys.now) }
 {
@@ -67,7 +67,7 @@ fn rows_of(alloc: Global, keys: &Keys) -> Result<Seq<FrontedKey>, NoMemory>
     Ok(rows)
 }
 
-// The keys without their fronts.
+// The keys alone.
 fn keys_of(alloc: Global, rows: &Seq<FrontedKey>) -> Result<Keys, NoMemory>
     ensures { IfOk result (λ keys. keys ≡ map unfronted rows.now) }
 {

@@ -2,7 +2,7 @@ ghost use Rattle.std.specs.Prelude.{◌≡◌, IfOk};
 ghost use Rattle.std.specs.BTreeMap.{get};
 ghost use Rattle.std.specs.Option.{option_copied};
 ghost use Rattle.odd_base.specs.declared.key.Key.{Key as AKey};
-ghost use Rattle.odd_modes.specs.After.{spec_at};
+ghost use Rattle.odd_choosing.specs.After.{spec_at};
 ghost use Rattle.odd_modes.specs.Fronts.{fronted, fronted_cmp};
 
 use crate::fronted::FrontedKey;

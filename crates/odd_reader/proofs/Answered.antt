@@ -14,12 +14,13 @@ use Rattle.odd_tokens.specs.declared.token.Token.{Token}
 use Rattle.odd_tokens.specs.declared.token.Token.TheVariants as token
 use Rattle.odd_tokens.specs.declared.token.WrittenTag.{WrittenTag}
 use Rattle.odd_tokens.proofs.Unfinished.{makes}
-use Rattle.odd_reader.specs.Building.{Kept, Built, misplaced, begun, build, element_opened, ends_innermost, resolved, then_closed, then_other}
+use Rattle.odd_elements.specs.Resolving.{resolved}
+use Rattle.odd_reader.specs.Building.{Kept, Built, misplaced, begun, build, element_opened, ends_innermost, then_closed, then_other}
 use Rattle.odd_reader.specs.Reading.{is_fresh, place_of, IsLongestFront}
-use Rattle.odd_reader.specs.Spelled.{GivesTree, DepthPlace, IsNotXml, deepest}
-use Rattle.odd_reader.specs.declared.builder.Misfit.TheVariants as misfit
-use Rattle.odd_reader.specs.declared.builder.Open.{Open}
-use Rattle.odd_reader.specs.declared.tree.Tree.{Tree}
+use Rattle.odd_tree.specs.Spelled.{GivesTree, DepthPlace, IsNotXml, deepest}
+use Rattle.odd_elements.specs.declared.misfit.Misfit.TheVariants as misfit
+use Rattle.odd_elements.specs.declared.element.OpenElement.{OpenElement}
+use Rattle.odd_tree.specs.declared.tree.Tree.{Tree}
 use Rattle.odd_reader.proofs.LongestFront.{whole_front, valid_front}
 use Rattle.odd_reader.proofs.Places.{parts_of}
 use Rattle.odd_reader.proofs.Running.{HasRun, run_begun}
@@ -43,11 +44,11 @@ deep_or_kept : (b : Bool) (k : Kept) → Remembers (if b then Err misfit.TooDeep
 deep_or_kept true k e = cc
 deep_or_kept false k e = cc
 
-abbrev opened_with : Kept → Option Open → Built
+abbrev opened_with : Kept → Option OpenElement → Built
 opened_with k None = misplaced
 opened_with k (Some o) = if nat_le deepest (length k.open_elements) then Err misfit.TooDeep else Ok (with_open k o)
 
-opened_remembers : (k : Kept) (o : Option Open) → Remembers (opened_with k o)
+opened_remembers : (k : Kept) (o : Option OpenElement) → Remembers (opened_with k o)
 opened_remembers k None e = cc
 opened_remembers k (Some o) e = deep_or_kept (nat_le deepest (length k.open_elements)) (with_open k o) e
 
@@ -62,10 +63,10 @@ closed_remembers : (b : Built) → Remembers b → Remembers (then_closed b)
 closed_remembers (Err f) h e = h e
 closed_remembers (Ok k) h e = cc
 
-abbrev kept : List Open → Kept → Kept
+abbrev kept : List OpenElement → Kept → Kept
 kept os k = record k { open_elements = os }
 
-build_remembers : (os : List Open) (k : Kept) (t : Token) → Remembers (build (kept os k) t)
+build_remembers : (os : List OpenElement) (k : Kept) (t : Token) → Remembers (build (kept os k) t)
 build_remembers [] k (token.Character c) e = kept_or_misplaced (is_space c) _ e
 build_remembers (o ∷ os) k (token.Character c) e = misplaced_or _ (Ok _) (λ f. cc) e
 build_remembers os k token.Passed e = cc

@@ -1,8 +1,8 @@
 -- How many elements are open after tokens: the same number whichever tags are told, and never too many.
 use Rattle.std.proofs.Common.{◌≡◌, ◌⊎◌, inl, inr, ⊎_elim, ◌<◌, true, List, [], ◌∷◌, ◌++◌, length, refl, sym, ap, ap₂, ◌∙◌, subst}
 use Rattle.odd_tokens.specs.Tokens.{Tag, Token}
-use Rattle.odd_reader.specs.Fitting.{is_start_or_empty, AreOpen}
-use Rattle.odd_reader.specs.Spelled.{NoneTooDeep, deepest}
+use Rattle.odd_tree.specs.Fitting.{is_start_or_empty, AreOpen}
+use Rattle.odd_tree.specs.Spelled.{NoneTooDeep, deepest}
 use Rattle.odd_reader.proofs.StandsOpen.{one_open}
 
 pub one_depth_open : {ts : List Token} (some others : List Tag) → AreOpen some ts → AreOpen others ts → length some ≡ length others

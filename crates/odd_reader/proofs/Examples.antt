@@ -11,24 +11,24 @@ use Rattle.std.proofs.lemmas.Str.{encodes_same}
 use Rattle.std.proofs.lemmas.Bool.{both_ways, or_right}
 use Rattle.odd_base.specs.declared.name.Bind.{Bind}
 use Rattle.odd_base.specs.declared.name.Name.{Name}
-use Rattle.odd_reader.specs.declared.tree.Node.{Node, Text}
-use Rattle.odd_reader.specs.declared.tree.Tree.{Tree, roll-Tree}
+use Rattle.odd_tree.specs.declared.tree.Node.{Node, Text}
+use Rattle.odd_tree.specs.declared.tree.Tree.{Tree, roll-Tree}
 use Rattle.odd_tokens.specs.Characters.{is_char, is_name_start, is_name_char, is_ncname}
 use Rattle.odd_tokens.specs.Tokens.{QName, lt, gt, decimal, hexadecimal, Piece, itself, reference, Attribute, Tag, Token, character, referred, cdata, comment, instruction, start_tag, empty_tag, end_tag, name_written, token_written, tokens_written, size_of, character_of, IsReference, IsTag, IsToken, NoneTwice}
 use Rattle.odd_tokens.specs.Values.{value_read}
-use Rattle.odd_reader.specs.Names.{xml_namespace, binds_of, plain_attributes, element_name, attribute_name, IsBinding, NamesFit}
-use Rattle.odd_reader.specs.Fitting.{is_tag, IsBalanced, nothing, piece, element, AreOpen, none, more, FitsIn, Fits, AllFit}
-use Rattle.odd_reader.specs.Trees.{HasTag, IsElement, IsContent, empty, full}
-use Rattle.odd_reader.specs.Trees as Trees
+use Rattle.odd_tree.specs.Names.{xml_namespace, binds_of, plain_attributes, element_name, attribute_name, IsBinding, NamesFit}
+use Rattle.odd_tree.specs.Fitting.{is_tag, IsBalanced, nothing, piece, element, AreOpen, none, more, FitsIn, Fits, AllFit}
+use Rattle.odd_tree.specs.Trees.{HasTag, IsElement, IsContent, empty, full}
+use Rattle.odd_tree.specs.Trees as Trees
 use Rattle.odd_tokens.specs.Openings.{Setting, IsSetting, Declaration, IsDeclaration, Opening, opening_written}
-use Rattle.odd_reader.specs.Spelled.{IsDocument, Begins, Spells, IsWholeOpening, NoneFits, FaultPlace, DepthPlace, deepest}
-use Rattle.odd_reader.specs.Markup.{escaped_text, escaped_value, printed, line}
+use Rattle.odd_tree.specs.Spelled.{IsDocument, Begins, Spells, IsWholeOpening, NoneFits, FaultPlace, DepthPlace, deepest}
+use Rattle.odd_tree.specs.Markup.{escaped_text, escaped_value, printed, line}
 use Rattle.odd_tokens.proofs.Distinct.{none_twice}
-use Rattle.odd_reader.proofs.Fits.{FitAfter, all_fit}
+use Rattle.odd_tree.proofs.Fits.{FitAfter, all_fit}
 use Rattle.odd_tokens.proofs.Lexing.{same_tokens}
 use Rattle.odd_reader.proofs.Openings.{fitting_tokens, none_open}
 use Rattle.odd_reader.proofs.Readings.{one_content}
-use Rattle.odd_reader.proofs.Sizes.{bytes_of}
+use Rattle.odd_tree.proofs.Sizes.{bytes_of}
 use Rattle.odd_tokens.proofs.TextsLexed.{same_at}
 use Rattle.odd_reader.proofs.Places.{Longer, one_here, tokens_part, ends_there, ends_at_end, behind, opening_first, first_of_bytes, one_fault, fault_comes_later, one_depth}
 

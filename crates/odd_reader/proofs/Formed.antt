@@ -3,24 +3,24 @@ use Rattle.std.proofs.Common.{◌≡◌, ℕ, suc, ◌+◌, ◌≤◌, List, [],
 use Rattle.std.proofs.lemmas.Bool.{or_parts}
 use Rattle.std.proofs.lemmas.List.Elements.{All-nil}
 use Rattle.odd_base.specs.declared.name.Bind.{Bind}
-use Rattle.odd_reader.specs.declared.tree.Node.{Node}
-use Rattle.odd_reader.specs.declared.tree.Tree.{Tree, out-Tree}
-use Rattle.odd_reader.specs.Fitting.{is_start_or_end, is_start_or_empty, AreOpen, open_binds}
-use Rattle.odd_reader.specs.Fitting as fitting
-use Rattle.odd_reader.specs.Formed.{IsFormed, AreFormed, AreApart, IsFormedTag}
-use Rattle.odd_reader.specs.Formed as formed
-use Rattle.odd_reader.specs.Names.{binds_of}
+use Rattle.odd_tree.specs.declared.tree.Node.{Node}
+use Rattle.odd_tree.specs.declared.tree.Tree.{Tree, out-Tree}
+use Rattle.odd_tree.specs.Fitting.{is_start_or_end, is_start_or_empty, AreOpen, open_binds}
+use Rattle.odd_tree.specs.Fitting as fitting
+use Rattle.odd_tree.specs.Formed.{IsFormed, AreFormed, AreApart, IsFormedTag}
+use Rattle.odd_tree.specs.Formed as formed
+use Rattle.odd_tree.specs.Names.{binds_of}
 use Rattle.odd_tokens.specs.Openings.{opening_written}
-use Rattle.odd_reader.specs.Spelled.{Spells}
+use Rattle.odd_tree.specs.Spelled.{Spells}
 use Rattle.odd_tokens.specs.Tokens.{Tag, Token, start_tag, end_tag, tokens_written, size_of}
-use Rattle.odd_reader.specs.Trees.{HasTag, IsElement, IsContent, token_read}
-use Rattle.odd_reader.specs.Trees as trees
-use Rattle.odd_reader.proofs.Fits.{FitAfter, open_after, opened, binds_opened}
+use Rattle.odd_tree.specs.Trees.{HasTag, IsElement, IsContent, token_read}
+use Rattle.odd_tree.specs.Trees as trees
+use Rattle.odd_tree.proofs.Fits.{FitAfter, open_after, opened, binds_opened}
 use Rattle.odd_reader.proofs.FormedBindings.{BindLegally, legally_append}
 use Rattle.odd_reader.proofs.FormedPlaces.{fits_each, fit_first, fit_then, start_names_fit, empty_names_fit, empty_room, full_room, piece_room, child_room}
 use Rattle.odd_reader.proofs.FormedTags.{tag_formed}
 use Rattle.odd_reader.proofs.FormedTexts.{token_legal, apart_with, formed_with}
-use Rattle.odd_reader.proofs.Sizes.{size_of_append, size, size_append}
+use Rattle.odd_tree.proofs.Sizes.{size_of_append, size, size_append}
 use Rattle.odd_reader.proofs.StandsLevels.{element_balanced}
 use Rattle.odd_reader.proofs.StandsTexts.{no_tags_from, no_tags_balanced}
 

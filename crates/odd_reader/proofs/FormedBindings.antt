@@ -10,11 +10,11 @@ use Rattle.odd_tokens.specs.Characters.{is_ncname, IsLegal}
 use Rattle.odd_tokens.specs.Same.{is_same}
 use Rattle.odd_tokens.specs.Tokens.{QName, Attribute, Tag, IsQName, IsAttribute, IsTag, NoneTwice, name_written}
 use Rattle.odd_tokens.specs.Values.{value_read}
-use Rattle.odd_reader.specs.Formed.{IsPrefix}
-use Rattle.odd_reader.specs.Names.{declared_prefix, binds_of, last_bound, in_force, xml_namespace}
+use Rattle.odd_tree.specs.Formed.{IsPrefix}
+use Rattle.odd_tree.specs.Names.{declared_prefix, binds_of, last_bound, in_force, xml_namespace}
 use Rattle.odd_tokens.proofs.Distinct.{Lacks, Distinct, distinct, none_twice}
 use Rattle.odd_tokens.proofs.Legal.{ascii_legal}
-use Rattle.odd_reader.proofs.BuildingBindings.{last_bound_some, last_bound_none}
+use Rattle.odd_tree.proofs.LastBound.{last_bound_some, last_bound_none}
 use Rattle.odd_reader.proofs.FormedTexts.{value_legal}
 use Rattle.odd_reader.proofs.StandsNames.{bind_of}
 

@@ -2,11 +2,11 @@
 use Rattle.std.proofs.Common.{◌≡◌, ℕ, suc, ◌+◌, ◌≤◌, List, [], ◌∷◌, ◌++◌, sym, ap, ◌∙◌, subst, append_assoc, append-nil, arith}
 use Rattle.std.proofs.lemmas.Str.{length-le-encodes}
 use Rattle.odd_base.specs.declared.name.Bind.{Bind}
-use Rattle.odd_reader.specs.Fitting.{AreOpen, open_binds, Fits, FitsIn, AllFit}
-use Rattle.odd_reader.specs.Names.{NamesFit}
+use Rattle.odd_tree.specs.Fitting.{AreOpen, open_binds, Fits, FitsIn, AllFit}
+use Rattle.odd_tree.specs.Names.{NamesFit}
 use Rattle.odd_tokens.specs.Tokens.{Tag, Token, start_tag, empty_tag, token_written, tokens_written, size_of}
-use Rattle.odd_reader.proofs.Fits.{FitAfter}
-use Rattle.odd_reader.proofs.Sizes.{size_of_append, size, size_append}
+use Rattle.odd_tree.proofs.Fits.{FitAfter}
+use Rattle.odd_tree.proofs.Sizes.{size_of_append, size, size_append}
 use Rattle.odd_reader.proofs.StandsOpen.{one_open}
 
 -- each token fits

@@ -6,14 +6,14 @@ use Rattle.std.specs.Str.{encode_utf8_all}
 use Rattle.std.proofs.lemmas.List.Elements.{All-nil, All-cons, All-head, All-tail, All-filter}
 use Rattle.odd_base.specs.declared.name.Bind.{Bind}
 use Rattle.odd_base.specs.declared.name.Name.{Name}
-use Rattle.odd_reader.specs.declared.tree.Attr.{Attr}
-use Rattle.odd_reader.specs.declared.tree.Tree.{Tree, out-Tree}
+use Rattle.odd_tree.specs.declared.tree.Attr.{Attr}
+use Rattle.odd_tree.specs.declared.tree.Tree.{Tree, out-Tree}
 use Rattle.odd_tokens.specs.Characters.{IsNCName, IsLegal}
-use Rattle.odd_reader.specs.Formed.{IsFormedTag}
+use Rattle.odd_tree.specs.Formed.{IsFormedTag}
 use Rattle.odd_tokens.specs.Values.{value_read}
-use Rattle.odd_reader.specs.Names.{declared_prefix, binds_of, last_bound, plain_attributes, element_name, attribute_name, attribute_read, IsBinding, NamesFit}
+use Rattle.odd_tree.specs.Names.{declared_prefix, binds_of, last_bound, plain_attributes, element_name, attribute_name, attribute_read, IsBinding, NamesFit}
 use Rattle.odd_tokens.specs.Tokens.{QName, Attribute, Tag, IsQName, IsAttribute, IsTag, NoneTwice}
-use Rattle.odd_reader.specs.Trees.{HasTag}
+use Rattle.odd_tree.specs.Trees.{HasTag}
 use Rattle.odd_tokens.proofs.Distinct.{distinct, distinct_made, none_twice}
 use Rattle.odd_reader.proofs.FormedBindings.{BindLegally, BindOnce, IsWithPrefix, legally_append, no_namespace, default_legal, given_legal, bound_legal, bound_prefixed, bound_once}
 use Rattle.odd_reader.proofs.FormedTexts.{value_legal}

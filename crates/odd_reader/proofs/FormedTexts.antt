@@ -6,14 +6,14 @@ use Rattle.std.proofs.lemmas.Bool.{and_from, and_parts}
 use Rattle.std.proofs.lemmas.List.Elements.{All-head, All-tail}
 use Rattle.std.proofs.lemmas.List.Folds.{list_all-append}
 use Rattle.std.proofs.lemmas.Str.{encodes-append, length-le-encodes}
-use Rattle.odd_reader.specs.declared.tree.Node.{Node, Text}
+use Rattle.odd_tree.specs.declared.tree.Node.{Node, Text}
 use Rattle.odd_tokens.specs.Characters.{is_char, is_space, IsLegal}
-use Rattle.odd_reader.specs.Formed.{AreApart, AreFormed, text}
+use Rattle.odd_tree.specs.Formed.{AreApart, AreFormed, text}
 use Rattle.odd_tokens.specs.Values.{value_read}
 use Rattle.odd_tokens.specs.Tokens.{Reference, lt, gt, amp, apos, quot, decimal, hexadecimal, Piece, itself, reference, IsPieceIn}
 use Rattle.odd_tokens.specs.Tokens.{Token, character, referred, cdata, character_of, IsReference, IsToken}
 use Rattle.odd_tokens.specs.Lines.{lines_read}
-use Rattle.odd_reader.specs.Trees.{token_read, with_text}
+use Rattle.odd_tree.specs.Trees.{token_read, with_text}
 
 abbrev AreLegal : List ℕ → Type 0
 AreLegal cs = list_all is_char cs ≡ true

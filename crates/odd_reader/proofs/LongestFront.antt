@@ -7,10 +7,10 @@ use Rattle.std.specs.Prelude.{encode_utf8}
 use Rattle.std.specs.Str.{encode_utf8_all, IsUtf8, IsValidUpTo}
 use Rattle.odd_tokens.specs.Tokens.{size_of}
 use Rattle.odd_reader.specs.Reading.{HasRead, IsLongestFront, place_of}
-use Rattle.odd_reader.specs.Spelled.{IsNotXml}
+use Rattle.odd_tree.specs.Spelled.{IsNotXml}
 use Rattle.odd_reader.specs.declared.reader.Reader.{Reader}
 use Rattle.odd_reader.proofs.Places.{parts_of}
-use Rattle.odd_reader.proofs.Sizes.{size_of_one_more}
+use Rattle.odd_tree.proofs.Sizes.{size_of_one_more}
 use Rattle.odd_reader.proofs.Taken.{cut_place}
 
 -- which front it is

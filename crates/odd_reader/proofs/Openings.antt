@@ -7,12 +7,12 @@ use Rattle.std.proofs.lemmas.List.Folds.{list_all-append}
 use Rattle.std.specs.Cmp.Lexicographic.{same_text}
 use Rattle.std.specs.List.{list_all}
 use Rattle.odd_tokens.specs.Characters.{is_space, is_name_char, is_name_start, is_white}
-use Rattle.odd_reader.specs.Fitting.{AreOpen, none, more, Fits, FitsIn, AllFit}
+use Rattle.odd_tree.specs.Fitting.{AreOpen, none, more, Fits, FitsIn, AllFit}
 use Rattle.odd_tokens.specs.Same.{is_same}
 use Rattle.odd_tokens.specs.Openings.{Setting, setting_written, IsSetting, Declaration, declaration_written, IsDeclaration, Opening, opening_written, IsOpening}
 use Rattle.odd_tokens.specs.Tokens.{Tag, Token, character, instruction, start_tag, IsToken, token_written, tokens_written, size_of}
 use Rattle.odd_reader.specs.Reading.{is_fresh}
-use Rattle.odd_reader.proofs.Sizes.{size_of_append}
+use Rattle.odd_tree.proofs.Sizes.{size_of_append}
 use Rattle.odd_tokens.proofs.Ascii.{lowered}
 use Rattle.odd_tokens.proofs.Fronts.{Stops, same_front, all_weaker}
 use Rattle.odd_tokens.proofs.NamesLexed.{at_space, ncname_chars, space_ends}

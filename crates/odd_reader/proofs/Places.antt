@@ -6,13 +6,13 @@ use Rattle.std.proofs.lemmas.List.Elements.{All-head, All-tail}
 use Rattle.std.proofs.lemmas.Str.{encode_same, encodes-append, length-le-encodes}
 use Rattle.std.specs.Str.{encode_utf8_all}
 use Rattle.odd_tokens.specs.Tokens.{Token, IsToken, token_written, tokens_written, size_of}
-use Rattle.odd_reader.specs.Fitting.{is_start_or_empty, Fits, AllFit}
+use Rattle.odd_tree.specs.Fitting.{is_start_or_empty, Fits, AllFit}
 use Rattle.odd_tokens.specs.Openings.{Declaration, IsDeclaration, declaration_written, opening_written}
 use Rattle.odd_reader.specs.Reading.{is_fresh}
-use Rattle.odd_reader.specs.Spelled.{Begins, IsWholeOpening, NoneFits, NoneTooDeep, FaultPlace, DepthPlace, deepest}
+use Rattle.odd_tree.specs.Spelled.{Begins, IsWholeOpening, NoneFits, NoneTooDeep, FaultPlace, DepthPlace, deepest}
 use Rattle.odd_tokens.proofs.Lexing.{one_token, something_written}
 use Rattle.odd_reader.proofs.Openings.{OpensNone, fitting_tokens, shorter}
-use Rattle.odd_reader.proofs.Sizes.{bytes_of}
+use Rattle.odd_tree.proofs.Sizes.{bytes_of}
 
 -- characters, and bytes behind them: one goes on where the other ends
 

@@ -3,13 +3,13 @@ use Rattle.std.proofs.Common.{◌≡◌, ◌≢◌, ℕ, ◌+◌, Bool, true, fa
 use Rattle.std.proofs.lemmas.Bool.{and_from, not_from_true, or_right}
 use Rattle.std.specs.List.{list_all}
 use Rattle.odd_base.specs.declared.name.Bind.{Bind}
-use Rattle.odd_reader.specs.declared.tree.Tree.{Tree, out-Tree, roll-Tree, roll-out-Tree}
-use Rattle.odd_reader.specs.declared.tree.Node.{Node}
-use Rattle.odd_reader.specs.Fitting.{is_tag, is_start_or_empty}
-use Rattle.odd_reader.specs.Names.{binds_of}
+use Rattle.odd_tree.specs.declared.tree.Tree.{Tree, out-Tree, roll-Tree, roll-out-Tree}
+use Rattle.odd_tree.specs.declared.tree.Node.{Node}
+use Rattle.odd_tree.specs.Fitting.{is_tag, is_start_or_empty}
+use Rattle.odd_tree.specs.Names.{binds_of}
 use Rattle.odd_tokens.specs.Tokens.{Tag, Token, start_tag, empty_tag, end_tag, token_written, tokens_written, size_of}
-use Rattle.odd_reader.specs.Spelled.{IsDocument}
-use Rattle.odd_reader.specs.Trees.{HasTag, IsElement, empty, full, IsContent, nothing, piece, child}
+use Rattle.odd_tree.specs.Spelled.{IsDocument}
+use Rattle.odd_tree.specs.Trees.{HasTag, IsElement, empty, full, IsContent, nothing, piece, child}
 use Rattle.odd_tokens.proofs.Fronts.{Stops, same_front}
 
 -- trees of one tag at one place, with the same children

@@ -3,11 +3,11 @@ use Rattle.std.proofs.Common.{◌≡◌, ⊎_elim, ℕ, ◌+◌, ◌<◌, ◌≤
 use Rattle.std.specs.Str.{encode_utf8_all}
 use Rattle.odd_tokens.specs.Openings.{opening_written}
 use Rattle.odd_tokens.specs.Tokens.{Tag, Token, start_tag, token_written, size_of}
-use Rattle.odd_reader.specs.Fitting.{IsBalanced, AreOpen, none, more, Fits, is_start_or_empty}
-use Rattle.odd_reader.specs.Spelled.{Begins, IsDocument, Spells, GivesTree, IsWholeOpening, NoneFits, NoneTooDeep, DepthPlace, IsNotXml, deepest}
-use Rattle.odd_reader.specs.declared.tree.Tree.{Tree}
+use Rattle.odd_tree.specs.Fitting.{IsBalanced, AreOpen, none, more, Fits, is_start_or_empty}
+use Rattle.odd_tree.specs.Spelled.{Begins, IsDocument, Spells, GivesTree, IsWholeOpening, NoneFits, NoneTooDeep, DepthPlace, IsNotXml, deepest}
+use Rattle.odd_tree.specs.declared.tree.Tree.{Tree}
 use Rattle.odd_reader.proofs.Places.{Longer, begin_alike, fault_comes_later, first_deep, first_of_bytes, nothing_opens, same_end, whole_opening}
-use Rattle.odd_reader.proofs.Sizes.{bytes_of}
+use Rattle.odd_tree.proofs.Sizes.{bytes_of}
 use Rattle.odd_reader.proofs.Spelling.{none_at_end}
 
 module _ {bytes left : List ℕ} (b : Begins bytes left) (w : IsWholeOpening bytes b.opening) (shallow : NoneTooDeep b.tokens) (n : NoneFits b.tokens left) where

@@ -12,9 +12,9 @@ use Rattle.odd_tokens.proofs.Ascii.{ascii_codes}
 use Rattle.odd_tokens.proofs.Unfinished.{makes, nothing_read, stands_between}
 use Rattle.odd_reader.specs.Building.{Kept, Built, begun, build}
 use Rattle.odd_reader.specs.Reading.{HasTaken, is_fresh, place_of}
-use Rattle.odd_reader.specs.Spelled.{GivesTree, IsNotXml}
-use Rattle.odd_reader.specs.declared.tree.Tree.{Tree}
-use Rattle.odd_reader.proofs.Sizes.{size_of_one_more}
+use Rattle.odd_tree.specs.Spelled.{GivesTree, IsNotXml}
+use Rattle.odd_tree.specs.declared.tree.Tree.{Tree}
+use Rattle.odd_tree.proofs.Sizes.{size_of_one_more}
 use Rattle.odd_reader.proofs.Taken.{nothing_taken, place_between, goes_on, token_taken, end_place, gives_tree}
 
 abbrev with_built : (Kept → Option (Lexed × Kept)) → Built → Option (Lexed × Kept)

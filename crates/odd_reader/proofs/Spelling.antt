@@ -1,8 +1,8 @@
 -- A file spells one tree.
 use Rattle.std.proofs.Common.{◌≡◌, ℕ, List, [], sym, subst₂}
-use Rattle.odd_reader.specs.declared.tree.Tree.{Tree}
+use Rattle.odd_tree.specs.declared.tree.Tree.{Tree}
 use Rattle.odd_tokens.specs.Openings.{opening_written}
-use Rattle.odd_reader.specs.Spelled.{IsDocument, Spells, NoneFits}
+use Rattle.odd_tree.specs.Spelled.{IsDocument, Spells, NoneFits}
 use Rattle.odd_tokens.specs.Tokens.{Token, size_of}
 use Rattle.odd_reader.proofs.Places.{nothing_opens, same_end, some_bytes, whole_opening}
 use Rattle.odd_reader.proofs.Readings.{one_document}

@@ -1,18 +1,19 @@
 -- How the tokens so far brought the builder to where it stands: which token it takes, and which tree it made.
 use Rattle.std.proofs.Common.{◌≡◌, ◌≤◌, ◌<◌, Bool, true, false, ◌&&◌, ◌==◌, if◌then◌else◌, ℕ, ◌+◌, List, [], ◌∷◌, ◌++◌, length, Option, Some, None, Ok, Err, refl, subst}
 use Rattle.odd_reader.specs.declared.builder.Last.{Last}
-use Rattle.odd_reader.specs.declared.builder.Misfit.{Misfit}
-use Rattle.odd_reader.specs.declared.builder.Misfit.TheVariants as misfit
-use Rattle.odd_reader.specs.declared.builder.Open.{Open}
-use Rattle.odd_reader.specs.declared.tree.Tree.{Tree}
-use Rattle.odd_reader.specs.Building.{Kept, misplaced, begun, build, is_brackets, is_written_same, element_opened}
+use Rattle.odd_elements.specs.declared.misfit.Misfit.{Misfit}
+use Rattle.odd_elements.specs.declared.misfit.Misfit.TheVariants as misfit
+use Rattle.odd_elements.specs.declared.element.OpenElement.{OpenElement}
+use Rattle.odd_tree.specs.declared.tree.Tree.{Tree}
+use Rattle.odd_elements.specs.Resolving.{is_written_same}
+use Rattle.odd_reader.specs.Building.{Kept, misplaced, begun, build, is_brackets, element_opened}
 use Rattle.odd_tokens.specs.Characters.{is_space}
-use Rattle.odd_reader.specs.Fitting.{is_start_or_empty, AreOpen, Fits}
+use Rattle.odd_tree.specs.Fitting.{is_start_or_empty, AreOpen, Fits}
 use Rattle.odd_tokens.specs.Making.{name_made, tag_made, token_made}
-use Rattle.odd_reader.specs.Spelled.{IsDocument, deepest}
+use Rattle.odd_tree.specs.Spelled.{IsDocument, deepest}
 use Rattle.odd_tokens.specs.Tokens.{Tag, Token, character, referred, cdata, comment, instruction, start_tag, empty_tag, end_tag, tokens_written, size_of}
 use Rattle.odd_tokens.proofs.Lexes.{IsLexed}
-use Rattle.odd_reader.proofs.Sizes.{size}
+use Rattle.odd_tree.proofs.Sizes.{size}
 use Rattle.odd_reader.proofs.StandsFit.{some_element, fits_refused, other_refused, closed_refused}
 use Rattle.odd_reader.proofs.StandsLevels.{StandsIn, inside_open, inside_more}
 use Rattle.odd_reader.proofs.StandsOpen.{one_open}
@@ -30,7 +31,7 @@ nothing_stands start = record { stands = (tt, refl) }
 
 -- what is taken fits
 
-taken_in : (start : ℕ) (ts : List Token) (t : Token) (os : List Open) (root : Option Tree) (text : List ℕ) (l : Last) (m : Kept) → StandsIn start ts os root text l → IsLexed t
+taken_in : (start : ℕ) (ts : List Token) (t : Token) (os : List OpenElement) (root : Option Tree) (text : List ℕ) (l : Last) (m : Kept) → StandsIn start ts os root text l → IsLexed t
     → build (kept os root text l) (token_made (start + size ts) t) ≡ Ok m → Taken start ts t m
 taken_in start ts (character c) os root text l m s h e = character_taken start (start + size ts) c ts os root text l m s h e
 taken_in start ts (referred r) os root text l m s h e = referred_taken start (start + size ts) r ts os root text l m s h e
@@ -51,7 +52,7 @@ taken_stands start ts t k m s h e =
 
 -- what is too deep fits
 
-abbrev Deep : List Token → Token → List Open → Type 0
+abbrev Deep : List Token → Token → List OpenElement → Type 0
 Deep ts t os = Fits ts t × (is_start_or_empty t ≡ true) × (deepest ≤ length os)
 
 no_depth : (P : Type 0) (b : Bool) (k : Kept) → (if b then Ok k else misplaced) ≡ Err misfit.TooDeep → P
@@ -62,7 +63,7 @@ no_depth_else : (P : Type 0) (b : Bool) (k : Kept) → (if b then misplaced else
 no_depth_else P true k e = cc
 no_depth_else P false k e = cc
 
-too_deep_in : (start at : ℕ) (ts : List Token) (t : Token) (os : List Open) (root : Option Tree) (text : List ℕ) (l : Last) → StandsIn start ts os root text l → IsLexed t
+too_deep_in : (start at : ℕ) (ts : List Token) (t : Token) (os : List OpenElement) (root : Option Tree) (text : List ℕ) (l : Last) → StandsIn start ts os root text l → IsLexed t
     → build (kept os root text l) (token_made at t) ≡ Err misfit.TooDeep → Deep ts t os
 too_deep_in start at ts (character c) [] root text l s h e = no_depth _ (is_space c) _ e
 too_deep_in start at ts (character c) (o ∷ os) root text l s h e = no_depth_else _ (c == 0x3E && is_brackets l) _ e
@@ -102,7 +103,7 @@ taken_shallow k m at t h e = cc h
 
 -- what is open
 
-open_in : (start : ℕ) (ts : List Token) (os : List Open) (root : Option Tree) (text : List ℕ) (l : Last) → StandsIn start ts os root text l
+open_in : (start : ℕ) (ts : List Token) (os : List OpenElement) (root : Option Tree) (text : List ℕ) (l : Last) → StandsIn start ts os root text l
     → (open_tags : List Tag) × AreOpen open_tags ts × (length open_tags ≡ length os)
 open_in start ts [] root text l s = ([], outer_open start ts root text l s, refl)
 open_in start ts (o ∷ os) (Some u) text l s = absurd s
@@ -113,7 +114,7 @@ stands_open start ts k s = open_in start ts k.open_elements k.root k.text k.last
 
 -- where the root is closed, the tokens are a document, and only there
 
-closed_at : (start : ℕ) (ts : List Token) (os : List Open) (root : Option Tree) (text : List ℕ) (l : Last) (u : Tree) → StandsIn start ts os root text l → root ≡ Some u
+closed_at : (start : ℕ) (ts : List Token) (os : List OpenElement) (root : Option Tree) (text : List ℕ) (l : Last) (u : Tree) → StandsIn start ts os root text l → root ≡ Some u
     → (os ≡ []) × IsDocument start ts u
 closed_at start ts [] None text l u s e = cc e
 closed_at start ts [] (Some v) text l u s e = let f : v ≡ u = cc e in (refl, subst (IsDocument start ts) f s.0)
@@ -123,7 +124,7 @@ closed_at start ts (o ∷ os) (Some v) text l u s e = absurd s
 pub stands_closed : (start : ℕ) (ts : List Token) (k : Kept) (u : Tree) → Stands start ts k → k.root ≡ Some u → (k.open_elements ≡ []) × IsDocument start ts u
 stands_closed start ts k u s e = closed_at start ts k.open_elements k.root k.text k.last u s.stands e
 
-document_at : (start : ℕ) (ts : List Token) (os : List Open) (root : Option Tree) (text : List ℕ) (l : Last) (t : Tree) → StandsIn start ts os root text l → IsDocument start ts t
+document_at : (start : ℕ) (ts : List Token) (os : List OpenElement) (root : Option Tree) (text : List ℕ) (l : Last) (t : Tree) → StandsIn start ts os root text l → IsDocument start ts t
     → (u : Tree) × (root ≡ Some u)
 document_at start ts os (Some u) text l t s d = (u, refl)
 document_at start ts [] None text l t s d = absurd (some_element start ts t d (no_tags_no_element ts s.0))

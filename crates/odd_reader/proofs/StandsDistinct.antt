@@ -8,14 +8,14 @@ use Rattle.std.proofs.lemmas.Str.{encodes_same}
 use Rattle.odd_base.specs.declared.name.Name.{Name}
 use Rattle.odd_tokens.specs.declared.token.WrittenAttr.{WrittenAttr}
 use Rattle.odd_tokens.specs.declared.token.WrittenName.{WrittenName}
-use Rattle.odd_reader.specs.Building.{some_twice, is_written_same, is_same_name}
+use Rattle.odd_elements.specs.Resolving.{some_twice, is_written_same, is_same_name}
 use Rattle.odd_tokens.specs.Making.{name_made, attribute_made}
 use Rattle.odd_tokens.specs.Same.{is_same}
 use Rattle.odd_tokens.specs.Tokens.{QName, IsQName, Attribute, IsAttribute, NoneTwice, name_written}
 use Rattle.odd_tokens.proofs.Distinct.{Lacks, Distinct, each_weaker, distinct, none_twice, distinct_made}
 use Rattle.odd_tokens.proofs.NamesLexed.{one_name}
-use Rattle.odd_reader.proofs.BuildingTwice.{none_passes, each_fails, some_twice-map}
-use Rattle.odd_reader.proofs.StandsNames.{same_from}
+use Rattle.odd_elements.proofs.TwoAlike.{none_passes, each_fails, some_twice-map}
+use Rattle.odd_tree.proofs.SameTexts.{same_from}
 
 module _ {A : Type 0} (same : A → A → Bool) where
   once_from : (from : (a b : A) → a ≡ b → same a b ≡ true) (xs : List A) → some_twice same xs ≡ false → Distinct xs

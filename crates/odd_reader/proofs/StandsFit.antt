@@ -4,16 +4,17 @@ use Rattle.std.specs.List.{list_any}
 use Rattle.std.proofs.lemmas.Bool.{and_parts, both_ways, false_from_ne_true, eqb-true, or_parts}
 use Rattle.std.proofs.lemmas.List.Folds.{list_any-append}
 use Rattle.odd_reader.specs.declared.builder.Last.{Last}
-use Rattle.odd_reader.specs.declared.builder.Misfit.{Misfit}
-use Rattle.odd_reader.specs.declared.builder.Misfit.TheVariants as misfit
-use Rattle.odd_reader.specs.declared.builder.Open.{Open}
-use Rattle.odd_reader.specs.declared.tree.Tree.{Tree}
-use Rattle.odd_reader.specs.Building.{Kept, Built, misplaced, build, around, is_brackets, is_written_same, then_other}
+use Rattle.odd_elements.specs.declared.misfit.Misfit.{Misfit}
+use Rattle.odd_elements.specs.declared.misfit.Misfit.TheVariants as misfit
+use Rattle.odd_elements.specs.declared.element.OpenElement.{OpenElement}
+use Rattle.odd_tree.specs.declared.tree.Tree.{Tree}
+use Rattle.odd_elements.specs.Resolving.{around, is_written_same}
+use Rattle.odd_reader.specs.Building.{Kept, Built, misplaced, build, is_brackets, then_other}
 use Rattle.odd_tokens.specs.Characters.{is_space}
-use Rattle.odd_reader.specs.Fitting.{is_start_or_empty, Fits, FitsIn}
+use Rattle.odd_tree.specs.Fitting.{is_start_or_empty, Fits, FitsIn}
 use Rattle.odd_tokens.specs.Making.{name_made, tag_made, token_made}
-use Rattle.odd_reader.specs.Names.{NamesFit}
-use Rattle.odd_reader.specs.Spelled.{IsDocument, deepest}
+use Rattle.odd_tree.specs.Names.{NamesFit}
+use Rattle.odd_tree.specs.Spelled.{IsDocument, deepest}
 use Rattle.odd_tokens.specs.Tokens.{QName, Tag, Token, character, referred, cdata, comment, instruction, start_tag, empty_tag, end_tag, IsTag}
 use Rattle.odd_reader.proofs.Readings.{element_begins}
 use Rattle.odd_reader.proofs.StandsDistinct.{same_written, once_written}
@@ -25,7 +26,7 @@ use Rattle.odd_reader.proofs.StandsTaken.{kept, outer_open}
 use Rattle.odd_reader.proofs.StandsTexts.{last_brackets}
 
 -- the level is one too many
-abbrev pub IsDeep : List Open → Token → Misfit → Type 0
+abbrev pub IsDeep : List OpenElement → Token → Misfit → Type 0
 IsDeep os t e = (e ≡ misfit.TooDeep) × (is_start_or_empty t ≡ true) × (deepest ≤ length os)
 
 -- where the token has its place
@@ -51,15 +52,15 @@ fits_before_end start ts (Some u) text l s h = absurd (some_element start ts u s
 
 -- tags
 
-can_open : (os : List Open) (root : Option Tree) (text : List ℕ) (l : Last) (at : ℕ) (tag : Tag) → is_root_closed os root ≡ false → IsTag tag → NamesFit (around os) tag
-    → (o : Open) × CanOpen (kept os root text l) (tag_made at tag) o
+can_open : (os : List OpenElement) (root : Option Tree) (text : List ℕ) (l : Last) (at : ℕ) (tag : Tag) → is_root_closed os root ≡ false → IsTag tag → NamesFit (around os) tag
+    → (o : OpenElement) × CanOpen (kept os root text l) (tag_made at tag) o
 can_open os root text l at tag h t f =
     let r = fits_resolved os at tag f in
     (r.0, record { before_end = h; once = once_written tag.attributes t.once; resolves = r.1 })
 
 -- a tag that fits can be opened
-tag_opens : (start at : ℕ) (ts : List Token) (tag : Tag) (os : List Open) (root : Option Tree) (text : List ℕ) (l : Last) → StandsIn start ts os root text l → Fits ts (start_tag tag)
-    → (o : Open) × CanOpen (kept os root text l) (tag_made at tag) o
+tag_opens : (start at : ℕ) (ts : List Token) (tag : Tag) (os : List OpenElement) (root : Option Tree) (text : List ℕ) (l : Last) → StandsIn start ts os root text l → Fits ts (start_tag tag)
+    → (o : OpenElement) × CanOpen (kept os root text l) (tag_made at tag) o
 tag_opens start at ts tag [] root text l s f =
     let p = fits_outside start ts root text l (start_tag tag) s f in
     can_open [] root text l at tag (fits_before_end start ts root text l s p.0) f.token p.1
@@ -85,14 +86,14 @@ pub closed_refused : (b : Built) (e : Misfit) → then_closed b ≡ Err e → b 
 closed_refused (Err f) e h = h
 closed_refused (Ok k) e h = cc
 
-start_refused : (start at : ℕ) (ts : List Token) (tag : Tag) (os : List Open) (root : Option Tree) (text : List ℕ) (l : Last) (e : Misfit) → StandsIn start ts os root text l
+start_refused : (start at : ℕ) (ts : List Token) (tag : Tag) (os : List OpenElement) (root : Option Tree) (text : List ℕ) (l : Last) (e : Misfit) → StandsIn start ts os root text l
     → Fits ts (start_tag tag) → build (kept os root text l) (token_made at (start_tag tag)) ≡ Err e → IsDeep os (start_tag tag) e
 start_refused start at ts tag os root text l e s f h =
     let c = tag_opens start at ts tag os root text l s f in
     let r = refused (kept os root text l) (tag_made at tag) c.0 e c.1 (other_refused _ e h) in
     (r.0, refl, r.1)
 
-empty_refused : (start at : ℕ) (ts : List Token) (tag : Tag) (os : List Open) (root : Option Tree) (text : List ℕ) (l : Last) (e : Misfit) → StandsIn start ts os root text l
+empty_refused : (start at : ℕ) (ts : List Token) (tag : Tag) (os : List OpenElement) (root : Option Tree) (text : List ℕ) (l : Last) (e : Misfit) → StandsIn start ts os root text l
     → Fits ts (empty_tag tag) → build (kept os root text l) (token_made at (empty_tag tag)) ≡ Err e → IsDeep os (empty_tag tag) e
 empty_refused start at ts tag os root text l e s f h =
     let c = tag_opens start at ts tag os root text l s (start_fits ts tag f) in
@@ -111,13 +112,13 @@ never_else P false k e h f = cc
 
 -- in an element
 
-fits_inside : (start : ℕ) (ts : List Token) (t : Token) (o : Open) (os : List Open) (text : List ℕ) (l : Last) (s : StandsIn start ts (o ∷ os) None text l) → Fits ts t
+fits_inside : (start : ℕ) (ts : List Token) (t : Token) (o : OpenElement) (os : List OpenElement) (text : List ℕ) (l : Last) (s : StandsIn start ts (o ∷ os) None text l) → Fits ts t
     → FitsIn ts ((inside_open s).outer ∷ (inside_open s).inner) t
 fits_inside start ts t o os text l s f =
     let g = inside_open s in
     subst (λ gs. FitsIn ts gs t) (one_open f.open_tags (g.outer ∷ g.inner) ts f.are_open g.are_open) f.fits_in
 
-character_refused : (start at c : ℕ) (ts : List Token) (os : List Open) (root : Option Tree) (text : List ℕ) (l : Last) (e : Misfit) → StandsIn start ts os root text l
+character_refused : (start at c : ℕ) (ts : List Token) (os : List OpenElement) (root : Option Tree) (text : List ℕ) (l : Last) (e : Misfit) → StandsIn start ts os root text l
     → Fits ts (character c) → build (kept os root text l) (token_made at (character c)) ≡ Err e → IsDeep os (character c) e
 character_refused start at c ts [] root text l e s f h = never _ (is_space c) _ e (fits_outside start ts root text l (character c) s f) h
 character_refused start at c ts (o ∷ os) (Some u) text l e s f h = absurd s
@@ -126,7 +127,7 @@ character_refused start at c ts (o ∷ os) None text l e s f h =
     let p = and_parts (c == 0x3E) (is_brackets l) b in
     fits_inside start ts (character c) o os text l s f (eqb-true c 0x3E p.0) (last_brackets ts (sym (ap is_brackets s.last_of_all) ∙ p.1)))) h
 
-end_refused : (start at : ℕ) (name : QName) (space : List ℕ) (ts : List Token) (os : List Open) (root : Option Tree) (text : List ℕ) (l : Last) (e : Misfit)
+end_refused : (start at : ℕ) (name : QName) (space : List ℕ) (ts : List Token) (os : List OpenElement) (root : Option Tree) (text : List ℕ) (l : Last) (e : Misfit)
     → StandsIn start ts os root text l
     → Fits ts (end_tag name space) → build (kept os root text l) (token_made at (end_tag name space)) ≡ Err e → IsDeep os (end_tag name space) e
 end_refused start at name space ts [] root text l e s f h = absurd (fits_outside start ts root text l (end_tag name space) s f)
@@ -135,7 +136,7 @@ end_refused start at name space ts (o ∷ os) None text l e s f h =
     let p = fits_inside start ts (end_tag name space) o os text l s f in
     never _ (is_written_same o.written (name_made name)) _ e (same_written _ _ (sym (inside_open s).name ∙ sym (ap name_made p))) h
 
-pub fits_refused : (start at : ℕ) (ts : List Token) (t : Token) (os : List Open) (root : Option Tree) (text : List ℕ) (l : Last) (e : Misfit) → StandsIn start ts os root text l
+pub fits_refused : (start at : ℕ) (ts : List Token) (t : Token) (os : List OpenElement) (root : Option Tree) (text : List ℕ) (l : Last) (e : Misfit) → StandsIn start ts os root text l
     → Fits ts t → build (kept os root text l) (token_made at t) ≡ Err e → IsDeep os t e
 fits_refused start at ts (character c) os root text l e s f h = character_refused start at c ts os root text l e s f h
 fits_refused start at ts (referred r) [] root text l e s f h = absurd (fits_outside start ts root text l (referred r) s f)

@@ -1,7 +1,7 @@
 -- After tokens the open elements have one list of start tags.
 use Rattle.std.proofs.Common.{◌≡◌, false, List, [], ◌∷◌, ◌++◌, reverse, refl, sym, ap, ◌∙◌, append_assoc, append-nil}
 use Rattle.std.proofs.lemmas.List.{reverse-reverse, reverse-append}
-use Rattle.odd_reader.specs.Fitting.{is_start_or_end, IsBalanced, nothing, piece, element, AreOpen, none, more}
+use Rattle.odd_tree.specs.Fitting.{is_start_or_end, IsBalanced, nothing, piece, element, AreOpen, none, more}
 use Rattle.odd_tokens.specs.Tokens.{Tag, Token, start_tag, end_tag}
 
 abbrev without_last : List Tag → List Tag

@@ -3,19 +3,19 @@ use Rattle.std.proofs.Common.{◌≡◌, Bool, true, false, ◌&&◌, ◌==◌, 
 use Rattle.std.proofs.lemmas.Bool.{and_from, both_ways, eq-eqb}
 use Rattle.odd_reader.specs.declared.builder.Last.{Last}
 use Rattle.odd_reader.specs.declared.builder.Last.TheVariants as last
-use Rattle.odd_reader.specs.declared.builder.Open.{Open}
-use Rattle.odd_reader.specs.declared.tree.Tree.{Tree}
+use Rattle.odd_elements.specs.declared.element.OpenElement.{OpenElement}
+use Rattle.odd_tree.specs.declared.tree.Tree.{Tree}
 use Rattle.odd_reader.specs.Building.{Kept, Built, misplaced, build, is_brackets}
 use Rattle.odd_tokens.specs.Characters.{is_space}
-use Rattle.odd_reader.specs.Fitting.{is_tag, IsBalanced, AreOpen, none, Fits, FitsIn}
+use Rattle.odd_tree.specs.Fitting.{is_tag, IsBalanced, AreOpen, none, Fits, FitsIn}
 use Rattle.odd_tokens.specs.Making.{token_made}
-use Rattle.odd_reader.specs.Spelled.{IsDocument}
+use Rattle.odd_tree.specs.Spelled.{IsDocument}
 use Rattle.odd_tokens.specs.Tokens.{Tag, Token, character, referred, cdata, IsToken}
-use Rattle.odd_reader.proofs.Fits.{balanced_append}
+use Rattle.odd_tree.proofs.Fits.{balanced_append}
 use Rattle.odd_reader.proofs.StandsLevels.{Inside, StandsIn, inside_more, inside_open, element_balanced}
 use Rattle.odd_reader.proofs.StandsTexts.{no_tags_at, no_tags_from, no_tags_snoc, no_tags_balanced, brackets_last}
 
-abbrev pub kept : List Open → Option Tree → List ℕ → Last → Kept
+abbrev pub kept : List OpenElement → Option Tree → List ℕ → Last → Kept
 kept os root text l = record { open_elements = os; root = root; text = text; last = l }
 
 abbrev pub StandsOf : ℕ → List Token → Kept → Type 0
@@ -68,7 +68,7 @@ pub other_taken : (b : Bool) (k m : Kept) → (if b then misplaced else Ok k) �
 other_taken true k m e = cc
 other_taken false k m e = (refl, cc e)
 
-pub character_taken : (start at c : ℕ) (ts : List Token) (os : List Open) (root : Option Tree) (text : List ℕ) (l : Last) (m : Kept) → StandsIn start ts os root text l
+pub character_taken : (start at c : ℕ) (ts : List Token) (os : List OpenElement) (root : Option Tree) (text : List ℕ) (l : Last) (m : Kept) → StandsIn start ts os root text l
     → IsToken (character c)
     → build (kept os root text l) (token_made at (character c)) ≡ Ok m → Taken start ts (character c) m
 character_taken start at c ts [] root text l m s h e =
@@ -89,27 +89,27 @@ character_taken start at c ts (o ∷ os) None text l m s h e =
       subst (StandsOf start (ts ++ character c ∷ [])) f.1 (inside_more (character c) refl s),
     )
 
-passed_stands : (start : ℕ) (t : Token) (ts : List Token) (os : List Open) (root : Option Tree) (text : List ℕ) (l : Last) → is_tag t ≡ false
-    → ((o : Open) (os : List Open) (text : List ℕ) → Inside start o os text l ts → Inside start o os (text ++ []) last.Other (ts ++ t ∷ []))
+passed_stands : (start : ℕ) (t : Token) (ts : List Token) (os : List OpenElement) (root : Option Tree) (text : List ℕ) (l : Last) → is_tag t ≡ false
+    → ((o : OpenElement) (os : List OpenElement) (text : List ℕ) → Inside start o os text l ts → Inside start o os (text ++ []) last.Other (ts ++ t ∷ []))
     → StandsIn start ts os root text l → StandsIn start (ts ++ t ∷ []) os root text last.Other
 passed_stands start t ts [] root text l h more s = outer_more start ts root text l last.Other t h s
 passed_stands start t ts (o ∷ os) (Some u) text l h more s = absurd s
 passed_stands start t ts (o ∷ os) None text l h more s = subst (λ x. Inside start o os x last.Other (ts ++ t ∷ [])) (append-nil text) (more o os text s)
 
 -- a comment or an instruction
-pub passed_taken : (start : ℕ) (t : Token) (ts : List Token) (os : List Open) (root : Option Tree) (text : List ℕ) (l : Last) (m : Kept) → StandsIn start ts os root text l
+pub passed_taken : (start : ℕ) (t : Token) (ts : List Token) (os : List OpenElement) (root : Option Tree) (text : List ℕ) (l : Last) (m : Kept) → StandsIn start ts os root text l
     → is_tag t ≡ false → IsToken t → FitsIn ts [] t → ((g : Tag) (gs : List Tag) → FitsIn ts (g ∷ gs) t)
-    → ((o : Open) (os : List Open) (text : List ℕ) → Inside start o os text l ts → Inside start o os (text ++ []) last.Other (ts ++ t ∷ []))
+    → ((o : OpenElement) (os : List OpenElement) (text : List ℕ) → Inside start o os text l ts → Inside start o os (text ++ []) last.Other (ts ++ t ∷ []))
     → kept os root text last.Other ≡ m → Taken start ts t m
 passed_taken start t ts os root text l m s plain h out within more f =
     (fits os root s, subst (StandsOf start (ts ++ t ∷ [])) f (passed_stands start t ts os root text l plain more s))
   where
-    fits : (os : List Open) (root : Option Tree) → StandsIn start ts os root text l → Fits ts t
+    fits : (os : List OpenElement) (root : Option Tree) → StandsIn start ts os root text l → Fits ts t
     fits [] root s = record { token = h; open_tags = []; are_open = outer_open start ts root text l s; fits_in = out }
     fits (o ∷ os) (Some u) s = absurd s
     fits (o ∷ os) None s = let g = inside_open s in record { token = h; open_tags = g.outer ∷ g.inner; are_open = g.are_open; fits_in = within g.outer g.inner }
 
-pub referred_taken : (start at : ℕ) (r : _) (ts : List Token) (os : List Open) (root : Option Tree) (text : List ℕ) (l : Last) (m : Kept) → StandsIn start ts os root text l
+pub referred_taken : (start at : ℕ) (r : _) (ts : List Token) (os : List OpenElement) (root : Option Tree) (text : List ℕ) (l : Last) (m : Kept) → StandsIn start ts os root text l
     → IsToken (referred r) → build (kept os root text l) (token_made at (referred r)) ≡ Ok m → Taken start ts (referred r) m
 referred_taken start at r ts [] root text l m s h e = cc
 referred_taken start at r ts (o ∷ os) (Some u) text l m s h e = absurd s
@@ -119,7 +119,7 @@ referred_taken start at r ts (o ∷ os) None text l m s h e =
       subst (StandsOf start (ts ++ referred r ∷ [])) (same_ok _ m e) (inside_more (referred r) refl s),
     )
 
-pub cdata_taken : (start at : ℕ) (body : List ℕ) (ts : List Token) (os : List Open) (root : Option Tree) (text : List ℕ) (l : Last) (m : Kept) → StandsIn start ts os root text l
+pub cdata_taken : (start at : ℕ) (body : List ℕ) (ts : List Token) (os : List OpenElement) (root : Option Tree) (text : List ℕ) (l : Last) (m : Kept) → StandsIn start ts os root text l
     → IsToken (cdata body) → build (kept os root text l) (token_made at (cdata body)) ≡ Ok m → Taken start ts (cdata body) m
 cdata_taken start at body ts [] root text l m s h e = cc
 cdata_taken start at body ts (o ∷ os) (Some u) text l m s h e = absurd s

@@ -2,18 +2,19 @@
 use Rattle.std.proofs.Common.{◌≡◌, false, ℕ, ◌+◌, List, [], ◌∷◌, ◌++◌, Option, Some, None, Ok, Err, refl, sym, ap, ◌∙◌, append_assoc, append-nil, subst}
 use Rattle.odd_reader.specs.declared.builder.Last.{Last}
 use Rattle.odd_reader.specs.declared.builder.Last.TheVariants as last
-use Rattle.odd_reader.specs.declared.builder.Open.{Open}
-use Rattle.odd_reader.specs.declared.tree.Node.{Node, Element}
-use Rattle.odd_reader.specs.declared.tree.Tree.{Tree}
-use Rattle.odd_reader.specs.Building.{Kept, Built, build, around, tree_of, with_children, is_written_same, element_opened, element_closed, then_other}
-use Rattle.odd_reader.specs.Fitting.{none, innermost, Fits}
+use Rattle.odd_elements.specs.declared.element.OpenElement.{OpenElement}
+use Rattle.odd_tree.specs.declared.tree.Node.{Node, Element}
+use Rattle.odd_tree.specs.declared.tree.Tree.{Tree}
+use Rattle.odd_elements.specs.Resolving.{around, tree_of, with_children, is_written_same}
+use Rattle.odd_reader.specs.Building.{Kept, Built, build, element_opened, element_closed, then_other}
+use Rattle.odd_tree.specs.Fitting.{none, innermost, Fits}
 use Rattle.odd_tokens.specs.Making.{name_made, tag_made, token_made}
-use Rattle.odd_reader.specs.Names.{NamesFit}
+use Rattle.odd_tree.specs.Names.{NamesFit}
 use Rattle.odd_tokens.specs.Tokens.{QName, Tag, Token, start_tag, empty_tag, end_tag, IsToken, IsTag}
-use Rattle.odd_reader.specs.Trees.{IsElement, empty}
+use Rattle.odd_tree.specs.Trees.{IsElement, empty}
 use Rattle.odd_tokens.proofs.Lexes.{IsLexedTag}
-use Rattle.odd_reader.proofs.PrintedTrees.{text_nodes}
-use Rattle.odd_reader.proofs.Sizes.{size}
+use Rattle.odd_tree.proofs.PrintedTrees.{text_nodes}
+use Rattle.odd_tree.proofs.Sizes.{size}
 use Rattle.odd_reader.proofs.StandsDistinct.{one_made, written_same, written_once}
 use Rattle.odd_reader.proofs.StandsLevels.{Under, outside, StandsIn, inside_under, under_opened, under_closed, inside_element, inside_open}
 use Rattle.odd_reader.proofs.StandsOpening.{is_root_closed, is_twice, CanOpen, with_open, opens, then_closed}
@@ -26,7 +27,7 @@ use Rattle.odd_reader.proofs.StandsTexts.{no_tags_balanced, no_tags_no_element, 
 tag_is_tag : (at : ℕ) (tag : Tag) → IsLexedTag tag → is_twice (tag_made at tag) ≡ false → IsTag tag
 tag_is_tag at tag h e = record { named = h.named; attributed = h.attributed; once = written_once tag.attributes h.attributed e; ended = h.ended }
 
-pub tag_fits : (start at : ℕ) (tag : Tag) (ts : List Token) (os : List Open) (root : Option Tree) (text : List ℕ) (l : Last) (o : Open) → StandsIn start ts os root text l
+pub tag_fits : (start at : ℕ) (tag : Tag) (ts : List Token) (os : List OpenElement) (root : Option Tree) (text : List ℕ) (l : Last) (o : OpenElement) → StandsIn start ts os root text l
     → IsLexedTag tag
     → CanOpen (kept os root text l) (tag_made at tag) o → Fits ts (start_tag tag) × Fits ts (empty_tag tag)
 tag_fits start at tag ts [] None text l o s h c =
@@ -47,28 +48,28 @@ tag_fits start at tag ts (p ∷ os) None text l o s h c =
 
 -- where it opens
 
-abbrev outer : List Open → List ℕ → List Open
+abbrev outer : List OpenElement → List ℕ → List OpenElement
 outer os text = with_children (text_nodes text) os
 
-around_same : (nodes : List Node) (os : List Open) → around (with_children nodes os) ≡ around os
+around_same : (nodes : List Node) (os : List OpenElement) → around (with_children nodes os) ≡ around os
 around_same nodes [] = refl
 around_same nodes (o ∷ os) = refl
 
-no_root : (start : ℕ) (ts : List Token) (os : List Open) (root : Option Tree) (text : List ℕ) (l : Last) → StandsIn start ts os root text l → is_root_closed os root ≡ false
+no_root : (start : ℕ) (ts : List Token) (os : List OpenElement) (root : Option Tree) (text : List ℕ) (l : Last) → StandsIn start ts os root text l → is_root_closed os root ≡ false
     → root ≡ None
 no_root start ts [] None text l s h = refl
 no_root start ts [] (Some u) text l s h = cc h
 no_root start ts (o ∷ os) None text l s h = refl
 no_root start ts (o ∷ os) (Some u) text l s h = absurd s
 
-opens_under : (start : ℕ) (ts : List Token) (os : List Open) (root : Option Tree) (text : List ℕ) (l : Last) → StandsIn start ts os root text l → is_root_closed os root ≡ false
+opens_under : (start : ℕ) (ts : List Token) (os : List OpenElement) (root : Option Tree) (text : List ℕ) (l : Last) → StandsIn start ts os root text l → is_root_closed os root ≡ false
     → Under start (outer os text) ts
 opens_under start ts [] None text l s h = outside s.0
 opens_under start ts [] (Some u) text l s h = cc h
 opens_under start ts (o ∷ os) None text l s h = inside_under s
 opens_under start ts (o ∷ os) (Some u) text l s h = absurd s
 
-opens_element : (start : ℕ) (tag : Tag) (ts : List Token) (os : List Open) (root : Option Tree) (text : List ℕ) (l : Last) (o : Open)
+opens_element : (start : ℕ) (tag : Tag) (ts : List Token) (os : List OpenElement) (root : Option Tree) (text : List ℕ) (l : Last) (o : OpenElement)
     → CanOpen (kept os root text l) (tag_made (start + size ts) tag) o → IsOpen (around (outer os text)) (start + size ts) tag o
 opens_element start tag ts os root text l o c =
     subst (λ b. IsOpen b (start + size ts) tag o) (sym (around_same (text_nodes text) os)) (resolved_fits os (start + size ts) tag o c.resolves).is_open
@@ -82,7 +83,7 @@ pub other_after : (b : Built) (m : Kept) → then_other b ≡ Ok m → (k : Kept
 other_after (Err e) m h = cc
 other_after (Ok k) m h = (k, refl, cc h)
 
-pub start_taken : (start : ℕ) (tag : Tag) (ts : List Token) (os : List Open) (root : Option Tree) (text : List ℕ) (l : Last) (m : Kept) → StandsIn start ts os root text l
+pub start_taken : (start : ℕ) (tag : Tag) (ts : List Token) (os : List OpenElement) (root : Option Tree) (text : List ℕ) (l : Last) (m : Kept) → StandsIn start ts os root text l
     → IsLexedTag tag
     → build (kept os root text l) (token_made (start + size ts) (start_tag tag)) ≡ Ok m → Taken start ts (start_tag tag) m
 start_taken start tag ts os root text l m s h e =
@@ -100,12 +101,12 @@ start_taken start tag ts os root text l m s h e =
 
 -- an element ends
 
-abbrev closed_in : List Open → Kept → Kept
+abbrev closed_in : List OpenElement → Kept → Kept
 closed_in [] k = k
 closed_in (o ∷ []) k = record k { open_elements = []; root = Some (tree_of o) }
 closed_in (o ∷ parent ∷ os) k = record k { open_elements = with_children (Element (tree_of o) ∷ []) (parent ∷ os) }
 
-closing : (start : ℕ) (os : List Open) (l : Last) (before es ts : List Token) (o : Open) → Under start os before → IsElement (around os) (start + size before) es (tree_of o)
+closing : (start : ℕ) (os : List OpenElement) (l : Last) (before es ts : List Token) (o : OpenElement) → Under start os before → IsElement (around os) (start + size before) es (tree_of o)
     → ts ≡ before ++ es → last_from last.Other ts ≡ last.Other → StandsOf start ts (record (closed_in (o ∷ os) (kept (o ∷ os) None [] l)) { last = last.Other })
 closing start [] l before es ts o u d e f = under_closed start [] before es ts (tree_of o) u d e f
 closing start (p ∷ os) l before es ts o u d e f = under_closed start (p ∷ os) before es ts (tree_of o) u d e f
@@ -116,7 +117,7 @@ pub closed_after : (b : Built) (m : Kept) → then_closed b ≡ Ok m → (k : Ke
 closed_after (Err e) m h = cc
 closed_after (Ok k) m h = (k, refl, cc h)
 
-pub empty_taken : (start : ℕ) (tag : Tag) (ts : List Token) (os : List Open) (root : Option Tree) (text : List ℕ) (l : Last) (m : Kept) → StandsIn start ts os root text l
+pub empty_taken : (start : ℕ) (tag : Tag) (ts : List Token) (os : List OpenElement) (root : Option Tree) (text : List ℕ) (l : Last) (m : Kept) → StandsIn start ts os root text l
     → IsLexedTag tag
     → build (kept os root text l) (token_made (start + size ts) (empty_tag tag)) ≡ Ok m → Taken start ts (empty_tag tag) m
 empty_taken start tag ts os root text l m s h e =
@@ -126,7 +127,7 @@ empty_taken start tag ts os root text l m s h e =
     let c = closed_after (element_opened k made) f.0 f.1 in
     let g = opens k c.0 made c.1 in
     let o = g.0 in
-    let whole : Open = record o { children = o.children ++ [] } in
+    let whole : OpenElement = record o { children = o.children ++ [] } in
     let d : IsElement (around (outer os text)) (start + size ts) (empty_tag tag ∷ []) (tree_of whole) =
     empty (has_tag (still_open (o.children ++ []) (opens_element start tag ts os root text l o g.1))) (append-nil o.children ∙ (resolved_fits os (start + size ts) tag o g.1.resolves).fresh) in
     let stands : StandsOf start (ts ++ empty_tag tag ∷ []) (record (closed_in (whole ∷ outer os text) (kept (whole ∷ outer os text) None [] l)) { last = last.Other }) =
@@ -140,7 +141,7 @@ empty_taken start tag ts os root text l m s h e =
 
 -- an end tag
 
-pub end_taken : (start at : ℕ) (name : QName) (space : List ℕ) (ts : List Token) (os : List Open) (root : Option Tree) (text : List ℕ) (l : Last) (m : Kept)
+pub end_taken : (start at : ℕ) (name : QName) (space : List ℕ) (ts : List Token) (os : List OpenElement) (root : Option Tree) (text : List ℕ) (l : Last) (m : Kept)
     → StandsIn start ts os root text l
     → IsToken (end_tag name space) → build (kept os root text l) (token_made at (end_tag name space)) ≡ Ok m → Taken start ts (end_tag name space) m
 end_taken start at name space ts [] root text l m s h e = cc
@@ -150,7 +151,7 @@ end_taken start at name space ts (o ∷ os) None text l m s h e =
     let f = then_taken (is_written_same o.written (name_made name)) _ m e in
     let g = inside_open s in
     let same : name ≡ (innermost g.outer g.inner).name = one_made _ _ (sym (g.name ∙ written_same o.written (name_made name) f.0)) in
-    let whole : Open = record o { children = o.children ++ text_nodes text } in
+    let whole : OpenElement = record o { children = o.children ++ text_nodes text } in
     let parts : ts ++ t ∷ [] ≡ s.before ++ (start_tag s.tag ∷ ((s.done ++ s.run) ++ t ∷ [])) =
     ap (λ x. x ++ t ∷ []) s.parts ∙ append_assoc s.before (start_tag s.tag ∷ (s.done ++ s.run)) (t ∷ []) in
     let stands = closing start os l s.before (start_tag s.tag ∷ ((s.done ++ s.run) ++ t ∷ [])) (ts ++ t ∷ []) whole s.under (inside_element name space s) parts (last_snoc last.Other ts t) in

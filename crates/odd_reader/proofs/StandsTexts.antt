@@ -7,10 +7,10 @@ use Rattle.std.proofs.lemmas.Str.{encodes-append}
 use Rattle.odd_reader.specs.declared.builder.Last.{Last}
 use Rattle.odd_reader.specs.declared.builder.Last.TheVariants as last
 use Rattle.odd_reader.specs.Building.{character_text, last_after, is_return, is_bracket, is_brackets}
-use Rattle.odd_reader.specs.Fitting.{is_tag, is_start_or_end, is_start_or_empty, IsBalanced, nothing, piece}
+use Rattle.odd_tree.specs.Fitting.{is_tag, is_start_or_end, is_start_or_empty, IsBalanced, nothing, piece}
 use Rattle.odd_tokens.specs.Tokens.{Token, character, referred, cdata, comment, instruction, start_tag, empty_tag, end_tag, character_of}
 use Rattle.odd_tokens.specs.Lines.{lines_read}
-use Rattle.odd_reader.specs.Trees.{token_read}
+use Rattle.odd_tree.specs.Trees.{token_read}
 use Rattle.odd_tokens.proofs.Ascii.{ascii_codes}
 
 -- no tag is among the tokens

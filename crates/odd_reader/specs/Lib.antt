@@ -1,12 +1,2 @@
 pub mod Building
-pub mod Elements
-pub mod Escaping
-pub mod Fitting
-pub mod Formed
-pub mod Markup
-pub mod Names
 pub mod Reading
-pub mod Significant
-pub mod Spelled
-pub mod Splits
-pub mod Trees

@@ -1,74 +1,17 @@
-ghost use Rattle.std.specs.Prelude.{◌≡◌, ◌++◌, ◌∷◌, [], None, Some, Ok, IfOk, OnOk, MatchResult, length, nat_le, codes, encode_utf8, string_bytes, ◌||◌, not, if◌then◌else◌, map, reverse, unwrap_or};
-ghost use Rattle.std.specs.List.{list_all};
-ghost use Rattle.std.specs.Option.{option_copied};
-ghost use Rattle.odd_reader.specs.Building.{Follows, Gives, around, attribute_named, attributes_named, begun, binds_made, build, character as a_character, character_text as text_of_character, element_closed, element_named, element_opened, ends_innermost as ends_the_innermost, inside as an_inside, is_nothing, is_root_closed as has_closed_root, is_same_name, is_written_same, kept_of, last_after as what_is_last_after, may_bind as can_bind, plain_made, prefix_declared, resolved as an_open, some_twice, text_ended, then_closed, then_other, tree_of as the_tree_of, with_children};
-ghost use Rattle.odd_tokens.specs.Same.{is_same};
-ghost use Rattle.odd_reader.specs.Names.{in_force, last_bound, xml_namespace};
-ghost use Rattle.odd_reader.specs.Spelled.{deepest};
+ghost use Rattle.std.specs.Prelude.{◌≡◌, ◌++◌, None, Some, Ok, IfOk, OnOk, length, nat_le, encode_utf8, string_bytes};
+ghost use Rattle.odd_reader.specs.Building.{Follows, begun, build, character as a_character, character_text as text_of_character, element_closed, element_opened, ends_innermost as ends_the_innermost, inside as an_inside, is_root_closed as has_closed_root, kept_of, last_after as what_is_last_after, text_ended, then_closed, then_other};
+ghost use Rattle.odd_tree.specs.Spelled.{deepest};
 
-use crate::bindings::Bindings;
-use crate::tree::{Attr, Attrs, Node, Nodes, Tree};
-use crate::xml::{XML, XmlNamespace};
-use odd_base::{Bind, Name, NoMemory, Scope, Text, TryCopy};
-use odd_tokens::{TextTable, Token, WrittenAttr, WrittenAttrs, WrittenName, WrittenTag, is_space};
-use std::alloc::{AllocError, AllocFailed, Global};
-
-/// The namespace to which nothing is bound.
-pub const XMLNS: &str = "http://www.w3.org/2000/xmlns/";
+use odd_base::{NoMemory, Text};
+use odd_elements::{
+    Around, Misfit, OpenElement, XmlNamespace, add_child, is_written_twice, tree_of,
+};
+use odd_tokens::{TextTable, Token, WrittenName, WrittenTag, is_space};
+use odd_tree::{Node, Tree};
+use std::alloc::{AllocError, Global};
 
 /// How many levels of elements a file may have.
 pub const LEVELS: usize = 200;
-
-/// Why a token does not fit after those before it.
-#[derive(Clone, Copy, Debug, PartialEq, Eq)]
-pub enum Misfit {
-    Misplaced,
-    /// It opens one level too many.
-    TooDeep,
-    NoMemory,
-}
-
-impl From<NoMemory> for Misfit {
-    ghost use Rattle.odd_reader.specs.declared.builder.Misfit.TheVariants as misfit;
-
-    ghost from_gives = { λ _ error. error ≡ misfit.NoMemory };
-
-    fn from(_error: NoMemory) -> Misfit {
-        Misfit::NoMemory
-    }
-}
-
-impl From<AllocError> for Misfit {
-    ghost use Rattle.odd_reader.specs.declared.builder.Misfit.TheVariants as misfit;
-
-    ghost from_gives = { λ _ error. error ≡ misfit.NoMemory };
-
-    fn from(_error: AllocError) -> Misfit {
-        Misfit::NoMemory
-    }
-}
-
-impl<T: Drop> From<AllocFailed<T>> for Misfit {
-    ghost use Rattle.odd_reader.specs.declared.builder.Misfit.TheVariants as misfit;
-
-    ghost from_gives = { λ _ error. error ≡ misfit.NoMemory };
-
-    fn from(failed: AllocFailed<T>) -> Misfit {
-        let AllocFailed { value: _ } = failed;
-        Misfit::NoMemory
-    }
-}
-
-// An open element with its children so far.
-#[derive(Drop)]
-struct Open {
-    written: WrittenName,
-    name: Name,
-    attrs: Attrs,
-    binds: Bindings,
-    children: Nodes,
-    at: u64,
-}
 
 // What stands last, as itself.
 #[derive(Clone, Copy, Debug, PartialEq, Eq)]
@@ -84,7 +27,7 @@ enum Last {
 pub struct Builder {
     alloc: Global,
     // the open elements, the outermost first
-    open: Vec<Open>,
+    open: Vec<OpenElement>,
     root: Option<Tree>,
     // the text that is not finished, in a buffer that is used again
     text: String,
@@ -259,7 +202,12 @@ impl Builder {
         if is_written_twice(self.alloc, &tag.attrs)? {
             return Err(Misfit::Misplaced);
         }
-        let element = self.resolved(tag)?;
+        let around = Around {
+            alloc: self.alloc,
+            open: self.open.as_slice(),
+            xml: &self.xml,
+        };
+        let element = around.opened(tag)?;
         if self.is_deepest() {
             return Err(Misfit::TooDeep);
         }
@@ -279,117 +227,6 @@ impl Builder {
         ensures { result ≡ nat_le deepest (length (kept_of self.now).open_elements) }
     {
         self.open.len() >= LEVELS
-    }
-
-    // The element of a tag, with its names resolved by the bindings in force.
-    fn resolved(&self, tag: WrittenTag) -> Result<Open, Misfit>
-        ensures { Gives (an_open (kept_of self.now).open_elements tag) result }
-    {
-        let WrittenTag {
-            at,
-            name: written,
-            attrs,
-        } = tag;
-        let (binds, plain) = declarations(self.alloc, attrs)?;
-        if !may_all_bind(&binds) {
-            return Err(Misfit::Misplaced);
-        }
-        let binds = Bindings::new(self.alloc, binds)?;
-        let name = self.element_name(&binds, &written)?;
-        let attrs = self.attributes(&binds, plain)?;
-        if is_named_twice(self.alloc, &attrs)? {
-            return Err(Misfit::Misplaced);
-        }
-        Ok(Open {
-            written,
-            name,
-            attrs,
-            binds,
-            children: Nodes::new(self.alloc),
-            at,
-        })
-    }
-
-    // The namespace to which a prefix is bound in a tag with these declarations of its own.
-    fn bound<'a>(&'a self, own: &'a Bindings, prefix: &Text) -> Option<&'a Text>
-        ensures { option_copied result ≡ last_bound (around (kept_of self.now).open_elements ++ own.now) prefix.now }
-    {
-        match own.find(prefix) {
-            Some(ns) => Some(ns),
-            None => self.bound_around(prefix),
-        }
-    }
-
-    // The namespace to which a prefix is bound by the open elements.
-    fn bound_around(&self, prefix: &Text) -> Option<&Text>
-        ensures { option_copied result ≡ last_bound (around (kept_of self.now).open_elements) prefix.now }
-    {
-        for element in self.open.iter().rev() {
-            if let Some(ns) = element.binds.find(prefix) {
-                return Some(ns);
-            }
-        }
-        None
-    }
-
-    // The namespace of a prefix that is not empty.
-    fn namespace(&self, own: &Bindings, prefix: &Text) -> Result<Text, Misfit>
-        ensures { Gives (in_force (around (kept_of self.now).open_elements ++ own.now) prefix.now) result }
-    {
-        if prefix.as_str() == "xml" {
-            return Ok(self.xml.share(self.alloc)?);
-        }
-        match self.bound(own, prefix) {
-            Some(ns) => Ok(ns.copy(self.alloc)?),
-            None => Err(Misfit::Misplaced),
-        }
-    }
-
-    // The default namespace, which is empty where there is none.
-    fn default_namespace(&self, own: &Bindings) -> Result<Text, NoMemory>
-        ensures { IfOk result (λ ns. ns ≡ unwrap_or (last_bound (around (kept_of self.now).open_elements ++ own.now) []) []) }
-    {
-        match self.bound(own, &Text::new(self.alloc)) {
-            Some(ns) => ns.copy(self.alloc),
-            None => Ok(Text::new(self.alloc)),
-        }
-    }
-
-    fn element_name(&self, own: &Bindings, written: &WrittenName) -> Result<Name, Misfit>
-        ensures { Gives (element_named (around (kept_of self.now).open_elements ++ own.now) written.now) result }
-    {
-        let ns = if written.prefix.as_str().is_empty() {
-            self.default_namespace(own)?
-        } else {
-            self.namespace(own, &written.prefix)?
-        };
-        let local = written.local.copy(self.alloc)?;
-        Ok(Name { ns, local })
-    }
-
-    fn attribute_name(&self, own: &Bindings, written: WrittenName) -> Result<Name, Misfit>
-        ensures { Gives (attribute_named (around (kept_of self.now).open_elements ++ own.now) written) result }
-    {
-        let WrittenName { prefix, local } = written;
-        let ns = if prefix.as_str().is_empty() {
-            prefix
-        } else {
-            self.namespace(own, &prefix)?
-        };
-        Ok(Name { ns, local })
-    }
-
-    fn attributes(&self, own: &Bindings, plain: Vec<WrittenAttr>) -> Result<Attrs, Misfit>
-        ensures { Gives (attributes_named (around (kept_of self.now).open_elements ++ own.now) plain.items) result }
-    {
-        let mut attrs = Attrs::new(self.alloc);
-        for attr in plain {
-            let WrittenAttr { name, value } = attr;
-            let name = self.attribute_name(own, name)?;
-            attrs.push(Attr { name, value })?;
-        }
-        attrs.fit();
-        Ok(attrs)
     }
 
     // The innermost open element is a child of the one around it, or the root.
@@ -430,139 +267,4 @@ fn last_after(last: Last, c: char) -> Last
         (']', _) => Last::Bracket,
         _ => Last::Other,
     }
-}
-
-// An element that is closed.
-fn tree_of(element: Open) -> Tree
-    ensures { result ≡ the_tree_of element }
-{
-    let Open {
-        written: _,
-        name,
-        attrs,
-        binds,
-        mut children,
-        at,
-    } = element;
-    children.fit();
-    Tree {
-        name,
-        attrs,
-        binds: binds.into_scope(),
-        children,
-        at,
-    }
-}
-
-// Puts a node among the children of the innermost of the open elements.
-fn add_child(elements: &mut Vec<Open>, node: Node) -> Result<(), NoMemory>
-    ensures { OnOk result (reverse elements.new.items ≡ with_children (node ∷ []) (reverse elements.old.items)) }
-{
-    match elements.last_mut() {
-        Some(parent) => parent.children.push(node),
-        None => Ok(()),
-    }
-}
-
-// What an attribute declares, the prefix empty for the default namespace, or the attribute itself.
-fn declaration(attr: WrittenAttr) -> Result<Bind, WrittenAttr>
-    ensures { MatchResult result (λ b. (prefix_declared attr.name ≡ Some b.prefix) × (b.ns ≡ attr.value)) (λ a. (prefix_declared attr.name ≡ None) × (a ≡ attr)) }
-{
-    let WrittenAttr { name, value } = attr;
-    let WrittenName { prefix, local } = name;
-    if prefix.as_str() == "xmlns" {
-        return Ok(Bind {
-            prefix: local,
-            ns: value,
-        });
-    }
-    if prefix.as_str().is_empty() && local.as_str() == "xmlns" {
-        return Ok(Bind { prefix, ns: value });
-    }
-    Err(WrittenAttr {
-        name: WrittenName { prefix, local },
-        value,
-    })
-}
-
-// Parts the declarations from the other attributes.
-fn declarations(alloc: Global, attrs: WrittenAttrs) -> Result<(Scope, Vec<WrittenAttr>), NoMemory>
-    ensures { IfOk result (λ parts. (parts.0 ≡ binds_made attrs) × (parts.1.items ≡ plain_made attrs)) }
-{
-    let mut binds = Scope::new(alloc);
-    let mut plain = Vec::new(alloc);
-    for attr in attrs.into_items() {
-        match declaration(attr) {
-            Ok(bind) => binds.push(bind)?,
-            Err(attr) => plain.push(attr)?,
-        }
-    }
-    binds.fit();
-    Ok((binds, plain))
-}
-
-// Whether each of the declarations may be made.
-fn may_all_bind(binds: &Scope) -> bool
-    ensures { result ≡ list_all can_bind binds.now }
-{
-    binds.as_slice().iter().all(may_bind)
-}
-
-// Namespaces in XML 1.0, section 3: what may be bound.
-fn may_bind(bind: &Bind) -> bool
-    ensures { result ≡ can_bind bind.now }
-{
-    let prefix = bind.prefix.as_str();
-    let ns = bind.ns.as_str();
-    keeps_xml(prefix, ns) && prefix != "xmlns" && ns != XMLNS && is_bound(prefix, ns)
-}
-
-// Whether the prefix xml is bound to its own namespace, or neither is there.
-fn keeps_xml(prefix: &str, ns: &str) -> bool
-    ensures { result ≡ (if is_same prefix.now (codes "xml") then is_same ns.now xml_namespace else not (is_same ns.now xml_namespace)) }
-{
-    (prefix == "xml") == (ns == XML)
-}
-
-// Only the default namespace may be none.
-fn is_bound(prefix: &str, ns: &str) -> bool
-    ensures { result ≡ (is_nothing prefix.now || not (is_nothing ns.now)) }
-{
-    prefix.is_empty() || !ns.is_empty()
-}
-
-// Whether two attributes or declarations have one name as it is written.
-fn is_written_twice(alloc: Global, attrs: &WrittenAttrs) -> Result<bool, NoMemory>
-    ensures { IfOk result (λ twice. twice ≡ some_twice is_written_same (map (λ a. a.name) attrs.now)) }
-{
-    let mut names = Vec::new(alloc);
-    for attr in attrs.as_slice() {
-        names.push((&attr.name.prefix, &attr.name.local))?;
-    }
-    Ok(has_twice(names))
-}
-
-// Whether two attributes have one expanded name.
-fn is_named_twice(alloc: Global, attrs: &Attrs) -> Result<bool, NoMemory>
-    ensures { IfOk result (λ twice. twice ≡ some_twice is_same_name (map (λ a. a.name) attrs.now)) }
-{
-    let mut names = Vec::new(alloc);
-    for attr in attrs.as_slice() {
-        names.push((&attr.name.ns, &attr.name.local))?;
-    }
-    Ok(has_twice(names))
-}
-
-// Whether two items are equal.
-fn has_twice<T: Ord + Drop>(mut items: Vec<T>) -> bool
-    ensures { result ≡ some_twice T.eq items.items }
-{
-    items.sort_unstable();
-    // equal items are neighbours in this order
-    for at in 1..items.len() {
-        if items[at - 1] == items[at] {
-            return true;
-        }
-    }
-    false
 }

@@ -1,14 +1,15 @@
 ghost use Rattle.std.specs.Prelude.{◌≡◌, ◌∷◌, ◌++◌, length, ℕ, List, [], IfOk, IfErr, OnOk};
 ghost use Rattle.std.specs.Str.{encode_utf8_all};
 ghost use Rattle.odd_tokens.specs.Tokens.{size_of};
-ghost use Rattle.odd_reader.specs.Formed.{IsFormed};
+ghost use Rattle.odd_tree.specs.Formed.{IsFormed};
 ghost use Rattle.odd_reader.specs.Reading.{HasRead, IsLongestFront, place_of, refusal_of_fault, refusal_of_misfit};
-ghost use Rattle.odd_reader.specs.Spelled.{DepthPlace, GivesTree, IsNotXml};
+ghost use Rattle.odd_tree.specs.Spelled.{DepthPlace, GivesTree, IsNotXml};
 
-use crate::builder::{Builder, Misfit};
-use crate::tree::Tree;
+use crate::builder::Builder;
 use odd_base::NoMemory;
+use odd_elements::Misfit;
 use odd_tokens::{Fault, Lexer};
+use odd_tree::Tree;
 use std::alloc::Global;
 use std::str;
 

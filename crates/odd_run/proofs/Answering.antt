@@ -1,8 +1,8 @@
 -- What words come to, from the files that they name and the chain of these.
 use Rattle.std.proofs.Common.{◌≡◌, ◌≤◌, ◌-◌, ℕ, Bool, List, [], length, Option, Some, Result, Ok, Err, inl, inr, refl, ap, sym, subst, ◌∙◌, arith}
 use Rattle.std.specs.Prelude.{IfErr, IfOk, OnOk}
-use Rattle.odd_base.specs.Shelf.{FileMap}
-use Rattle.odd_reader.specs.declared.tree.Tree.{Tree}
+use Rattle.odd_outside.specs.Shelf.{FileMap}
+use Rattle.odd_tree.specs.declared.tree.Tree.{Tree}
 use Rattle.odd_chain.specs.Reading.{HasFewDocs, IsChainOf}
 use Rattle.odd_chain.specs.declared.chain.Chain.{Chain}
 use Rattle.odd_chain.proofs.OneChain.{few_docs}

@@ -1,16 +1,16 @@
 -- The declarations around what the search finds in a formed element are of XML's characters.
 use Rattle.std.proofs.Common.{Bool, true, false, List, [], ◌∷◌, if◌then◌else◌, codes, ⊎_elim, sym, subst}
 use Rattle.odd_base.specs.declared.name.Bind.{Bind}
-use Rattle.odd_reader.specs.Elements.{StandsIn}
-use Rattle.odd_reader.specs.declared.tree.Tree.{Tree}
+use Rattle.odd_tree.specs.Elements.{StandsIn}
+use Rattle.odd_tree.specs.declared.tree.Tree.{Tree}
 use Rattle.odd_reader.proofs.FormedBindings.{BindLegally}
-use Rattle.odd_reader.proofs.InList.{first_or_later, nothing_stands, stands_first, stands_later}
+use Rattle.odd_tree.proofs.InList.{first_or_later, nothing_stands, stands_first, stands_later}
 use Rattle.odd_forms.specs.Names.{is_one_of}
-use Rattle.odd_docs.specs.Search as search
-use Rattle.odd_docs.specs.Search.{Finds, FindsAmong, Found}
+use Rattle.odd_items.specs.Search as search
+use Rattle.odd_items.specs.Search.{Finds, FindsAmong, Found}
 use Rattle.odd_docs.proofs.FoundFormed.{IsFormedSomewhere}
 use Rattle.odd_run.proofs.GivenLegal.{child_formed, within_legal}
-use Rattle.compile_defines.proofs.Standing.{stands_either}
+use Rattle.compile_contents.proofs.Standing.{stands_either}
 
 -- an element that is found itself has the declarations around it
 own_around : (around : List Bind) (t : Tree) (f : Found) → StandsIn (search.own around t) f → BindLegally around → BindLegally f.around

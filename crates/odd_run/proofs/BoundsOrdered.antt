@@ -6,10 +6,10 @@ use Rattle.std.proofs.lemmas.Bool.{cases_Bool, false≢true}
 use Rattle.std.proofs.lemmas.List.Elements.{All-nil, All-cons, All-head, All-tail}
 use Rattle.odd_base.specs.declared.name.Bind.{Bind}
 use Rattle.odd_tokens.specs.Same.{is_same}
-use Rattle.odd_reader.specs.Elements.{StandsIn, given, within}
-use Rattle.odd_reader.specs.declared.tree.Tree.{Tree}
-use Rattle.odd_reader.proofs.InList.{stands_first, stands_later}
-use Rattle.odd_reader.proofs.StandsNames.{same_from}
+use Rattle.odd_tree.specs.Elements.{StandsIn, given, within}
+use Rattle.odd_tree.specs.declared.tree.Tree.{Tree}
+use Rattle.odd_tree.proofs.InList.{stands_first, stands_later}
+use Rattle.odd_tree.proofs.SameTexts.{same_from}
 use Rattle.odd_forms.specs.Faults.{AttributeFault, DemandFault, FormFault, OwnFault, ValueFault}
 use Rattle.odd_forms.specs.Form.{are_digits, number_told}
 use Rattle.odd_forms.specs.Table.{form_at, bounds, max, min}

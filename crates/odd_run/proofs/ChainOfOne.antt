@@ -2,16 +2,16 @@
 use Rattle.std.proofs.Common.{◌≡◌, ℕ, List, [], ◌∷◌, ◌++◌, refl, sym, subst, inr}
 use Rattle.odd_base.specs.declared.key.Key.{Key}
 use Rattle.odd_base.specs.declared.offence.Offence.{Offence}
-use Rattle.odd_reader.specs.declared.tree.Tree.{Tree}
-use Rattle.odd_reader.proofs.InList.{nothing_stands}
-use Rattle.odd_docs.specs.Declares.{Declares}
-use Rattle.odd_docs.specs.Offences.{HasOffence, IsRefusal}
-use Rattle.odd_docs.specs.Pending.{IsPending}
+use Rattle.odd_tree.specs.declared.tree.Tree.{Tree}
+use Rattle.odd_tree.proofs.InList.{nothing_stands}
+use Rattle.odd_items.specs.Declares.{Declares}
+use Rattle.odd_items.specs.Offences.{HasOffence, IsRefusal}
+use Rattle.odd_items.specs.Pending.{IsPending}
 use Rattle.odd_decls.specs.declared.library.Library.{Library}
 use Rattle.odd_decls.specs.declared.odd.OddDoc.{OddDoc}
 use Rattle.odd_docs.proofs.OneDoc.{one_doc}
-use Rattle.odd_modes.specs.After.{IsLibraryAfter}
-use Rattle.odd_modes.specs.Offences.{Offends}
+use Rattle.odd_choosing.specs.After.{IsLibraryAfter}
+use Rattle.odd_choosing.specs.Offences.{Offends}
 use Rattle.odd_modes.proofs.OneLibrary.{one_library}
 use Rattle.odd_meaning.specs.Rules.{Breaks}
 use Rattle.odd_chain.specs.Files.{AreAllRead, ChainOffends, Gives, IsChainRefusal, IsFirstPending, more, none, of_doc, of_form}

@@ -2,7 +2,7 @@
 use Rattle.std.proofs.Common.{◌≡◌, ℕ, List, length, Result, Ok, Err, inl, inr, sym, ap, subst, ◌∙◌}
 use Rattle.std.specs.Prelude.{IfErr, IfOk, OnOk}
 use Rattle.odd_base.specs.declared.offence.Offence.{Offence}
-use Rattle.odd_reader.specs.declared.tree.Tree.{Tree}
+use Rattle.odd_tree.specs.declared.tree.Tree.{Tree}
 use Rattle.odd_reader.proofs.Formed.{spelled_formed}
 use Rattle.odd_chain.specs.Files.{AreAllRead, Gives, IsChainRefusal, IsFirstPending}
 use Rattle.odd_chain.specs.Reading.{IsChainOf}

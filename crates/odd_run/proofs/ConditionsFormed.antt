@@ -6,21 +6,21 @@ use Rattle.std.proofs.lemmas.List.Elements.{All-append, All-cons, All-nil}
 use Rattle.odd_base.specs.declared.name.Bind.{Bind}
 use Rattle.odd_base.specs.declared.name.Name.{Name}
 use Rattle.odd_tokens.specs.Characters.{IsLegal}
-use Rattle.odd_reader.specs.Elements.{StandsIn, children_of}
-use Rattle.odd_reader.specs.Formed.{IsFormed as IsFormedTree}
-use Rattle.odd_reader.specs.declared.tree.Tree.{Tree}
+use Rattle.odd_tree.specs.Elements.{StandsIn, children_of}
+use Rattle.odd_tree.specs.Formed.{IsFormed as IsFormedTree}
+use Rattle.odd_tree.specs.declared.tree.Tree.{Tree}
 use Rattle.odd_reader.proofs.FormedBindings.{BindLegally, in_force_legal}
-use Rattle.odd_reader.proofs.InList.{stands_first, stands_later}
+use Rattle.odd_tree.proofs.InList.{stands_first, stands_later}
 use Rattle.odd_docs.proofs.FoundFormed.{IsFormedSomewhere}
 use Rattle.odd_content.specs.Excepting.{IsConditionOf, IsExceptedName}
 use Rattle.odd_content.specs.Giving.{AreParts, IsContentOf, IsPart, bounds_given, joined_parts, parts_of}
 use Rattle.odd_content.specs.declared.content.Condition.{Condition}
 use Rattle.odd_content.specs.declared.content.Content.{Content}
 use Rattle.rng_emit.specs.Plain.{IsPlainName}
-use Rattle.compile_defines.specs.Conditions.{conditions_in}
+use Rattle.compile_contents.specs.Conditions.{conditions_in}
 use Rattle.compile_defines.specs.Formed.{IsFormedCondition}
-use Rattle.compile_defines.proofs.ContentParts.{alternate_conditions, sequence_conditions}
-use Rattle.compile_defines.proofs.Standing.{each_stands, filter_stands}
+use Rattle.compile_contents.proofs.ContentParts.{alternate_conditions, sequence_conditions}
+use Rattle.compile_contents.proofs.Standing.{each_stands, filter_stands}
 use Rattle.odd_run.proofs.GivenLegal.{child_formed, tag_formed, within_legal, word_legal}
 
 -- the conditions in the content are formed

@@ -3,8 +3,8 @@ use Rattle.std.proofs.Common.{◌≡◌, ◌+◌, ℕ, List, [], ◌∷◌, leng
 use Rattle.std.specs.Prelude.{codes, map as map_items}
 use Rattle.std.specs.declared.cmp.Ordering.{Ordering}
 use Rattle.odd_forms.specs.Names.{tei_namespace}
-use Rattle.odd_reader.specs.Elements.{StandsIn}
-use Rattle.odd_reader.proofs.InList.{nothing_stands}
+use Rattle.odd_tree.specs.Elements.{StandsIn}
+use Rattle.odd_tree.proofs.InList.{nothing_stands}
 use Rattle.odd_decls.specs.Library.{content_of}
 use Rattle.odd_content.specs.declared.content.Content.TheVariants as content
 use Rattle.odd_decls.specs.declared.library.Component.TheVariants as component
@@ -15,12 +15,12 @@ use Rattle.rng_patterns.specs.Nodes.{linked_nodes, nodes as nodes_of, reference_
 use Rattle.rng_emit.specs.Grammar.{all_of, define_markup, grammar_markup, named, pattern_markup, plain as plain_element}
 use Rattle.rng_emit.specs.Nodes.{elements_in, text_nodes}
 use Rattle.rng_emit.proofs.Shapes.{empty_is, ref_is}
-use Rattle.odd_reader.specs.Markup.{Markup, element as element_with, file_printed}
+use Rattle.odd_tree.specs.Markup.{Markup, element as element_with, file_printed}
 use Rattle.rng_patterns.specs.declared.grammar.Grammar.{Grammar}
 use Rattle.odd_forms.specs.Sorted.{IsSet}
 use Rattle.compile_defines.specs.Blocks.{IsConditionDefine}
 use Rattle.compile_defines.specs.Compiled.{HoldsStart, IsGrammarOf, IsMissing, define_cmp, element_define}
-use Rattle.compile_defines.specs.Conditions.{IsConditionOf, condition_cmp, conditions_of}
+use Rattle.compile_contents.specs.Conditions.{IsConditionOf, condition_cmp, conditions_of}
 use Rattle.compile_core.specs.Schema.{IsSchema}
 use Rattle.compile_core.proofs.BlocksSet.{made}
 use Rattle.odd_decls.specs.declared.library.ElementPart.{ElementPart}

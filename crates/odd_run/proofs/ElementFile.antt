@@ -8,21 +8,21 @@ use Rattle.odd_base.specs.Key.{key_cmp}
 use Rattle.odd_base.specs.declared.key.Key.{Key}
 use Rattle.std.proofs.Math.Utf8.{encode}
 use Rattle.odd_tokens.specs.Characters.{is_char, is_name_char, is_name_start}
-use Rattle.odd_reader.specs.Spelled.{GivesTree}
-use Rattle.odd_reader.specs.declared.tree.Tree.{Tree}
+use Rattle.odd_tree.specs.Spelled.{GivesTree}
+use Rattle.odd_tree.specs.declared.tree.Tree.{Tree}
 use Rattle.odd_reader.proofs.Running.{literal_gives}
-use Rattle.odd_docs.specs.Declares.{Declares, IsEntryOf}
+use Rattle.odd_items.specs.Declares.{Declares, IsEntryOf}
 use Rattle.odd_decls.specs.Odd.{element_key}
 use Rattle.odd_forms.specs.Children.{GivesOne}
 use Rattle.odd_forms.specs.Names.{tei_namespace}
 use Rattle.odd_forms.specs.declared.element.Element.TheVariants as elements
-use Rattle.odd_reader.proofs.InList.{nothing_stands}
-use Rattle.odd_docs.specs.Offences.{IsSpecOf}
+use Rattle.odd_tree.proofs.InList.{nothing_stands}
+use Rattle.odd_items.specs.Offences.{IsSpecOf}
 use Rattle.odd_decls.specs.Library.{component_of}
-use Rattle.odd_modes.specs.After.{IsLibraryAfter, held_after, held_by}
-use Rattle.odd_modes.specs.Offences.{ItemFault, SpecFault}
+use Rattle.odd_choosing.specs.After.{IsLibraryAfter, held_after, held_by}
+use Rattle.odd_choosing.specs.Offences.{ItemFault, SpecFault}
 use Rattle.odd_chain.specs.Files.{Gives}
-use Rattle.odd_docs.specs.Search as search
+use Rattle.odd_items.specs.Search as search
 use Rattle.odd_content.specs.declared.content.Content.TheVariants as content
 use Rattle.odd_decls.specs.declared.library.Component.{Component}
 use Rattle.odd_decls.specs.declared.library.Component.TheVariants as component

@@ -6,17 +6,17 @@ use Rattle.std.specs.Prelude.{All}
 use Rattle.odd_base.specs.declared.key.Kind.TheVariants as kind
 use Rattle.odd_base.specs.declared.name.Bind.{Bind}
 use Rattle.odd_tokens.specs.Characters.{IsLegal}
-use Rattle.odd_reader.specs.Elements.{StandsIn, children_of, within}
-use Rattle.odd_reader.specs.declared.tree.Tree.{Tree}
+use Rattle.odd_tree.specs.Elements.{StandsIn, children_of, within}
+use Rattle.odd_tree.specs.declared.tree.Tree.{Tree}
 use Rattle.odd_reader.proofs.FormedBindings.{BindLegally}
-use Rattle.odd_reader.proofs.InList.{stands_first, stands_later}
+use Rattle.odd_tree.proofs.InList.{stands_first, stands_later}
 use Rattle.odd_forms.specs.Children.{GivesOne}
 use Rattle.odd_forms.specs.declared.element.Element.{Element}
 use Rattle.odd_forms.specs.declared.element.Element.TheVariants as element
 use Rattle.odd_content.specs.Giving.{IsContentOf}
 use Rattle.odd_content.specs.declared.content.Content.{Content}
-use Rattle.odd_docs.specs.Declares.{Declares, IsEntryOf, IsReadAs}
-use Rattle.odd_docs.specs.Offences.{IsItem, ItemFault, ItemOffends, Offends, kind_declared}
+use Rattle.odd_items.specs.Declares.{Declares, IsEntryOf, IsReadAs}
+use Rattle.odd_items.specs.Offences.{IsItem, ItemFault, ItemOffends, Offends, kind_declared}
 use Rattle.odd_decls.specs.declared.library.Library.{Library}
 use Rattle.odd_decls.specs.declared.odd.Entry.TheVariants as entry
 use Rattle.odd_decls.specs.declared.odd.OddDoc.{OddDoc}

@@ -14,7 +14,7 @@ use Rattle.odd_decls.specs.Library.{component_as, component_of}
 use Rattle.odd_decls.specs.declared.library.Component.{Component}
 use Rattle.odd_decls.specs.declared.library.Component.TheVariants as component
 use Rattle.odd_decls.specs.declared.spec.Spec.{Spec}
-use Rattle.odd_modes.specs.After.{laid_over}
+use Rattle.odd_choosing.specs.After.{laid_over}
 use Rattle.compile_defines.specs.Formed.{IsFormedCondition, IsFormedContent, IsFormedPart}
 
 -- what a spec gives is formed, and it is of no datatype

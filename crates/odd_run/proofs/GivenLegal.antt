@@ -6,12 +6,12 @@ use Rattle.std.proofs.lemmas.List.Elements.{All-append, All-contains, All-head, 
 use Rattle.std.proofs.lemmas.Option.{same_Some}
 use Rattle.odd_base.specs.declared.name.Bind.{Bind}
 use Rattle.odd_tokens.specs.Characters.{IsLegal}
-use Rattle.odd_reader.specs.Formed.{IsFormed as IsFormedTree, IsFormedTag, element}
-use Rattle.odd_reader.specs.Elements.{StandsIn, attribute_value, children_of, given, is_named, within}
-use Rattle.odd_reader.specs.declared.tree.Attr.{Attr}
-use Rattle.odd_reader.specs.declared.tree.Tree.{Tree, out-Tree}
+use Rattle.odd_tree.specs.Formed.{IsFormed as IsFormedTree, IsFormedTag, element}
+use Rattle.odd_tree.specs.Elements.{StandsIn, attribute_value, children_of, given, is_named, within}
+use Rattle.odd_tree.specs.declared.tree.Attr.{Attr}
+use Rattle.odd_tree.specs.declared.tree.Tree.{Tree, out-Tree}
 use Rattle.odd_reader.proofs.FormedBindings.{BindLegally, IsToLegal}
-use Rattle.odd_reader.proofs.InList.{contained}
+use Rattle.odd_tree.proofs.InList.{contained}
 use Rattle.odd_docs.proofs.FoundFormed.{IsFormedSomewhere, children_formed}
 use Rattle.odd_forms.specs.Words.{words_of}
 use Rattle.odd_forms.proofs.WordsLegal.{words_legal}

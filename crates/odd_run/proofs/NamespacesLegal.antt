@@ -6,11 +6,11 @@ use Rattle.odd_base.specs.declared.key.Kind.{Kind}
 use Rattle.odd_base.specs.declared.key.Kind.TheVariants as kind
 use Rattle.odd_tokens.proofs.Legal.{ascii_legal}
 use Rattle.odd_tokens.specs.Characters.{IsLegal}
-use Rattle.odd_reader.specs.Elements.{given}
-use Rattle.odd_reader.specs.Formed.{IsFormedTag}
-use Rattle.odd_reader.specs.declared.tree.Tree.{Tree}
+use Rattle.odd_tree.specs.Elements.{given}
+use Rattle.odd_tree.specs.Formed.{IsFormedTag}
+use Rattle.odd_tree.specs.declared.tree.Tree.{Tree}
 use Rattle.odd_forms.specs.Names.{tei_namespace}
-use Rattle.odd_docs.specs.Declares.{mode_given, namespace_given, namespace_in, namespace_of}
+use Rattle.odd_items.specs.Declares.{mode_given, namespace_given, namespace_in, namespace_of}
 use Rattle.odd_decls.specs.declared.spec.Mode.{Mode}
 use Rattle.odd_decls.specs.declared.spec.Mode.TheVariants as mode
 use Rattle.odd_run.proofs.GivenLegal.{legal_given}

@@ -2,11 +2,11 @@
 use Rattle.std.proofs.Common.{◌≡◌, ℕ, List, [], ◌∷◌, ◌++◌, append_assoc, length, arith, refl, sym, ap, subst, subst₂, ◌∙◌, ⊎_elim, suc}
 use Rattle.std.proofs.lemmas.List.{append_cancel_right}
 use Rattle.std.proofs.lemmas.Option.{same_Some}
-use Rattle.odd_base.specs.Shelf.{FileMap, IsTooLong, NotHeld}
-use Rattle.odd_reader.specs.Elements.{StandsIn}
-use Rattle.odd_reader.specs.Spelled.{DepthPlace, IsNotXml, Spells}
-use Rattle.odd_reader.specs.declared.tree.Tree.{Tree}
-use Rattle.odd_reader.proofs.InList.{Stands, first_or_later, nothing_stands, stands_around}
+use Rattle.odd_outside.specs.Shelf.{FileMap, IsTooLong, NotHeld}
+use Rattle.odd_tree.specs.Elements.{StandsIn}
+use Rattle.odd_tree.specs.Spelled.{DepthPlace, IsNotXml, Spells}
+use Rattle.odd_tree.specs.declared.tree.Tree.{Tree}
+use Rattle.odd_tree.proofs.InList.{Stands, first_or_later, nothing_stands, stands_around}
 use Rattle.odd_reader.proofs.Places.{one_depth, one_fault}
 use Rattle.odd_reader.proofs.Refusing.{gives_not_deep}
 use Rattle.odd_reader.proofs.Spelling.{one_tree}

@@ -3,10 +3,10 @@ use Rattle.std.proofs.Common.{◌≡◌, ◌≤◌, ◌<◌, ℕ, List, ◌∷�
 use Rattle.std.specs.Prelude.{codes}
 use Rattle.std.specs.FinMap.{slice_cmp-IsAntisymmetric, nat_cmp-IsAntisymmetric}
 use Rattle.std.proofs.lemmas.Cmp.{nat_list_cmp_total}
-use Rattle.odd_base.specs.Shelf.{FileMap}
+use Rattle.odd_outside.specs.Shelf.{FileMap}
 use Rattle.odd_base.specs.Text.{text_cmp}
 use Rattle.odd_forms.proofs.OneSet.{neither_below}
-use Rattle.odd_reader.specs.declared.tree.Tree.{Tree}
+use Rattle.odd_tree.specs.declared.tree.Tree.{Tree}
 use Rattle.odd_decls.specs.declared.library.Library.{Library}
 use Rattle.odd_chain.specs.Files.{Gives}
 use Rattle.odd_chain.proofs.OneChain.{gives_one, one_chain_refusal, one_pending, pending_not_read, refused_gives_none}

@@ -3,11 +3,11 @@ use Rattle.std.proofs.Common.{ℕ, List, [], ◌∷◌, inl, refl, arith}
 use Rattle.std.specs.Prelude.{codes}
 use Rattle.std.proofs.Math.Utf8.{encode}
 use Rattle.odd_tokens.specs.Characters.{is_char, is_name_char, is_name_start}
-use Rattle.odd_reader.specs.Spelled.{GivesTree}
-use Rattle.odd_reader.specs.declared.tree.Tree.{Tree}
+use Rattle.odd_tree.specs.Spelled.{GivesTree}
+use Rattle.odd_tree.specs.declared.tree.Tree.{Tree}
 use Rattle.odd_reader.proofs.Running.{literal_gives}
-use Rattle.odd_docs.specs.Pending.{IsPending, outermost}
-use Rattle.odd_docs.specs.Pending as pending
+use Rattle.odd_items.specs.Pending.{IsPending, outermost}
+use Rattle.odd_items.specs.Pending as pending
 use Rattle.odd_forms.proofs.SmallElements.{attribute, elements_are}
 use Rattle.odd_docs.proofs.SmallFiles.{element}
 use Rattle.odd_docs.proofs.SmallPending.{in_child}

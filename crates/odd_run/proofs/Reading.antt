@@ -1,20 +1,20 @@
 -- The files of a chain, read one after another, and where reading stops.
-use Rattle.std.proofs.Common.{◌≡◌, ◌<◌, ◌+◌, ℕ, suc, List, [], ◌∷◌, ◌++◌, length, get_or, take, drop, Option, Some, Result, Ok, Err, ◌⊎◌, ⊎_elim, inl, inr, refl, sym, ap, subst, ◌∙◌, add-one, arith, length-append}
+use Rattle.std.proofs.Common.{◌≡◌, ◌<◌, ◌+◌, ℕ, suc, List, [], ◌∷◌, ◌++◌, length, get_or, take, drop, Option, Some, Result, Ok, Err, ◌⊎◌, ⊎_elim, inl, inr, sym, ap, subst, ◌∙◌, add-one, arith, length-append}
 use Rattle.std.specs.Prelude.{Bool, IfErr, IfOk, IsTrue, OnOk}
 use Rattle.std.proofs.lemmas.List.{length-take-le, take-append-drop}
 use Rattle.odd_base.specs.Count.{next_count}
-use Rattle.odd_base.specs.Shelf.{FileMap, Held, LeavesSuffix, NotHeld}
-use Rattle.odd_reader.specs.Formed.{IsFormed}
-use Rattle.odd_reader.specs.Spelled.{GivesTree}
-use Rattle.odd_reader.specs.declared.tree.Tree.{Tree}
+use Rattle.odd_outside.specs.Shelf.{FileMap, Held, LeavesSuffix, NotHeld}
+use Rattle.odd_tree.specs.Formed.{IsFormed}
+use Rattle.odd_tree.specs.Spelled.{GivesTree}
+use Rattle.odd_tree.specs.declared.tree.Tree.{Tree}
 use Rattle.odd_reader.proofs.Formed.{spelled_formed}
-use Rattle.odd_reader.proofs.InList.{begins, ends, first_or_later, nothing_stands}
+use Rattle.odd_tree.proofs.InList.{begins, ends, first_or_later, nothing_stands}
 use Rattle.odd_chain.specs.Reading.{IsChainOf}
 use Rattle.odd_chain.specs.declared.chain.Chain.{Chain}
-use Rattle.compile_defines.proofs.Standing.{stands_either}
+use Rattle.compile_contents.proofs.Standing.{stands_either}
 use Rattle.odd_run.specs.Outcome.{answers}
 use Rattle.odd_run.specs.Reading.{IsChainRead, IsOfFile, IsOfTrees, IsTreeRead, StopsAt}
-use Rattle.odd_run.specs.Reply.{FileGives, FileStops, GiveTrees, IsReached, NamesFiles, ReadsChain, stops}
+use Rattle.odd_run.specs.Reply.{FileGives, FileStops, GiveTrees, IsReached, ReadsChain, stops}
 use Rattle.odd_run.specs.Running.{BeginsFiles, IsFaultPlace, IsReplied, counted}
 use Rattle.odd_run.specs.declared.status.LimitKind.TheVariants as limit
 use Rattle.odd_run.specs.declared.status.Status.{Status}
@@ -127,7 +127,3 @@ all_begun files (status.Limit limit.Files) old new is e = absurd is
 all_begun files status.Done old new is e = absurd is
 all_begun files status.Usage old new is e = absurd is
 all_begun files status.WriteFault old new is e = absurd is
-
-pub none_begun : (words : List (List ℕ)) (files : ℕ) (s : Status) (old : ℕ) → NamesFiles words (answers s) → BeginsFiles s files old old
-none_begun words files s old (NamesFiles.no_job none) = refl
-none_begun words files s old (NamesFiles.too_many chain c many) = refl

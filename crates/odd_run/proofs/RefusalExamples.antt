@@ -6,19 +6,19 @@ use Rattle.odd_base.specs.declared.offence.Offence.{Offence}
 use Rattle.odd_base.specs.declared.offence.Who.TheVariants as who
 use Rattle.std.proofs.Math.Utf8.{encode}
 use Rattle.odd_tokens.specs.Characters.{is_char, is_name_char, is_name_start}
-use Rattle.odd_reader.specs.Spelled.{GivesTree}
-use Rattle.odd_reader.specs.declared.tree.Tree.{Tree}
+use Rattle.odd_tree.specs.Spelled.{GivesTree}
+use Rattle.odd_tree.specs.declared.tree.Tree.{Tree}
 use Rattle.odd_reader.proofs.Running.{literal_gives}
-use Rattle.odd_docs.specs.Declares.{Declares}
+use Rattle.odd_items.specs.Declares.{Declares}
 use Rattle.odd_forms.specs.Faults.{ChildFault}
-use Rattle.odd_reader.proofs.InList.{nothing_stands, stands_first}
+use Rattle.odd_tree.proofs.InList.{nothing_stands, stands_first}
 use Rattle.odd_decls.specs.First.{IsNotAfter}
-use Rattle.odd_docs.specs.Offences.{HasOffence, IsRefusal, IsSpecOf, ItemOffends, Offends}
-use Rattle.odd_docs.specs.Offences as form
+use Rattle.odd_items.specs.Offences.{HasOffence, IsRefusal, IsSpecOf, ItemOffends, Offends}
+use Rattle.odd_items.specs.Offences as form
 use Rattle.odd_chain.specs.Files.{Gives}
-use Rattle.odd_docs.specs.Pending.{outermost}
-use Rattle.odd_docs.specs.Search.{Finds}
-use Rattle.odd_docs.specs.Search as search
+use Rattle.odd_items.specs.Pending.{outermost}
+use Rattle.odd_items.specs.Search.{Finds}
+use Rattle.odd_items.specs.Search as search
 use Rattle.odd_decls.specs.declared.library.Library.{Library}
 use Rattle.odd_forms.proofs.SmallElements.{elements_are}
 use Rattle.odd_docs.proofs.SmallDeclares.{declares, few_rise, no_entries}

@@ -1,9 +1,9 @@
 -- What is said of replies: the status and the text are one, and what a reply with a text excludes.
 use Rattle.std.proofs.Common.{◌≡◌, ℕ, List, [], Option, refl, sym, ◌∙◌, inl, inr}
 use Rattle.std.specs.Prelude.{Bool, IsTrue}
-use Rattle.odd_base.specs.Shelf.{FileMap, NotHeld}
-use Rattle.odd_reader.specs.Elements.{StandsIn}
-use Rattle.odd_reader.specs.declared.tree.Tree.{Tree}
+use Rattle.odd_outside.specs.Shelf.{FileMap, NotHeld}
+use Rattle.odd_tree.specs.Elements.{StandsIn}
+use Rattle.odd_tree.specs.declared.tree.Tree.{Tree}
 use Rattle.odd_run.specs.Outcome.{answers, gives}
 use Rattle.odd_run.specs.Reply.{ReadsChain, Reply, WordsComeTo, all_spelled, answered, done}
 use Rattle.odd_run.specs.Running.{IsComplete, IsReadPlace, IsReplied, IsSilent}

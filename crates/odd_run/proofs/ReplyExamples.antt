@@ -4,7 +4,7 @@ use Rattle.std.specs.Prelude.{All, codes}
 use Rattle.std.specs.FinMap as map
 use Rattle.std.proofs.lemmas.Option.{same_Some}
 use Rattle.odd_base.specs.Text.{text_cmp}
-use Rattle.odd_base.specs.Shelf.{FileMap}
+use Rattle.odd_outside.specs.Shelf.{FileMap}
 use Rattle.odd_reader.proofs.Running.{empty_not_xml}
 use Rattle.odd_run.specs.Words.{IsFileWord}
 use Rattle.odd_run.specs.Reply.{Reply, answered, no_job, not_held, not_xml, stops, too_long, too_many}

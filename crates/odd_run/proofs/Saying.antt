@@ -4,7 +4,7 @@ use Rattle.std.proofs.lemmas.List.{take-append-le}
 use Rattle.std.proofs.Math.Seq.{take-append-add}
 use Rattle.odd_base.specs.Count.{HasRisen}
 use Rattle.std.specs.Prelude.{OnOk, OnErr, IsErr, is_ok}
-use Rattle.odd_base.specs.Sink.{IsPartWritten}
+use Rattle.odd_outside.specs.Sink.{IsPartWritten}
 use Rattle.odd_run.specs.Note.{Says}
 
 module _ {S : Type 0} (written : S → Option (List ℕ)) (faults : S → ℕ) where

@@ -3,9 +3,9 @@ use Rattle.std.proofs.Common.{◌≡◌, ◌≤◌, ℕ, List, [], ◌∷◌, le
 use Rattle.std.specs.Prelude.{codes}
 use Rattle.std.specs.FinMap as map
 use Rattle.std.proofs.lemmas.Cmp.{nat_list_cmp_total}
-use Rattle.odd_base.specs.Shelf.{FileMap, Held, NotHeld}
-use Rattle.odd_reader.specs.Spelled.{GivesTree}
-use Rattle.odd_reader.specs.declared.tree.Tree.{Tree}
+use Rattle.odd_outside.specs.Shelf.{FileMap, Held, NotHeld}
+use Rattle.odd_tree.specs.Spelled.{GivesTree}
+use Rattle.odd_tree.specs.declared.tree.Tree.{Tree}
 use Rattle.odd_run.specs.Outcome.{answers, gives}
 use Rattle.odd_run.specs.Words.{Compiles}
 use Rattle.odd_run.specs.declared.status.Status.{Status}

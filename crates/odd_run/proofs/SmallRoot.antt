@@ -1,7 +1,7 @@
 -- A `schemaSpec` of the ident `s` with the start word `a`.
 use Rattle.std.proofs.Common.{List, [], ◌∷◌, refl}
 use Rattle.std.specs.Prelude.{codes}
-use Rattle.odd_reader.specs.declared.tree.Tree.{Tree, roll-Tree}
+use Rattle.odd_tree.specs.declared.tree.Tree.{Tree, roll-Tree}
 use Rattle.odd_forms.specs.Names.{tei, tei_namespace}
 use Rattle.odd_forms.proofs.SmallElements.{attribute, nodes}
 use Rattle.odd_docs.proofs.SmallFiles.{a_alone}

@@ -1,7 +1,7 @@
 -- Which statuses the steps of a reply answer with.
 use Rattle.std.proofs.Common.{ℕ, List, inl, inr, refl}
-use Rattle.odd_base.specs.Shelf.{FileMap}
-use Rattle.odd_reader.specs.declared.tree.Tree.{Tree}
+use Rattle.odd_outside.specs.Shelf.{FileMap}
+use Rattle.odd_tree.specs.declared.tree.Tree.{Tree}
 use Rattle.odd_run.specs.Outcome.{answers}
 use Rattle.odd_run.specs.Reply.{FileStops, NamesFiles, TreesComeTo, WordsComeTo, no_job, not_held, not_xml, not_yet, refused, start_missing, stops, too_deep, too_large, too_long}
 use Rattle.odd_run.specs.Reading.{IsOfFile, IsOfTrees}

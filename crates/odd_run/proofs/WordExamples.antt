@@ -2,6 +2,7 @@
 use Rattle.std.proofs.Common.{◌≡◌, ℕ, false, List, [], ◌∷◌, length, refl, sym, ap, ◌∙◌}
 use Rattle.std.specs.Prelude.{codes}
 use Rattle.std.proofs.lemmas.List.Elements.{All-cons, All-head, All-nil, All-same, All-tail}
+use Rattle.odd_tree.proofs.SameTexts.{apart}
 use Rattle.odd_run.specs.Words.{Compiles, IsFileWord, WordsMean, compile}
 use Rattle.odd_run.specs.declared.words.Command.TheVariants as command
 use Rattle.odd_run.specs.declared.words.Job.{Job}
@@ -50,6 +51,14 @@ command_alone job (compile chain c e) = c.some cc
 
 another_command : (job : Job) → WordsMean (codes "merge" ∷ codes "f" ∷ []) job → ⊥
 another_command job (compile chain c e) = cc
+
+abbrev first_word : List (List ℕ) → List ℕ
+first_word [] = []
+first_word (word ∷ words) = word
+
+-- the command is written in small letters
+in_capitals : (rest : List (List ℕ)) (job : Job) → WordsMean (codes "Compile" ∷ rest) job → ⊥
+in_capitals rest job (compile chain c e) = apart (codes "Compile") (codes "compile") refl (ap first_word c.words_are)
 
 -- `--` is no file, whatever comes after it
 dashes : (rest : List (List ℕ)) (job : Job) → WordsMean (codes "compile" ∷ codes "--" ∷ rest) job → ⊥

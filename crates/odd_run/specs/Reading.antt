@@ -1,10 +1,10 @@
 -- What the private functions of a run give: trees and chains that are read, and why there is none.
 use Rattle.std.specs.Prelude.{◌≡◌, ◌≤◌, ℕ, List, Option, Some, length}
-use Rattle.odd_base.specs.Shelf.{FileMap, Held}
+use Rattle.odd_outside.specs.Shelf.{FileMap, Held}
 use Rattle.odd_decls.specs.declared.library.Library.{Library}
-use Rattle.odd_reader.specs.Elements.{StandsIn}
-use Rattle.odd_reader.specs.Spelled.{GivesTree}
-use Rattle.odd_reader.specs.declared.tree.Tree.{Tree}
+use Rattle.odd_tree.specs.Elements.{StandsIn}
+use Rattle.odd_tree.specs.Spelled.{GivesTree}
+use Rattle.odd_tree.specs.declared.tree.Tree.{Tree}
 use Rattle.odd_chain.specs.Reading.{IsChainOf}
 use Rattle.odd_chain.specs.declared.chain.Chain.{Chain}
 use Rattle.compile_core.specs.Schema.{HasLargeSchema, IsLeastMissing}

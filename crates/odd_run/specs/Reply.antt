@@ -1,11 +1,11 @@
 -- What the program answers to words and files: the bytes of the reply and the status. Its steps go one after another, each over the whole chain, and the first
 -- that answers ends them.
 use Rattle.std.specs.Prelude.{◌≡◌, ◌≤◌, ◌<◌, ℕ, suc, List, [], ◌∷◌, ◌++◌, length}
-use Rattle.odd_base.specs.Shelf.{FileMap, Held, IsTooLong, NotHeld}
+use Rattle.odd_outside.specs.Shelf.{FileMap, Held, IsTooLong, NotHeld}
 use Rattle.odd_base.specs.declared.offence.Offence.{Offence}
 use Rattle.odd_base.specs.declared.offence.Who.TheVariants as who
-use Rattle.odd_reader.specs.declared.tree.Tree.{Tree}
-use Rattle.odd_reader.specs.Spelled.{DepthPlace, GivesTree, IsNotXml}
+use Rattle.odd_tree.specs.declared.tree.Tree.{Tree}
+use Rattle.odd_tree.specs.Spelled.{DepthPlace, GivesTree, IsNotXml}
 use Rattle.odd_decls.specs.declared.library.Library.{Library}
 use Rattle.odd_chain.specs.Files.{AreAllRead, Gives, IsChainRefusal, IsFirstPending}
 use Rattle.rng_patterns.specs.declared.grammar.Grammar.{Grammar}

@@ -1,9 +1,9 @@
 -- What a run leaves of the shelf, the output and the note.
 use Rattle.std.specs.Prelude.{◌≡◌, ◌↔◌, ◌⊎◌, ◌≤◌, ℕ, zero, suc, Bool, List, ◌++◌, Option, Some, IsTrue, length}
 use Rattle.odd_base.specs.Count.{HasRisen, next_count}
-use Rattle.odd_base.specs.Shelf.{FileMap, Held, NotHeld, LeavesSuffix}
+use Rattle.odd_outside.specs.Shelf.{FileMap, Held, NotHeld, LeavesSuffix}
 use Rattle.odd_decls.specs.declared.library.Library.{Library}
-use Rattle.odd_reader.specs.declared.tree.Tree.{Tree}
+use Rattle.odd_tree.specs.declared.tree.Tree.{Tree}
 use Rattle.odd_chain.specs.Files.{Gives}
 use Rattle.odd_meaning.specs.Admission.{Admits}
 use Rattle.rng_patterns.specs.Acceptance.{Accepts}

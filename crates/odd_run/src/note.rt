@@ -3,8 +3,8 @@ ghost use Rattle.odd_run.specs.Note.{Says, kind_word, limit_text, note_text, pla
 
 use crate::status::{LimitKind, Status};
 use itoa::Buffer;
-use odd_base::writing::write_whole;
-use odd_base::{Kind, Offence, Sink, SinkFault, Who};
+use odd_base::{Kind, Offence, Who};
+use odd_outside::{Sink, SinkFault, write_whole};
 
 /// Writes the line of a status, piece by piece and without memory. Done has no line.
 pub fn write_note<N: Sink>(note: &mut N, status: &Status) -> Result<(), SinkFault>

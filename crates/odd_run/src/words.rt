@@ -1,4 +1,4 @@
-ghost use Rattle.std.specs.Prelude.{◌≡◌, ◌↔◌, All, IsTrue, IfSome, IfNone, IsNone};
+ghost use Rattle.std.specs.Prelude.{◌≡◌, ◌↔◌, All, IsTrue, IfSome, IsNone};
 ghost use Rattle.odd_run.specs.Words.{IsFileWord, WordsMean};
 
 use odd_base::{Text, Words};

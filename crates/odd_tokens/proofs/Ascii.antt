@@ -1,8 +1,8 @@
 -- Texts of characters below 128 are their bytes, and names of such characters are names of XML.
-use Rattle.std.proofs.Common.{◌≡◌, ℕ, ◌<◌, Bool, true, false, ◌||◌, ◌==◌, ◌&&◌, List, [], ◌∷◌, ◌++◌, refl, arith, IsTrue, ◌+◌, if◌then◌else◌, map, ap₂}
+use Rattle.std.proofs.Common.{◌≡◌, ℕ, ◌<◌, Bool, true, false, ◌||◌, ◌==◌, ◌&&◌, List, [], ◌∷◌, refl, arith, IsTrue, ◌+◌, if◌then◌else◌, map, ap₂}
 use Rattle.std.proofs.lemmas.Bool.{and_parts, and_from, ltb-true}
 use Rattle.std.proofs.lemmas.Bool.Decides.{nat_tests}
-use Rattle.std.proofs.lemmas.Str.{encode_ascii, encodes-append}
+use Rattle.std.proofs.lemmas.Str.{encode_ascii}
 use Rattle.std.specs.Prelude.{nat_lt}
 use Rattle.std.specs.List.{list_all}
 use Rattle.std.specs.Str.{encode_utf8_all}
@@ -16,9 +16,6 @@ ascii_text p low [] h = refl
 ascii_text p low (c ∷ cs) h =
     let e = encode_ascii c (low c (and_parts (p c) (list_all p cs) h).0) in
     rw (e, ascii_text p low cs (and_parts (p c) (list_all p cs) h).1) refl
-
-pub ascii_append : (xs ys : List ℕ) → encode_utf8_all xs ≡ xs → encode_utf8_all ys ≡ ys → encode_utf8_all (xs ++ ys) ≡ xs ++ ys
-ascii_append xs ys a b = rw (encodes-append xs ys, a, b) refl
 
 -- a text that is written out
 pub ascii_codes : (cs : List ℕ) → list_all (λ c. nat_lt c 128) cs ≡ true → encode_utf8_all cs ≡ cs

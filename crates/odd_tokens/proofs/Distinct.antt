@@ -39,15 +39,6 @@ none_twice (x ∷ xs) d [] between after item e =
     lacks_middle x item between after (subst (Lacks x) rest d.0) (sym same)
 none_twice (x ∷ xs) d (b ∷ bs) between after item e = none_twice xs d.1 bs between after item (cc e)
 
--- around an item of a list of distinct ones stands no other like it
-pub lacks_front : {A : Type 0} (x : A) (before after : List A) → Distinct (before ++ x ∷ after) → Lacks x before
-lacks_front x [] after d = tt
-lacks_front x (b ∷ bs) after d = (λ e. lacks_middle b x bs after d.0 (sym e), lacks_front x bs after d.1)
-
-pub lacks_back : {A : Type 0} (x : A) (before after : List A) → Distinct (before ++ x ∷ after) → Lacks x after
-lacks_back x [] after d = d.0
-lacks_back x (b ∷ bs) after d = lacks_back x bs after d.1
-
 -- what is made into distinct items is distinct
 pub lacks_made : {A B : Type 0} (f : A → B) (x : A) (xs : List A) → Lacks (f x) (map f xs) → Lacks x xs
 lacks_made f x [] l = tt

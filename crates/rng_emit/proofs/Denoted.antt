@@ -4,11 +4,11 @@ use Rattle.std.specs.Prelude.{All, IfOk, codes, unwrap_or}
 use Rattle.odd_base.specs.declared.memory.NoMemory.{NoMemory}
 use Rattle.std.proofs.lemmas.List.Elements.{All-cons}
 use Rattle.std.proofs.lemmas.Option.{same_Some}
-use Rattle.odd_reader.specs.Elements.{given}
-use Rattle.odd_reader.specs.Markup.{Pair, element}
-use Rattle.odd_reader.specs.declared.tree.Tree.{Tree}
-use Rattle.odd_reader.proofs.PrintedSpelled.{printed_spells}
-use Rattle.odd_reader.proofs.PrintedTrees.{Shows}
+use Rattle.odd_tree.specs.Elements.{given}
+use Rattle.odd_tree.specs.Markup.{Pair, element}
+use Rattle.odd_tree.specs.declared.tree.Tree.{Tree}
+use Rattle.odd_printing.proofs.PrintedSpelled.{printed_spells}
+use Rattle.odd_tree.proofs.PrintedTrees.{Shows}
 use Rattle.rng_patterns.proofs.OneGrammar.{one_denoted}
 use Rattle.rng_patterns.specs.Denoting.{Denotes, DenotesOnly, StandsFor, parts_of}
 use Rattle.rng_patterns.specs.Names.{datatype_library, relax_ng_namespace}

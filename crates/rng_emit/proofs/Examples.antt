@@ -3,9 +3,9 @@ use Rattle.std.proofs.Common.{◌≡◌, ℕ, Bool, true, false, List, [], ◌�
 use Rattle.std.proofs.lemmas.List.Elements.{All-cons, All-nil}
 use Rattle.odd_base.specs.declared.name.Name.{Name}
 use Rattle.odd_tokens.proofs.Legal.{ascii_legal}
-use Rattle.odd_reader.proofs.InList.{nothing_stands, only_item, stands_first}
-use Rattle.odd_reader.specs.Elements.{StandsIn}
-use Rattle.odd_reader.specs.Markup.{element, line, printed}
+use Rattle.odd_tree.proofs.InList.{nothing_stands, only_item, stands_first}
+use Rattle.odd_tree.specs.Elements.{StandsIn}
+use Rattle.odd_tree.specs.Markup.{element, line, printed}
 use Rattle.rng_values.specs.declared.data_type.DataType.TheVariants as kind
 use Rattle.rng_values.specs.declared.data_type.DataType.{DataType}
 use Rattle.rng_values.specs.declared.facet.Facet.{Facet}

@@ -5,8 +5,8 @@ use Rattle.std.proofs.lemmas.List.Elements.{All-head, All-tail}
 use Rattle.odd_base.specs.declared.name.Name.{Name}
 use Rattle.odd_tokens.proofs.Legal.{ncname_legal}
 use Rattle.odd_tokens.specs.Characters.{IsLegal}
-use Rattle.odd_reader.specs.Markup.{Markup}
-use Rattle.odd_reader.proofs.PrintedTrees.{ArePlain, IsPlain, IsPlainTag}
+use Rattle.odd_tree.specs.Markup.{Markup}
+use Rattle.odd_tree.proofs.PrintedTrees.{ArePlain, IsPlain, IsPlainTag}
 use Rattle.rng_patterns.specs.declared.grammar.AttrPart.TheVariants as attributes
 use Rattle.rng_patterns.specs.declared.grammar.AttrPart.{AttrPart}
 use Rattle.rng_patterns.specs.declared.grammar.Body.TheVariants as body

@@ -9,8 +9,8 @@ use Rattle.odd_tokens.proofs.Distinct.{none_twice}
 use Rattle.odd_tokens.proofs.Legal.{ascii_legal, ncname_legal}
 use Rattle.odd_tokens.specs.Characters.{IsLegal, IsNCName}
 use Rattle.odd_tokens.specs.Same.{is_same}
-use Rattle.odd_reader.specs.Names.{xml_namespace, xmlns_namespace}
-use Rattle.odd_reader.proofs.PrintedTrees.{IsNamespace, IsPlainAttribute, IsPlainTag}
+use Rattle.odd_tree.specs.Names.{xml_namespace, xmlns_namespace}
+use Rattle.odd_tree.proofs.PrintedTrees.{IsNamespace, IsPlainAttribute, IsPlainTag}
 use Rattle.rng_patterns.specs.Names.{datatype_library, relax_ng_namespace}
 use Rattle.rng_emit.specs.Plain.{IsPlainName}
 

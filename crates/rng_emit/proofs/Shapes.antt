@@ -3,7 +3,7 @@ use Rattle.std.proofs.Common.{◌≡◌, ℕ, Bool, ◌+◌, ◌<◌, false, Lis
 use Rattle.std.specs.Prelude.{IsTrue}
 use Rattle.std.proofs.lemmas.Bool.{false≢true}
 use Rattle.std.proofs.lemmas.List.{append-nil, map_more}
-use Rattle.odd_reader.specs.Markup.{Pair, Markup, element, printed, all_printed, attributes_printed}
+use Rattle.odd_tree.specs.Markup.{Pair, Markup, element, printed, all_printed, attributes_printed}
 use Rattle.rng_patterns.specs.declared.grammar.Expr as E
 use Rattle.rng_patterns.specs.declared.grammar.Expr.TheVariants as expr
 use Rattle.rng_patterns.specs.declared.grammar.Expr.{Expr}

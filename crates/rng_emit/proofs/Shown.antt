@@ -4,16 +4,16 @@ use Rattle.std.specs.Prelude.{All, IsTrue, codes, filter}
 use Rattle.std.specs.List.{list_all}
 use Rattle.std.proofs.lemmas.Bool.{and_from}
 use Rattle.std.proofs.lemmas.List.Elements.{All-map}
-use Rattle.odd_reader.specs.Markup.{Pair, Markup, element, line, none, more}
+use Rattle.odd_tree.specs.Markup.{Pair, Markup, element, line, none, more}
 use Rattle.odd_tokens.specs.Same.{is_same}
-use Rattle.odd_reader.specs.declared.tree.Attr.{Attr}
-use Rattle.odd_reader.specs.declared.tree.Node.{Node, out-Node, Element}
-use Rattle.odd_reader.specs.declared.tree.Node as N
-use Rattle.odd_reader.specs.declared.tree.Tree.{Tree, out-Tree}
-use Rattle.odd_reader.proofs.PrintedTrees.{AreLines, HasHead, Shows, attr_of, line_break}
-use Rattle.odd_reader.specs.Elements.{StandsIn, attribute_value, elements_of, shown_elements, given}
-use Rattle.odd_reader.proofs.AmongChildren.{element_shown, text_shown}
-use Rattle.odd_reader.specs.Significant.{is_blank, is_element}
+use Rattle.odd_tree.specs.declared.tree.Attr.{Attr}
+use Rattle.odd_tree.specs.declared.tree.Node.{Node, out-Node, Element}
+use Rattle.odd_tree.specs.declared.tree.Node as N
+use Rattle.odd_tree.specs.declared.tree.Tree.{Tree, out-Tree}
+use Rattle.odd_tree.proofs.PrintedTrees.{AreLines, HasHead, Shows, attr_of, line_break}
+use Rattle.odd_tree.specs.Elements.{StandsIn, attribute_value, elements_of, shown_elements, given}
+use Rattle.odd_tree.proofs.AmongChildren.{element_shown, text_shown}
+use Rattle.odd_tree.specs.Significant.{is_blank, is_element}
 use Rattle.rng_patterns.specs.Denoting.{IsLeaf, IsNamed, IsPart, parts_of}
 use Rattle.rng_emit.specs.Grammar.{all_of}
 use Rattle.rng_patterns.specs.Names.{relax_ng_namespace}

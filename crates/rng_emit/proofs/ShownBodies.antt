@@ -3,10 +3,10 @@ use Rattle.std.proofs.Common.{◌≡◌, ℕ, List, [], ◌∷◌, ◌++◌, map
 use Rattle.std.specs.Prelude.{All, codes, unwrap_or}
 use Rattle.std.proofs.lemmas.List.Elements.{All-cons, All-head, All-tail}
 use Rattle.odd_base.specs.declared.name.Name.{Name}
-use Rattle.odd_reader.specs.Elements.{given}
-use Rattle.odd_reader.specs.Markup.{Markup, Pair}
-use Rattle.odd_reader.specs.declared.tree.Tree.{Tree}
-use Rattle.odd_reader.proofs.PrintedTrees.{Shows}
+use Rattle.odd_tree.specs.Elements.{given}
+use Rattle.odd_tree.specs.Markup.{Markup, Pair}
+use Rattle.odd_tree.specs.declared.tree.Tree.{Tree}
+use Rattle.odd_tree.proofs.PrintedTrees.{Shows}
 use Rattle.rng_patterns.specs.Denoting as denoting
 use Rattle.rng_patterns.specs.Denoting.{AreDefines, AreOnePattern, HasAttributes, HasNames, IsAnyAttributes, IsBody, IsDefine, IsElementOf, IsNameClass, IsPart, parts_of}
 use Rattle.rng_patterns.specs.Names.{relax_ng_namespace}

@@ -8,11 +8,11 @@ use Rattle.odd_base.specs.declared.name.Name.{Name}
 use Rattle.odd_tokens.specs.Characters.{IsNCName, is_ncname}
 use Rattle.odd_tokens.specs.Lexing.{is_empty}
 use Rattle.odd_tokens.proofs.OneMore.{some_encoded}
-use Rattle.odd_reader.specs.Elements.{given}
-use Rattle.odd_reader.specs.Markup.{Markup}
-use Rattle.odd_reader.specs.declared.tree.Node.{Text}
-use Rattle.odd_reader.specs.declared.tree.Tree.{Tree}
-use Rattle.odd_reader.proofs.PrintedTrees.{HasHead, Shows, text_nodes}
+use Rattle.odd_tree.specs.Elements.{given}
+use Rattle.odd_tree.specs.Markup.{Markup}
+use Rattle.odd_tree.specs.declared.tree.Node.{Text}
+use Rattle.odd_tree.specs.declared.tree.Tree.{Tree}
+use Rattle.odd_tree.proofs.PrintedTrees.{HasHead, Shows, text_nodes}
 use Rattle.rng_patterns.specs.Denoting as denoting
 use Rattle.rng_patterns.specs.Denoting.{AreExcepted, AreSpaceParts, HasExcept, IsNameClass, IsNameOf, IsSpaceOf, IsSpacePart, parts_of}
 use Rattle.rng_patterns.specs.Names.{relax_ng_namespace}

@@ -2,10 +2,10 @@
 use Rattle.std.proofs.Common.{◌≡◌, ℕ, List, [], ◌∷◌, map, refl, ap, subst, ◌∙◌}
 use Rattle.std.specs.Prelude.{All, codes}
 use Rattle.std.proofs.lemmas.List.Elements.{All-nil, All-cons}
-use Rattle.odd_reader.specs.Elements.{StandsIn}
-use Rattle.odd_reader.specs.Markup.{Markup, Pair}
-use Rattle.odd_reader.specs.declared.tree.Tree.{Tree}
-use Rattle.odd_reader.proofs.PrintedTrees.{Shows}
+use Rattle.odd_tree.specs.Elements.{StandsIn}
+use Rattle.odd_tree.specs.Markup.{Markup, Pair}
+use Rattle.odd_tree.specs.declared.tree.Tree.{Tree}
+use Rattle.odd_tree.proofs.PrintedTrees.{Shows}
 use Rattle.rng_patterns.specs.Denoting as denoting
 use Rattle.rng_patterns.specs.Denoting.{AreOnePattern, ArePatterns, IsPart, IsPattern, IsStart, parts_of}
 use Rattle.rng_patterns.specs.Names.{relax_ng_namespace}

@@ -1,6 +1,6 @@
 -- How many elements the text of a grammar has.
 use Rattle.std.specs.Prelude.{ℕ, zero, ◌+◌, map}
-use Rattle.odd_reader.specs.Markup.{Markup, Markups, element, line, none, more}
+use Rattle.odd_tree.specs.Markup.{Markup, Markups, element, line, none, more}
 use Rattle.rng_emit.specs.Grammar.{define_markup, grammar_markup, pattern_markup}
 use Rattle.rng_patterns.specs.declared.grammar.Grammar.{Grammar}
 

@@ -1,5 +1,5 @@
 ghost use Rattle.std.specs.Prelude.{◌≡◌, [], ◌∷◌, ◌++◌, map, OnOk, codes, if◌then◌else◌};
-ghost use Rattle.odd_reader.specs.Markup.{all_printed, attributes_printed, printed};
+ghost use Rattle.odd_tree.specs.Markup.{all_printed, attributes_printed, printed};
 ghost use Rattle.odd_tokens.specs.Same.{is_same};
 ghost use Rattle.rng_patterns.specs.declared.grammar.Body.TheVariants as body;
 ghost use Rattle.rng_emit.specs.Grammar.{all_of, any_attributes, attribute_markup, attributes_markup, body_markup, define_markup, rule_markup};
@@ -8,7 +8,7 @@ use crate::names::{add_names, begin_element};
 use crate::patterns::add_pattern;
 use crate::tags::{add_empty_tag, add_start_tag, begin_tag_with};
 use odd_base::{Name, NoMemory, Text};
-use odd_reader::printing::{add_attribute, add_end_tag, end_start_tag};
+use odd_printing::{add_attribute, add_end_tag, end_start_tag};
 use rng_patterns::{AttrPart, AttrRule, Body, Define, Defines, Expr, NameClass, Rules};
 
 /// Puts the defines of a grammar.

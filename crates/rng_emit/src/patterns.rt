@@ -1,11 +1,11 @@
 ghost use Rattle.std.specs.Prelude.{◌≡◌, [], ◌∷◌, ◌++◌, map, OnOk, codes};
-ghost use Rattle.odd_reader.specs.Markup.{all_printed, printed};
+ghost use Rattle.odd_tree.specs.Markup.{all_printed, printed};
 ghost use Rattle.rng_emit.specs.Grammar.{all_of, named, pattern_markup, plain};
 
 use crate::tags::{add_empty_tag, add_start_tag, begin_tag_with};
 use crate::values::{add_data, add_value};
 use odd_base::{NoMemory, Text};
-use odd_reader::printing::{add_end_tag, end_empty_tag};
+use odd_printing::{add_end_tag, end_empty_tag};
 use rng_patterns::{Expr, Exprs};
 
 /// Puts a pattern as the element of its name.

@@ -1,5 +1,5 @@
 ghost use Rattle.std.specs.Prelude.{◌≡◌, [], ◌∷◌, ◌++◌, IfOk, OnOk, codes};
-ghost use Rattle.odd_reader.specs.Markup.{printed};
+ghost use Rattle.odd_tree.specs.Markup.{printed};
 ghost use Rattle.rng_patterns.specs.Denoting.{DenotesOnly};
 ghost use Rattle.rng_emit.specs.Grammar.{grammar_text, pattern_markup, plain};
 ghost use Rattle.rng_emit.specs.Plain.{IsPlain};
@@ -8,7 +8,7 @@ use crate::bodies::add_defines;
 use crate::patterns::add_pattern;
 use crate::tags::{add_start_tag, begin_tag_with};
 use odd_base::{NoMemory, Text};
-use odd_reader::printing::{add_attribute, add_declaration, add_end_tag, end_start_tag};
+use odd_printing::{add_attribute, add_declaration, add_end_tag, end_start_tag};
 use rng_patterns::{Expr, Grammar};
 use std::alloc::Global;
 

@@ -1,9 +1,9 @@
 ghost use Rattle.std.specs.Prelude.{◌≡◌, ℕ, List, [], ◌∷◌, ◌++◌, OnOk, codes};
-ghost use Rattle.odd_reader.specs.Markup.{Pair, attributes_printed, line, printed};
+ghost use Rattle.odd_tree.specs.Markup.{Pair, attributes_printed, line, printed};
 ghost use Rattle.rng_emit.specs.Grammar.{plain};
 
 use odd_base::{NoMemory, Text};
-use odd_reader::printing::{
+use odd_printing::{
     add_attribute, add_end_tag, add_escaped_text, begin_tag, end_empty_tag, end_start_tag,
 };
 

@@ -1,11 +1,10 @@
 -- What references and choices match: small cases on both sides.
-use Rattle.std.proofs.Common.{◌≡◌, ℕ, false, List, [], ◌∷◌, inl, inr, ⊎_elim, refl, sym, ap, subst, ◌∙◌, codes}
-use Rattle.std.proofs.lemmas.Bool.{false≢true}
-use Rattle.odd_reader.proofs.AmongChildren.{element_shown}
-use Rattle.odd_reader.proofs.InList.{first_or_later, only_item}
-use Rattle.odd_reader.specs.Significant.{Marking}
-use Rattle.odd_reader.specs.declared.tree.Node.{Node, Element}
-use Rattle.odd_reader.specs.declared.tree.Tree.{Tree, out-Tree, roll-Tree}
+use Rattle.std.proofs.Common.{◌≡◌, ℕ, false, List, [], ◌∷◌, inl, inr, refl, sym, ap, subst, ◌∙◌, codes}
+use Rattle.odd_tree.proofs.AmongChildren.{element_shown}
+use Rattle.odd_tree.proofs.InList.{first_or_later, only_item}
+use Rattle.odd_tree.specs.Significant.{Marking}
+use Rattle.odd_tree.specs.declared.tree.Node.{Node, Element}
+use Rattle.odd_tree.specs.declared.tree.Tree.{Tree, out-Tree, roll-Tree}
 use Rattle.odd_tokens.specs.Same.{is_same}
 use Rattle.rng_patterns.proofs.Told.{ref_shown, choice_shown, told}
 use Rattle.rng_patterns.specs.Patterns as patterns
@@ -18,7 +17,7 @@ use Rattle.rng_patterns.specs.declared.grammar.Expr.TheVariants as expr
 use Rattle.rng_patterns.specs.declared.grammar.Expr.{Expr, out-Expr}
 use Rattle.rng_patterns.specs.declared.grammar.Grammar.{Grammar}
 use Rattle.rng_patterns.specs.declared.grammar.NameClass.TheVariants as class
-use Rattle.odd_reader.proofs.StandsNames.{apart}
+use Rattle.odd_tree.proofs.SameTexts.{apart}
 
 -- trees and grammars
 

@@ -2,11 +2,11 @@
 use Rattle.std.proofs.Common.{◌≡◌, ℕ, List, [], ◌∷◌, map, None, refl, sym, ap, subst, ◌∙◌, codes}
 use Rattle.std.specs.FinMap.{find}
 use Rattle.odd_base.specs.Text.{text_cmp}
-use Rattle.odd_reader.proofs.InList.{nothing_stands, only_item, stands_first}
+use Rattle.odd_tree.proofs.InList.{nothing_stands, only_item, stands_first}
 use Rattle.odd_reader.proofs.Spelling.{one_tree}
-use Rattle.odd_reader.specs.Elements.{StandsIn}
-use Rattle.odd_reader.specs.Spelled.{Spells}
-use Rattle.odd_reader.specs.declared.tree.Tree.{Tree}
+use Rattle.odd_tree.specs.Elements.{StandsIn}
+use Rattle.odd_tree.specs.Spelled.{Spells}
+use Rattle.odd_tree.specs.declared.tree.Tree.{Tree}
 use Rattle.odd_tokens.proofs.Distinct.{none_twice}
 use Rattle.rng_patterns.proofs.OneGrammar.{Says, one_order, said, said_once}
 use Rattle.rng_patterns.proofs.SchemaExamples.{not_given, only_ref}

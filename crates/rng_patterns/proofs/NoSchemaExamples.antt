@@ -1,11 +1,11 @@
 -- The namespace of an `element` in a schema, and schemas that stand for no grammar.
 use Rattle.std.proofs.Common.{◌≡◌, ℕ, List, [], ◌∷◌, ◌++◌, inl, inr, refl, sym, ap, ◌∙◌, codes}
 use Rattle.std.proofs.lemmas.List.Elements.{All-head}
-use Rattle.odd_reader.proofs.InList.{first_or_later, only_item}
-use Rattle.odd_reader.specs.Elements.{StandsIn}
-use Rattle.odd_reader.specs.declared.tree.Attr.{Attr}
-use Rattle.odd_reader.specs.declared.tree.Tree.{Tree, out-Tree}
-use Rattle.odd_reader.proofs.StandsNames.{apart}
+use Rattle.odd_tree.proofs.InList.{first_or_later, only_item}
+use Rattle.odd_tree.specs.Elements.{StandsIn}
+use Rattle.odd_tree.specs.declared.tree.Attr.{Attr}
+use Rattle.odd_tree.specs.declared.tree.Tree.{Tree, out-Tree}
+use Rattle.odd_tree.proofs.SameTexts.{apart}
 use Rattle.odd_tokens.proofs.Ascii.{is_name}
 use Rattle.rng_patterns.proofs.SchemaTrees.{element, empty, parts_are, rng, start}
 use Rattle.rng_patterns.specs.Denoting as denoting

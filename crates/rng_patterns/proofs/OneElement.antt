@@ -1,11 +1,11 @@
 -- An element of a schema has one name class, one pattern of its attributes and one content.
 use Rattle.std.proofs.Common.{◌≡◌, ℕ, List, [], ◌∷◌, codes, unwrap_or, refl, sym, ap, subst, ◌∙◌, rules}
 use Rattle.odd_base.specs.declared.name.Name.{Name}
-use Rattle.odd_reader.specs.Elements.{given}
-use Rattle.odd_reader.specs.declared.tree.Node.{Node, Node-F, out-Node, Text}
-use Rattle.odd_reader.specs.declared.tree.Node.TheOpen as shown
-use Rattle.odd_reader.specs.declared.tree.Node as N
-use Rattle.odd_reader.specs.declared.tree.Tree.{Tree}
+use Rattle.odd_tree.specs.Elements.{given}
+use Rattle.odd_tree.specs.declared.tree.Node.{Node, Node-F, out-Node, Text}
+use Rattle.odd_tree.specs.declared.tree.Node.TheOpen as shown
+use Rattle.odd_tree.specs.declared.tree.Node as N
+use Rattle.odd_tree.specs.declared.tree.Tree.{Tree}
 use Rattle.rng_patterns.specs.Denoting.{AreExcepted, AreOnePattern, AreSpaceParts, HasAttributes, HasExcept, HasNames, IsAnyAttributes, IsElementOf, IsNameClass, IsNameOf, IsPattern, IsSpacePart, parts_of}
 use Rattle.rng_patterns.specs.Denoting as denoting
 use Rattle.rng_patterns.specs.declared.grammar.AttrPart.{AttrPart}

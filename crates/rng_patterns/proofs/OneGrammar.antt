@@ -6,8 +6,8 @@ use Rattle.std.specs.FinMap.{find, is_sorted, slice_cmp-IsAntisymmetric, nat_cmp
 use Rattle.odd_base.specs.Text.{text_cmp}
 use Rattle.odd_base.proofs.Entries.{same_map}
 use Rattle.odd_reader.proofs.Spelling.{one_tree}
-use Rattle.odd_reader.specs.Elements.{given}
-use Rattle.odd_reader.specs.declared.tree.Tree.{Tree}
+use Rattle.odd_tree.specs.Elements.{given}
+use Rattle.odd_tree.specs.declared.tree.Tree.{Tree}
 use Rattle.rng_patterns.specs.Denoting.{AreDefines, Denotes, IsBody, IsDefine, IsPattern, IsStart, StandsFor, entry_of, parts_of}
 use Rattle.rng_patterns.specs.Denoting as denoting
 use Rattle.rng_patterns.specs.declared.grammar.Body.{Body}

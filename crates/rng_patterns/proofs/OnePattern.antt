@@ -3,9 +3,9 @@ use Rattle.std.proofs.Common.{◌≡◌, ℕ, false, List, [], ◌∷◌, codes,
 use Rattle.std.proofs.lemmas.Bool.{false≢true}
 use Rattle.std.proofs.lemmas.Option.{same_Some}
 use Rattle.odd_tokens.specs.Same.{is_same}
-use Rattle.odd_reader.proofs.StandsNames.{same_from}
-use Rattle.odd_reader.specs.Elements.{given}
-use Rattle.odd_reader.specs.declared.tree.Tree.{Tree, out-Tree}
+use Rattle.odd_tree.proofs.SameTexts.{same_from}
+use Rattle.odd_tree.specs.Elements.{given}
+use Rattle.odd_tree.specs.declared.tree.Tree.{Tree, out-Tree}
 use Rattle.rng_patterns.specs.Denoting.{AreOnePattern, ArePatterns, HasName, IsLeaf, IsNamed, IsPart, IsPattern, grouped, parts_of}
 use Rattle.rng_patterns.specs.Denoting as denoting
 use Rattle.rng_patterns.specs.Names.{relax_ng}

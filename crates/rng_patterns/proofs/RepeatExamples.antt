@@ -1,8 +1,8 @@
 -- What groups, optional parts and repeated ones match: small cases on both sides.
 use Rattle.std.proofs.Common.{◌≡◌, ℕ, suc, false, List, [], ◌∷◌, ◌++◌, ◌⊎◌, inl, inr, refl, ap, subst, ◌∙◌, codes}
 use Rattle.odd_tokens.specs.Same.{is_same}
-use Rattle.odd_reader.specs.declared.tree.Node.{Node, Element}
-use Rattle.odd_reader.specs.declared.tree.Tree.{Tree}
+use Rattle.odd_tree.specs.declared.tree.Node.{Node, Element}
+use Rattle.odd_tree.specs.declared.tree.Tree.{Tree}
 use Rattle.rng_patterns.proofs.Examples.{Matches, a, a_matched, b, b_matched, b_not_a, by_name, one_alone, other_name, ref_a, ref_b, sample, two_not_a}
 use Rattle.rng_patterns.proofs.Told.{group_shown, one_or_more_shown, optional_shown, told, zero_or_more_shown}
 use Rattle.rng_patterns.specs.Patterns as patterns

@@ -3,14 +3,14 @@ use Rattle.std.proofs.Common.{◌≡◌, ℕ, Bool, true, ◌||◌, cond, List, 
 use Rattle.std.specs.List.{list_all}
 use Rattle.std.proofs.lemmas.Bool.{and_parts}
 use Rattle.std.proofs.lemmas.List.Elements.{All-cons, All-nil}
-use Rattle.odd_reader.proofs.AmongChildren.{element_shown}
-use Rattle.odd_reader.proofs.InList.{stands_first}
-use Rattle.odd_reader.specs.Elements.{StandsIn, elements_of}
-use Rattle.odd_reader.specs.Significant.{is_blank, is_element}
-use Rattle.odd_reader.specs.declared.tree.Attr.{Attr}
-use Rattle.odd_reader.specs.declared.tree.Node as N
-use Rattle.odd_reader.specs.declared.tree.Node.{Element}
-use Rattle.odd_reader.specs.declared.tree.Tree.{Tree, out-Tree, roll-Tree}
+use Rattle.odd_tree.proofs.AmongChildren.{element_shown}
+use Rattle.odd_tree.proofs.InList.{stands_first}
+use Rattle.odd_tree.specs.Elements.{StandsIn, elements_of}
+use Rattle.odd_tree.specs.Significant.{is_blank, is_element}
+use Rattle.odd_tree.specs.declared.tree.Attr.{Attr}
+use Rattle.odd_tree.specs.declared.tree.Node as N
+use Rattle.odd_tree.specs.declared.tree.Node.{Element}
+use Rattle.odd_tree.specs.declared.tree.Tree.{Tree, out-Tree, roll-Tree}
 use Rattle.odd_tokens.proofs.Ascii.{is_ascii_name, is_name}
 use Rattle.odd_tokens.specs.Same.{is_same}
 use Rattle.rng_patterns.specs.Denoting as denoting

@@ -1,11 +1,11 @@
 -- What a match, or a reference, tells of a pattern whose kind is known.
 use Rattle.std.proofs.Common.{◌≡◌, ℕ, suc, false, List, [], ◌∷◌, ◌⊎◌, inl, inr, refl, sym, ap, subst, ◌∙◌, rules}
 use Rattle.std.specs.List.{list_any}
-use Rattle.odd_reader.proofs.InList.{stands_first}
-use Rattle.odd_reader.specs.Elements.{StandsIn}
-use Rattle.odd_reader.specs.Significant.{Marking, is_element}
-use Rattle.odd_reader.specs.declared.tree.Node.{Node, Element}
-use Rattle.odd_reader.specs.declared.tree.Tree.{Tree}
+use Rattle.odd_tree.proofs.InList.{stands_first}
+use Rattle.odd_tree.specs.Elements.{StandsIn}
+use Rattle.odd_tree.specs.Significant.{Marking, is_element}
+use Rattle.odd_tree.specs.declared.tree.Node.{Node, Element}
+use Rattle.odd_tree.specs.declared.tree.Tree.{Tree}
 use Rattle.rng_patterns.specs.Linked.{HasPart, RefersTo}
 use Rattle.rng_patterns.specs.Linked as linked
 use Rattle.rng_patterns.specs.Patterns.{AreMatched, DefinesElement, IsDefined, IsMatched, IsRepeated}

@@ -7,11 +7,11 @@ use Rattle.odd_base.specs.declared.name.Name.{Name}
 use Rattle.odd_tokens.specs.Characters.{IsNCName}
 use Rattle.odd_tokens.specs.Same.{is_same}
 use Rattle.odd_tokens.specs.Tokens.{NoneTwice}
-use Rattle.odd_reader.specs.Elements.{StandsIn, children_of, given}
-use Rattle.odd_reader.specs.Significant.{is_blank, is_element}
-use Rattle.odd_reader.specs.Spelled.{Spells}
-use Rattle.odd_reader.specs.declared.tree.Node.{Text}
-use Rattle.odd_reader.specs.declared.tree.Tree.{Tree, out-Tree}
+use Rattle.odd_tree.specs.Elements.{StandsIn, children_of, given}
+use Rattle.odd_tree.specs.Significant.{is_blank, is_element}
+use Rattle.odd_tree.specs.Spelled.{Spells}
+use Rattle.odd_tree.specs.declared.tree.Node.{Text}
+use Rattle.odd_tree.specs.declared.tree.Tree.{Tree, out-Tree}
 use Rattle.rng_patterns.specs.Linked.{IsLinked, names_of}
 use Rattle.rng_patterns.specs.Names.{datatype_library, relax_ng, relax_ng_namespace}
 use Rattle.rng_patterns.specs.declared.grammar.AttrPart.TheVariants as attributes

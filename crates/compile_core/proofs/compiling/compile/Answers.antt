@@ -5,7 +5,7 @@ use Rattle.std.specs.Option.{option_copied}
 use Rattle.rng_patterns.specs.declared.grammar.Grammar.{Grammar}
 use Rattle.compile_defines.specs.Blocks.{grammar_with}
 use Rattle.compile_defines.specs.Compiled.{IsGrammarOf}
-use Rattle.compile_defines.specs.Contents.{listed_in}
+use Rattle.compile_contents.specs.Contents.{listed_in}
 use Rattle.compile_core.specs.Schema.{IsLeast, IsTooLarge}
 use Rattle.compile_core.proofs.BlocksSet.{made}
 use Rattle.compile_laws.proofs.Correct.{accepts_admitted}

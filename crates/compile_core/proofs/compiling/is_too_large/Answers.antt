@@ -1,6 +1,6 @@
 use Rattle.std.proofs.Common.{◌≤◌, refl, arith}
 use Rattle.std.proofs.lemmas.Grind.{common_steps}
-use Rattle.compile_defines.specs.Contents.{listed_in}
+use Rattle.compile_contents.specs.Contents.{listed_in}
 use Rattle.compile_core.proofs.TooLarge.{neither_passes, nodes_pass, text_passes}
 use Rattle.compile_core.proofs.compiling.is_too_large.Goals as goal
 

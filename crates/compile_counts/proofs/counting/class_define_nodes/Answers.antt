@@ -3,8 +3,7 @@ use Rattle.std.specs.Prelude.{sum_by}
 use Rattle.rng_emit.specs.Grammar.{define_markup}
 use Rattle.rng_emit.specs.Nodes.{elements_in}
 use Rattle.compile_defines.specs.Blocks.{listed_defines}
-use Rattle.compile_defines.specs.Compiled.{references_pattern}
-use Rattle.compile_defines.specs.Contents.{class_name}
+use Rattle.compile_contents.specs.Contents.{class_name, references_pattern}
 use Rattle.compile_counts.specs.Counted.{counted}
 use Rattle.compile_counts.proofs.DefineCounts.{define_counted, references_counted}
 use Rattle.compile_counts.proofs.counting.class_define_nodes.Goals as goal

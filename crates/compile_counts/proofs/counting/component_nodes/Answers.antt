@@ -3,7 +3,7 @@ use Rattle.std.specs.Prelude.{sum_by}
 use Rattle.rng_emit.specs.Grammar.{define_markup}
 use Rattle.rng_emit.specs.Nodes.{elements_in}
 use Rattle.compile_defines.specs.Blocks.{entry_defines}
-use Rattle.compile_defines.specs.Contents.{content_pattern, define_name, listed_in, macro_name}
+use Rattle.compile_contents.specs.Contents.{content_pattern, define_name, listed_in, macro_name}
 use Rattle.compile_counts.specs.Counted.{counted}
 use Rattle.compile_counts.proofs.DefineCounts.{define_counted, element_counted}
 use Rattle.compile_counts.proofs.PatternCounts.{elements_measured, pattern_elements}

@@ -6,7 +6,7 @@ use Rattle.odd_decls.specs.declared.library.Component.{Component}
 use Rattle.rng_emit.specs.Grammar.{define_markup}
 use Rattle.rng_emit.specs.Nodes.{elements_in}
 use Rattle.compile_defines.specs.Blocks.{class_defines, element_defines, entry_defines, macro_defines}
-use Rattle.compile_defines.specs.Contents.{listed_in}
+use Rattle.compile_contents.specs.Contents.{listed_in}
 use Rattle.compile_counts.specs.Counted.{counted}
 use Rattle.compile_counts.proofs.Counts.{counted_step}
 use Rattle.compile_counts.proofs.Sums.{three_of_each}

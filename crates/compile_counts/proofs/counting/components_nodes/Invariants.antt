@@ -4,7 +4,7 @@ use Rattle.odd_content.specs.declared.content.Condition.{Condition}
 use Rattle.rng_emit.specs.Grammar.{define_markup}
 use Rattle.rng_emit.specs.Nodes.{elements_in}
 use Rattle.compile_defines.specs.Blocks.{entry_defines}
-use Rattle.compile_defines.specs.Contents.{listed_in}
+use Rattle.compile_contents.specs.Contents.{listed_in}
 use Rattle.compile_counts.specs.Counted.{counted}
 use Rattle.compile_counts.proofs.counting.components_nodes.Given as goal
 

@@ -1,5 +1,5 @@
 use Rattle.std.proofs.Common.{◌∙◌, length, sym, ap}
-use Rattle.compile_defines.specs.Contents.{listed_in}
+use Rattle.compile_contents.specs.Contents.{listed_in}
 use Rattle.compile_counts.proofs.MemberCounts.{picked_counted}
 use Rattle.compile_counts.proofs.counting.members_nodes.Goals as goal
 

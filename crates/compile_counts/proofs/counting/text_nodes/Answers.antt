@@ -1,7 +1,6 @@
 use Rattle.std.proofs.Common.{◌∙◌, sym, ap}
 use Rattle.compile_defines.specs.Blocks.{component_defines}
-use Rattle.compile_defines.specs.Compiled.{references_pattern}
-use Rattle.compile_defines.specs.Contents.{listed_in}
+use Rattle.compile_contents.specs.Contents.{listed_in, references_pattern}
 use Rattle.compile_counts.specs.Counted.{counted}
 use Rattle.compile_counts.proofs.Counts.{counted_more, counted_sum}
 use Rattle.compile_counts.proofs.DefineCounts.{references_counted, text_parts}

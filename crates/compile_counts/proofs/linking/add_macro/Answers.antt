@@ -7,7 +7,7 @@ use Rattle.odd_base.specs.Text.{text_cmp}
 use Rattle.odd_decls.specs.declared.library.Component.TheVariants as component
 use Rattle.odd_meaning.specs.Links.{macro_key}
 use Rattle.rng_patterns.specs.Nodes.{nodes}
-use Rattle.compile_defines.specs.Contents.{listed_in}
+use Rattle.compile_contents.specs.Contents.{listed_in}
 use Rattle.compile_counts.specs.Counted.{counted}
 use Rattle.compile_counts.specs.Linking.{macro_in}
 use Rattle.compile_counts.proofs.LinkedWeights.{macro_weighed}

@@ -1,6 +1,6 @@
 use Rattle.std.proofs.Common.{[], List, ℕ}
 use Rattle.odd_meaning.specs.Classes.{Members}
-use Rattle.odd_reader.specs.Elements.{StandsIn}
+use Rattle.odd_tree.specs.Elements.{StandsIn}
 use Rattle.compile_counts.specs.Linking.{AreWeightsOf}
 use Rattle.compile_counts.proofs.linking.add_places.Given as goal
 

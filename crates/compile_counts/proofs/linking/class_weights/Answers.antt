@@ -2,11 +2,11 @@ use Rattle.std.proofs.Common.{◌∙◌, ◌+◌, ◌<◌, ◌≤◌, [], ◌∷
 use Rattle.std.proofs.lemmas.List.{take-append-drop, take_all}
 use Rattle.odd_base.specs.Map.{SetsOnly}
 use Rattle.odd_base.specs.Text.{text_cmp}
-use Rattle.odd_reader.specs.Elements.{StandsIn}
-use Rattle.odd_reader.proofs.InList.{ends}
+use Rattle.odd_tree.specs.Elements.{StandsIn}
+use Rattle.odd_tree.proofs.InList.{ends}
 use Rattle.compile_counts.proofs.ClassWeights.{AreClassWeights, class_put, classes_weighed}
 use Rattle.compile_counts.proofs.LinkedParts.{references_counted}
-use Rattle.compile_defines.proofs.Standing.{stands_left}
+use Rattle.compile_contents.proofs.Standing.{stands_left}
 use Rattle.compile_counts.proofs.linking.class_weights.Goals as goal
 
 pub loop-class-preserved : goal.loop-class-preserved

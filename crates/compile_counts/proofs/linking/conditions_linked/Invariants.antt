@@ -1,10 +1,10 @@
 use Rattle.std.proofs.Common.{◌≡◌, List, ℕ, take}
 use Rattle.std.specs.Prelude.{All, sum_by}
 use Rattle.odd_content.specs.declared.content.Condition.{Condition}
-use Rattle.odd_reader.specs.Elements.{StandsIn}
+use Rattle.odd_tree.specs.Elements.{StandsIn}
 use Rattle.rng_patterns.specs.Nodes.{element_nodes}
 use Rattle.compile_defines.specs.Blocks.{IsConditionDefine}
-use Rattle.compile_defines.specs.Contents.{condition_name}
+use Rattle.compile_contents.specs.Contents.{condition_name}
 use Rattle.compile_counts.specs.Counted.{counted}
 use Rattle.compile_counts.proofs.linking.conditions_linked.Given as goal
 

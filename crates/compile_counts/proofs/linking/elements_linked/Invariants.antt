@@ -3,7 +3,7 @@ use Rattle.std.specs.Prelude.{sum_by}
 use Rattle.odd_content.specs.declared.content.Condition.{Condition}
 use Rattle.rng_patterns.specs.Nodes.{element_nodes}
 use Rattle.compile_defines.specs.Blocks.{element_defines}
-use Rattle.compile_defines.specs.Contents.{listed_in}
+use Rattle.compile_contents.specs.Contents.{listed_in}
 use Rattle.compile_counts.specs.Counted.{counted}
 use Rattle.compile_counts.specs.Linking.{AreLinkedWeights, HoldsConditions, IsLinkedCount}
 use Rattle.compile_counts.proofs.linking.elements_linked.Given as goal

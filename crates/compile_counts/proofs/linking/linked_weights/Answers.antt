@@ -1,9 +1,9 @@
 use Rattle.std.proofs.Common.{◌≡◌, ◌∙◌, ◌+◌, ◌∷◌, ◌++◌, drop, sym, ap, subst, take}
 use Rattle.std.proofs.lemmas.List.{take-append-drop, take_all}
 use Rattle.odd_classes.specs.Ranking.{IsMacroOrder}
-use Rattle.odd_reader.specs.Elements.{StandsIn}
-use Rattle.odd_reader.proofs.InList.{begins, ends}
-use Rattle.compile_defines.specs.Contents.{listed_in}
+use Rattle.odd_tree.specs.Elements.{StandsIn}
+use Rattle.odd_tree.proofs.InList.{begins, ends}
+use Rattle.compile_contents.specs.Contents.{listed_in}
 use Rattle.compile_counts.specs.Linking.{AreWeightsOf}
 use Rattle.compile_counts.proofs.MacroAdded.{all_known}
 use Rattle.compile_counts.proofs.linking.linked_weights.Goals as goal

@@ -1,7 +1,7 @@
 use Rattle.std.proofs.Common.{List, ℕ, take}
 use Rattle.odd_content.specs.declared.content.Condition.{Condition}
-use Rattle.odd_reader.specs.Elements.{StandsIn}
-use Rattle.compile_defines.specs.Contents.{listed_in}
+use Rattle.odd_tree.specs.Elements.{StandsIn}
+use Rattle.compile_contents.specs.Contents.{listed_in}
 use Rattle.compile_counts.specs.Linking.{AreWeightsOf, HoldsConditions, IsLinkedCount}
 use Rattle.compile_counts.proofs.linking.linked_weights.Given as goal
 

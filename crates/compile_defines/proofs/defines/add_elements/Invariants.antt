@@ -1,7 +1,7 @@
 use Rattle.std.proofs.Common.{◌≡◌, ◌++◌, take}
 use Rattle.std.specs.Prelude.{flat_map}
 use Rattle.compile_defines.specs.Blocks.{element_defines}
-use Rattle.compile_defines.specs.Contents.{listed_in}
+use Rattle.compile_contents.specs.Contents.{listed_in}
 use Rattle.compile_defines.proofs.defines.add_elements.Given as goal
 
 abbrev pub invariant-loop-key : goal.invariant-loop-key

@@ -1,7 +1,7 @@
 use Rattle.std.proofs.Common.{refl, sym, subst, ◌∙◌, ⊎_elim}
 use Rattle.std.proofs.lemmas.Bool.{false≢true}
-use Rattle.odd_reader.specs.Elements.{StandsIn}
-use Rattle.odd_reader.proofs.InList.{StandsOnce, ends, nothing_stands, once_push, standing}
+use Rattle.odd_tree.specs.Elements.{StandsIn}
+use Rattle.odd_tree.proofs.InList.{StandsOnce, ends, nothing_stands, once_push, standing}
 use Rattle.odd_classes.specs.Placing.{IsWrong}
 use Rattle.odd_classes.proofs.rules.names.Goals as goal
 

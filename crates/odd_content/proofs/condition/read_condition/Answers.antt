@@ -3,8 +3,8 @@ use Rattle.std.proofs.Common.{◌≡◌, map, take, refl, sym, subst, ◌∙◌}
 use Rattle.std.specs.Prelude.{codes}
 use Rattle.std.proofs.lemmas.List.{take_all}
 use Rattle.odd_base.specs.Text.{text_cmp}
-use Rattle.odd_reader.specs.Elements.{StandsIn, all_binds}
-use Rattle.odd_reader.proofs.InList.{ends}
+use Rattle.odd_tree.specs.Elements.{StandsIn, all_binds}
+use Rattle.odd_tree.proofs.InList.{ends}
 use Rattle.odd_forms.specs.Sorted.{IsSet}
 use Rattle.odd_content.specs.Excepting.{IsReadAs}
 use Rattle.odd_content.proofs.Sorting.{name_sorted, names_set, none_sorted, same_sorted, space_sorted, spaces_set, unbound_sorted}

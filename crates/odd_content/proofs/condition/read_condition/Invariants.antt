@@ -1,5 +1,5 @@
 use Rattle.std.proofs.Common.{map, take}
-use Rattle.odd_reader.specs.Elements.{all_binds}
+use Rattle.odd_tree.specs.Elements.{all_binds}
 use Rattle.odd_content.proofs.Sorting.{AreSorted}
 use Rattle.odd_content.proofs.condition.read_condition.Given as goal
 

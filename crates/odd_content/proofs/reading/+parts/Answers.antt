@@ -2,7 +2,7 @@ use Rattle.std.proofs.Common.{◌≡◌, ◌++◌, Some, map, ap, subst, sym, �
 use Rattle.std.specs.Prelude.{is_some}
 use Rattle.std.proofs.lemmas.Bool.{eq-eqb, eqb-true}
 use Rattle.std.proofs.lemmas.List.{drop_all}
-use Rattle.odd_reader.specs.Elements.{all_binds, elements_of, within}
+use Rattle.odd_tree.specs.Elements.{all_binds, elements_of, within}
 use Rattle.odd_forms.specs.Faults.{FormFault}
 use Rattle.odd_forms.specs.Least.{IsLeast}
 use Rattle.odd_content.specs.Breaking.{PartFault, PartsFault}

@@ -1,5 +1,5 @@
 use Rattle.std.proofs.Common.{drop, map}
-use Rattle.odd_reader.specs.Elements.{all_binds, elements_of}
+use Rattle.odd_tree.specs.Elements.{all_binds, elements_of}
 use Rattle.odd_content.proofs.Parts.{PartsSoFar}
 use Rattle.odd_content.proofs.reading.+parts.Given as goal
 

@@ -1,6 +1,6 @@
 use Rattle.std.proofs.Common.{◌≡◌, ◌↔◌, ◌++◌, map, ap, subst, ◌∙◌}
 use Rattle.std.specs.Prelude.{IsTrue}
-use Rattle.odd_reader.specs.Elements.{all_binds, within}
+use Rattle.odd_tree.specs.Elements.{all_binds, within}
 use Rattle.odd_content.specs.Excepting.{HasUnbound, IsConditionOf}
 use Rattle.odd_content.specs.Giving.{IsPart}
 use Rattle.odd_content.proofs.Faults.{any_inner, unbound_least}

@@ -1,5 +1,5 @@
 use Rattle.std.proofs.Common.{◌≡◌, Some, map, subst}
-use Rattle.odd_reader.specs.Elements.{all_binds}
+use Rattle.odd_tree.specs.Elements.{all_binds}
 use Rattle.odd_forms.specs.Faults.{FormFault}
 use Rattle.odd_forms.specs.Least.{IsLeast}
 use Rattle.odd_content.specs.Breaking.{ContentFault}

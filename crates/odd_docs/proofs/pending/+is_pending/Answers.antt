@@ -1,11 +1,11 @@
 use Rattle.std.proofs.Common.{ap, refl, subst, sym, ◌∙◌}
 use Rattle.std.proofs.lemmas.Bool.{false≢true}
 use Rattle.std.proofs.lemmas.List.{drop_all}
-use Rattle.odd_reader.specs.Elements.{children_of, elements_of}
-use Rattle.odd_reader.proofs.AmongChildren.{child_stands}
-use Rattle.odd_reader.proofs.InList.{nothing_stands}
+use Rattle.odd_tree.specs.Elements.{children_of, elements_of}
+use Rattle.odd_tree.proofs.AmongChildren.{child_stands}
+use Rattle.odd_tree.proofs.InList.{nothing_stands}
 use Rattle.odd_content.proofs.Parts.{element_first}
-use Rattle.odd_docs.specs.Pending.{HoldsForm, here, inside}
+use Rattle.odd_items.specs.Pending.{HoldsForm, here, inside}
 use Rattle.odd_docs.proofs.Finding.{text_first}
 use Rattle.odd_docs.proofs.Holding.{SomeHolds, none_held, none_holds}
 use Rattle.odd_docs.proofs.pending.+is_pending.Goals as goal

@@ -1,5 +1,5 @@
 use Rattle.std.proofs.Common.{drop}
-use Rattle.odd_reader.specs.Elements.{children_of, elements_of}
+use Rattle.odd_tree.specs.Elements.{children_of, elements_of}
 use Rattle.odd_docs.proofs.Holding.{SomeHolds}
 use Rattle.odd_docs.proofs.pending.+is_pending.Given as goal
 

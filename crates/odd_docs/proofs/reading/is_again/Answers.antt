@@ -1,5 +1,5 @@
 use Rattle.std.proofs.Common.{subst}
-use Rattle.odd_docs.specs.Reading.{IsKeyOf}
+use Rattle.odd_items.specs.Reading.{IsKeyOf}
 use Rattle.odd_docs.proofs.Repeats.{keys_added, keys_same, no_key_again, told_by_set}
 use Rattle.odd_docs.proofs.reading.is_again.Goals as goal
 

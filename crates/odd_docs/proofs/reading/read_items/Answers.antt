@@ -1,6 +1,6 @@
 use Rattle.std.proofs.Common.{None, Some, map, refl, sym, subst, ◌∙◌}
-use Rattle.odd_reader.specs.Elements.{all_binds}
-use Rattle.odd_docs.specs.Reading.{GivesEntry}
+use Rattle.odd_tree.specs.Elements.{all_binds}
+use Rattle.odd_items.specs.Reading.{GivesEntry}
 use Rattle.odd_docs.proofs.ItemsRead.{item_broken, item_passed, no_items}
 use Rattle.odd_members.proofs.MemberFaults.{first_none}
 use Rattle.odd_docs.proofs.Repeats.{least_after}

@@ -1,5 +1,5 @@
 use Rattle.std.proofs.Common.{map}
-use Rattle.odd_reader.specs.Elements.{all_binds}
+use Rattle.odd_tree.specs.Elements.{all_binds}
 use Rattle.odd_docs.proofs.ItemsRead.{ItemsSoFar}
 use Rattle.odd_docs.proofs.reading.read_items.Given as goal
 

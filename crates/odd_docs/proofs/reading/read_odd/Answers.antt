@@ -1,6 +1,6 @@
 use Rattle.std.proofs.Common.{◌≡◌, subst}
 use Rattle.std.proofs.lemmas.Bool.{both_ways}
-use Rattle.odd_docs.specs.Pending.{form}
+use Rattle.odd_items.specs.Pending.{form}
 use Rattle.odd_docs.specs.declared.reading.Read.TheVariants as read
 use Rattle.odd_docs.proofs.Refusing.{IsFileRead, declares_of, file_read, none_pending, offence_of, refusal_of, told_as}
 use Rattle.odd_docs.proofs.reading.read_odd.Goals as goal

@@ -1,5 +1,5 @@
 use Rattle.std.proofs.Common.{drop, map}
-use Rattle.odd_reader.specs.Elements.{children_of, elements_of}
+use Rattle.odd_tree.specs.Elements.{children_of, elements_of}
 use Rattle.odd_docs.proofs.Finding.{AddsSoFar}
 use Rattle.odd_docs.proofs.searching.+find_schemas.Given as goal
 

@@ -1,5 +1,5 @@
 use Rattle.std.proofs.Common.{drop}
-use Rattle.odd_reader.specs.Elements.{children_of, elements_of}
+use Rattle.odd_tree.specs.Elements.{children_of, elements_of}
 use Rattle.odd_docs.proofs.Finding.{FoundInRest}
 use Rattle.odd_docs.proofs.searching.+path_to_first.Given as goal
 

@@ -1,6 +1,6 @@
 use Rattle.std.proofs.Common.{◌++◌, ◌∷◌, [], take, ap, append_assoc, sym, ◌∙◌}
 use Rattle.std.proofs.lemmas.List.{append-nil, take_all}
-use Rattle.odd_reader.proofs.InList.{ends}
+use Rattle.odd_tree.proofs.InList.{ends}
 use Rattle.odd_docs.proofs.searching.add_binds.Goals as goal
 
 pub loop-bind-init : goal.loop-bind-init

@@ -1,5 +1,5 @@
 use Rattle.std.proofs.Common.{◌≡◌, ◌++◌, map, reverse}
-use Rattle.odd_reader.specs.Elements.{all_binds}
+use Rattle.odd_tree.specs.Elements.{all_binds}
 use Rattle.odd_docs.proofs.searching.binds_along.Given as goal
 
 abbrev pub invariant-loop-scope : goal.invariant-loop-scope

@@ -4,8 +4,8 @@ use Rattle.std.proofs.lemmas.Cmp.{nat_list_cmp_total}
 use Rattle.std.proofs.lemmas.Result.{IfOk-weaker}
 use Rattle.std.specs.FinMap.{find, slice_cmp-IsAntisymmetric, nat_cmp-IsAntisymmetric}
 use Rattle.odd_base.specs.Text.{text_cmp}
-use Rattle.odd_reader.specs.Elements.{StandsIn}
-use Rattle.odd_reader.proofs.InList.{ends}
+use Rattle.odd_tree.specs.Elements.{StandsIn}
+use Rattle.odd_tree.proofs.InList.{ends}
 use Rattle.odd_forms.specs.Sorted.{IsSet, set_of}
 use Rattle.odd_forms.proofs.OneSet.{one_set}
 use Rattle.odd_members.specs.Membership.{takes}

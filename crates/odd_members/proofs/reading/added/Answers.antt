@@ -4,7 +4,7 @@ use Rattle.std.proofs.lemmas.Cmp.{nat_list_cmp_total}
 use Rattle.std.specs.FinMap.{slice_cmp-IsAntisymmetric, nat_cmp-IsAntisymmetric}
 use Rattle.odd_base.proofs.Entries.{as_T}
 use Rattle.odd_base.specs.Text.{text_cmp}
-use Rattle.odd_reader.proofs.InList.{ends}
+use Rattle.odd_tree.proofs.InList.{ends}
 use Rattle.odd_forms.specs.Sorted.{IsSet}
 use Rattle.odd_members.specs.Members.{IsAddedBy}
 use Rattle.odd_members.proofs.AddedWords.{added_are, added_keys}

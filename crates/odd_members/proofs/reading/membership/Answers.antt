@@ -1,5 +1,5 @@
 use Rattle.std.proofs.Common.{sym, ◌∙◌}
-use Rattle.odd_reader.specs.Elements.{children_of}
+use Rattle.odd_tree.specs.Elements.{children_of}
 use Rattle.odd_members.specs.Members.{IsMembershipOf}
 use Rattle.odd_members.proofs.ClassesFaults.{added_named}
 use Rattle.odd_members.proofs.reading.membership.Goals as goal

@@ -5,7 +5,7 @@ use Rattle.std.specs.Option.{option_copied}
 use Rattle.odd_base.specs.Map.{SetsOnly}
 use Rattle.odd_base.specs.Text.{text_cmp}
 use Rattle.odd_tokens.specs.Characters.{IsNCName}
-use Rattle.odd_reader.specs.Elements.{given}
+use Rattle.odd_tree.specs.Elements.{given}
 use Rattle.odd_forms.specs.Faults.{FormFault}
 use Rattle.odd_forms.specs.Least.{IsLeast}
 use Rattle.odd_members.specs.Members.{IsMemberOf, adds}

@@ -4,9 +4,9 @@ use Rattle.std.specs.Prelude.{IfErr}
 use Rattle.std.specs.Str.{encode_utf8_all}
 use Rattle.std.specs.Str.Iter.{char_indices_offset, char_indices_rest}
 use Rattle.odd_tokens.specs.Tokens.{size_of}
-use Rattle.odd_reader.specs.Formed.{IsFormed}
+use Rattle.odd_tree.specs.Formed.{IsFormed}
 use Rattle.odd_reader.specs.Reading.{HasRead}
-use Rattle.odd_reader.specs.Spelled.{DepthPlace, GivesTree, IsNotXml}
+use Rattle.odd_tree.specs.Spelled.{DepthPlace, GivesTree, IsNotXml}
 use Rattle.odd_reader.specs.declared.reader.ReadRefusal.{ReadRefusal}
 use Rattle.odd_reader.specs.declared.reader.ReadRefusal.TheVariants as refusal
 use Rattle.odd_reader.specs.declared.reader.Reader.{Reader}

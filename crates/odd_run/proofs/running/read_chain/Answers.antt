@@ -1,7 +1,7 @@
 use Rattle.std.proofs.Common.{◌≡◌, ◌+◌, ◌≤◌, suc, [], length, ap, refl, subst, sym, ◌∙◌, arith}
 use Rattle.std.specs.Prelude.{IfErr, IsTrue}
 use Rattle.odd_base.specs.Count.{next_count}
-use Rattle.odd_reader.proofs.InList.{nothing_stands}
+use Rattle.odd_tree.proofs.InList.{nothing_stands}
 use Rattle.odd_run.specs.Reading.{IsOfFile}
 use Rattle.odd_run.specs.Reply.{FileStops, GiveTrees}
 use Rattle.odd_run.specs.Running.{IsReplied}

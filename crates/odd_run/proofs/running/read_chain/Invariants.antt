@@ -1,5 +1,5 @@
 use Rattle.std.proofs.Common.{◌≡◌, ◌≤◌, ◌<◌, ◌+◌, ◌*◌, [], Some, take}
-use Rattle.odd_base.specs.Shelf.{FileMap}
+use Rattle.odd_outside.specs.Shelf.{FileMap}
 use Rattle.odd_run.specs.Reading.{IsChainRead}
 use Rattle.odd_run.specs.Reply.{file_bytes}
 use Rattle.odd_run.specs.Running.{counted}

@@ -1,5 +1,5 @@
 use Rattle.std.proofs.Common.{ap, subst, Err}
-use Rattle.odd_reader.specs.Spelled.{DepthPlace, IsNotXml}
+use Rattle.odd_tree.specs.Spelled.{DepthPlace, IsNotXml}
 use Rattle.odd_run.specs.Reply.{FileStops}
 use Rattle.odd_run.proofs.running.read_file.Goals as goal
 

@@ -1,5 +1,5 @@
 use Rattle.std.proofs.Common.{◌≡◌, ◌++◌, map, take}
-use Rattle.odd_reader.specs.Markup.{all_printed}
+use Rattle.odd_tree.specs.Markup.{all_printed}
 use Rattle.rng_emit.specs.Grammar.{all_of, space_markup}
 use Rattle.rng_emit.proofs.names.add_excepted_spaces.Given as goal
 

@@ -1,6 +1,6 @@
 use Rattle.std.proofs.Common.{◌++◌, map, ap, sym, ◌∙◌}
 use Rattle.std.proofs.lemmas.Result.{on_ok_weaker}
-use Rattle.odd_reader.specs.Markup.{printed}
+use Rattle.odd_tree.specs.Markup.{printed}
 use Rattle.rng_emit.specs.Grammar.{pattern_markup}
 use Rattle.rng_emit.proofs.Shapes.{full_plain, not_allowed_is, printed_more, some_made}
 use Rattle.rng_emit.proofs.patterns.+patterns.Goals as goal

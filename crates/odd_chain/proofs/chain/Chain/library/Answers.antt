@@ -1,8 +1,8 @@
 use Rattle.std.proofs.Common.{◌≡◌, ℕ, List, Result, Ok, Err, IfOk, IsOk, refl, subst}
-use Rattle.odd_reader.specs.declared.tree.Tree.{Tree}
+use Rattle.odd_tree.specs.declared.tree.Tree.{Tree}
 use Rattle.odd_decls.specs.declared.library.Library.{Library}
 use Rattle.odd_decls.specs.declared.odd.OddDoc.{OddDoc}
-use Rattle.odd_modes.specs.After.{IsLibraryAfter}
+use Rattle.odd_choosing.specs.After.{IsLibraryAfter}
 use Rattle.odd_chain.specs.Files.{AreDeclared, Gives}
 use Rattle.odd_chain.specs.Offences.{OffendsIn}
 use Rattle.odd_chain.specs.Order.{Position}

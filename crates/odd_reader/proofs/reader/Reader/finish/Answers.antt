@@ -5,10 +5,10 @@ use Rattle.std.specs.Prelude.{IfOk, IfErr}
 use Rattle.std.specs.Str.{encode_utf8_all}
 use Rattle.odd_tokens.specs.Tokens.{size_of}
 use Rattle.odd_reader.specs.Reading.{HasRead}
-use Rattle.odd_reader.specs.Spelled.{GivesTree, IsNotXml}
+use Rattle.odd_tree.specs.Spelled.{GivesTree, IsNotXml}
 use Rattle.odd_reader.specs.declared.reader.ReadRefusal.{ReadRefusal}
 use Rattle.odd_reader.specs.declared.reader.ReadRefusal.TheVariants as refusal
-use Rattle.odd_reader.specs.declared.tree.Tree.{Tree}
+use Rattle.odd_tree.specs.declared.tree.Tree.{Tree}
 use Rattle.odd_reader.proofs.Taken.{end_place, gives_tree}
 use Rattle.odd_reader.proofs.reader.Reader.finish.Goals as goal
 

@@ -1,0 +1,5 @@
+pub mod ConditionOrder
+pub mod Conditions
+pub mod Contents
+pub mod Repeating
+pub mod Wanted

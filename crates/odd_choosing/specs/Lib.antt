@@ -1,0 +1,4 @@
+pub mod After
+pub mod Choosing
+pub mod Index
+pub mod Offences

@@ -1,0 +1,3 @@
+pub mod ItemElements
+pub mod ItemEntries
+pub mod ItemFaults

@@ -1,0 +1,11 @@
+pub mod Escaped
+pub mod Escapes
+pub mod PrintedSpelled
+pub mod PrintedSpelledCharacters
+pub mod PrintedSpelledElements
+pub mod PrintedSpelledLines
+pub mod PrintedSpelledNames
+pub mod PrintedSpelledTags
+pub mod PrintedSpelledTexts
+pub mod PutsFront
+pub mod SpacesFit

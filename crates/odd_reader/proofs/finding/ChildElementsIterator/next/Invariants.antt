@@ -1,9 +1,0 @@
-use Rattle.std.proofs.Common.{◌≡◌, length}
-use Rattle.odd_reader.specs.Elements.{elements_of}
-use Rattle.odd_reader.proofs.finding.ChildElementsIterator.next.Given as goal
-
-abbrev pub invariant-loop-first : goal.invariant-loop-first
-invariant-loop-first l = elements_of l.self-inside.nodes.now ≡ elements_of l.initial.self-inside.nodes.now
-
-abbrev pub decreases-loop-first : goal.decreases-loop-first
-decreases-loop-first l = length l.self-inside.nodes.now

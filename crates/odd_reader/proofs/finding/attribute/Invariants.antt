@@ -1,6 +1,0 @@
-use Rattle.std.proofs.Common.{◌≡◌, drop}
-use Rattle.odd_reader.specs.Elements.{attribute_value}
-use Rattle.odd_reader.proofs.finding.attribute.Given as goal
-
-abbrev pub invariant-loop-attr : goal.invariant-loop-attr
-invariant-loop-attr l = attribute_value (drop l.attr-index l.attr-items) l.local ≡ attribute_value l.attrs l.local

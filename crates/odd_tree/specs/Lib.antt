@@ -1,0 +1,9 @@
+pub mod Elements
+pub mod Fitting
+pub mod Formed
+pub mod Markup
+pub mod Names
+pub mod Significant
+pub mod Spelled
+pub mod Splits
+pub mod Trees
