@@ -1,5 +1,6 @@
 pub mod Bindings
 pub mod Children
 pub mod Elements
+mod ResolvingExamples
 pub mod Tags
 pub mod TwoAlike
