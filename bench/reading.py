@@ -11,11 +11,12 @@ writes files into FOLDER (a new one under /tmp where none is given):
 - 333,000 elementSpec and nothing else, with their idents rising, falling and shuffled;
 - 10,000 elementSpec with a content of 30 parts each, in a sequence or an alternate, with bounds of all forms;
 - one elementSpec with a content of 100,000 parts, with the same bounds;
+- one elementSpec that is a member of 100,000 classes, their keys falling;
 - a chain of two files: a source of 2,000 elements in 40 modules, each with prose and a content of 8 parts, and a
   customisation that takes half of each module and changes 100 elements; and a chain of twice as many;
 - a root with 200,000 attributes.
 
-The two files with contents are also made at half their size, for the growth.
+The two files with contents and that of memberships are also made at half their size, for the growth.
 
 Then it runs `PROGRAM compile FILE..` and `xmllint --noout FILE..` in turn, five times each, and prints the least processor time
 (user and system) in seconds, the greatest memory in MB, how many times the file that is, and how many times xmllint's time
@@ -39,6 +40,7 @@ DECLARATIONS = 333_000
 MODELS = 10_000
 PARTS_OF_EACH = 30
 PARTS_OF_ONE = 100_000
+MEMBERSHIPS = 100_000
 ATTRIBUTES = 200_000
 CHAINED = 4_000
 IN_MODULE = 50
@@ -129,6 +131,12 @@ def parts_file(count):
     return schema_file([f'<elementSpec ident="a000000"><content>\n{parts}</content></elementSpec>\n'])
 
 
+def memberships_file(count):
+    """One element that is a member of so many classes."""
+    keys = "".join(f'<memberOf key="k{number:06}"/>\n' for number in range(count, 0, -1))
+    return schema_file([f'<elementSpec ident="a000000"><classes>\n{keys}</classes></elementSpec>\n'])
+
+
 def content_of(number, count):
     parts = "".join(part((number * 7919 + index * 31) % count, number + index) for index in range(PARTS_OF_CHAINED))
     return f"<content><alternate>\n{parts}</alternate></content>"
@@ -188,6 +196,8 @@ FILES = (
     ("contents.odd", lambda: models_file(MODELS), True),
     ("parts-half.odd", lambda: parts_file(PARTS_OF_ONE // 2), True),
     ("parts.odd", lambda: parts_file(PARTS_OF_ONE), True),
+    ("memberships-half.odd", lambda: memberships_file(MEMBERSHIPS // 2), True),
+    ("memberships.odd", lambda: memberships_file(MEMBERSHIPS), True),
     ("chain-half.odd", lambda: chain_files(CHAINED // 2), True),
     ("chain.odd", lambda: chain_files(CHAINED), True),
     ("wide.xml", wide_file, False),

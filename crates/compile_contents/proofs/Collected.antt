@@ -1,16 +1,47 @@
--- What stands in one of several lists, and the conditions that are collected.
-use Rattle.std.proofs.Common.{◌≡◌, List, [], ◌∷◌, ◌++◌, inl, inr, sym, subst}
-use Rattle.std.specs.Prelude.{flat_map}
-use Rattle.odd_base.specs.declared.key.Key.{Key}
-use Rattle.odd_tree.specs.Elements.{StandsIn}
-use Rattle.odd_tree.proofs.InList.{first_or_later, nothing_stands, stands_first, stands_later}
-use Rattle.odd_forms.specs.Sorted.{IsSet}
+-- Conditions that are collected and ranked, words that are found among sorted ones or pass a test, and contents by their parts.
+use Rattle.std.proofs.Common.{◌≡◌, List, [], ◌∷◌, ◌++◌, inl, inr, sym, subst, map, refl, ap, ◌∙◌, ◌<◌, ◌≤◌, ℕ, zero, suc, Bool, true, false, cond, length, get_or, arith, ◌+◌, filter, take, Ok, Err}
+use Rattle.std.proofs.Math.Bool.{beq}
+use Rattle.std.proofs.lemmas.Bool.{cases_lt}
+use Rattle.std.proofs.lemmas.Cmp.{nat_list_cmp_total}
+use Rattle.std.proofs.lemmas.List.{append-nil}
+use Rattle.std.proofs.lemmas.List.Elements.{filter_more}
+use Rattle.std.proofs.lemmas.List.Folds.{list_any_at, list_any_none}
+use Rattle.std.proofs.lemmas.List.Sorted.{searchable_from_sorted}
+use Rattle.std.proofs.lemmas.List.Sums.{sum_by-cons}
+use Rattle.std.specs.Cmp.{IsTotalOrder}
+use Rattle.std.specs.Cmp.Lexicographic.{texts_ties}
+use Rattle.std.specs.List.{list_any}
+use Rattle.std.specs.List.Sorted.{IsPartitionedBy, IsPartitionPoint, IsBinarySearchResult, IsSearchInRange, IsSorted}
+use Rattle.std.specs.Ordering.{is_lt, is_eq, ordering_reverse}
+use Rattle.std.specs.Prelude.{flat_map, count_by}
+use Rattle.std.specs.Result.{is_ok}
+use Rattle.std.specs.declared.cmp.Ordering.{Ordering}
+use Rattle.std.specs.declared.cmp.Ordering.TheVariants.{Less, Equal, Greater}
+use Rattle.std.specs.declared.result.Result.{Result}
+use Rattle.odd_content.specs.Picking.{is_picked}
 use Rattle.odd_content.specs.declared.content.Condition.{Condition}
-use Rattle.odd_decls.specs.Library.{content_of}
-use Rattle.odd_decls.specs.declared.library.Component.{Component}
-use Rattle.odd_decls.specs.declared.library.Library.{Library}
-use Rattle.compile_contents.proofs.Standing.{stands_either, stands_left, stands_right}
-use Rattle.compile_contents.specs.Conditions.{IsConditionOf, condition_cmp, conditions_of}
+use Rattle.odd_content.specs.declared.content.Content.{Content, Sequence, Alternate, Row_of-Content, end_of-Content, more_of-Content, items-the_row-Content, items_hidden-the_row-Content-0}
+use Rattle.odd_content.specs.declared.content.Content.TheBlock.{hidden-the_row-Content-0}
+use Rattle.odd_content.specs.declared.content.Pick.TheVariants as pick
+use Rattle.odd_forms.proofs.SetOf.{rest_rising}
+use Rattle.odd_forms.specs.Sorted.{IsSet, AreRising}
+use Rattle.odd_library.specs.Library.{content_of}
+use Rattle.odd_library.specs.declared.library.Component.{Component}
+use Rattle.odd_library.specs.declared.library.Library.{Library}
+use Rattle.odd_meaning.specs.Classes.{Members}
+use Rattle.odd_text.specs.Text.{text_cmp}
+use Rattle.odd_text.specs.declared.key.Key.{Key}
+use Rattle.odd_tokens.specs.Same.{is_same}
+use Rattle.odd_tree.proofs.InList.{first_or_later, nothing_stands, stands_first, stands_later}
+use Rattle.odd_tree.specs.Elements.{StandsIn}
+use Rattle.rng_patterns.specs.declared.grammar.Expr.{Expr}
+use Rattle.rng_values.specs.declared.bounds.Bounds.{Bounds}
+use Rattle.compile_contents.proofs.Standing.{stands_either, stands_left, stands_right, is_less}
+use Rattle.odd_content.specs.ConditionOrder.{condition_cmp}
+use Rattle.compile_contents.specs.Conditions.{IsConditionOf, conditions_of, conditions_in, conditions_in_parts}
+use Rattle.compile_contents.specs.Contents.{content_pattern, part_patterns}
+use Rattle.compile_contents.specs.Repeating.{choice_pattern, group_pattern, repeated}
+use Rattle.compile_contents.specs.Wanted.{is_wanted}
 
 module _ {X A : Type 0} (f : X → List A) (a : A) where
   pub stands_collected : (xs : List X) (x : X) → StandsIn xs x → StandsIn (f x) a → StandsIn (flat_map f xs) a
@@ -45,3 +76,120 @@ conditions_set library held sorted is set = record {
       record { entry = p.0; among = p.1; holds = p.2 };
   each = λ c h. set.each c (subst (λ cs. StandsIn cs c) (sym is) (stands_collected conditions_at c library.parts h.entry h.among h.holds));
 }
+
+-- the conditions in the parts of a row are those in its list
+conditions_listed : {n : _} (row : Row_of-Content n) → conditions_in_parts row ≡ flat_map conditions_in (items-the_row-Content n row)
+conditions_listed end_of-Content = refl
+conditions_listed (more_of-Content part row) = ap (λ cs. conditions_in part ++ cs) (conditions_listed row)
+
+-- so those in the parts of a block are
+conditions_of_parts : (parts : List Content) → conditions_in_parts (hidden-the_row-Content-0 parts) ≡ flat_map conditions_in parts
+conditions_of_parts parts = conditions_listed (hidden-the_row-Content-0 parts) ∙ ap (flat_map conditions_in) (items_hidden-the_row-Content-0 parts)
+
+-- so are those in a sequence and in an alternate
+
+pub sequence_conditions : (parts : List Content) (b : Bounds) → conditions_in (Sequence parts b) ≡ flat_map conditions_in parts
+sequence_conditions parts b = conditions_of_parts parts
+
+pub alternate_conditions : (parts : List Content) (b : Bounds) → conditions_in (Alternate parts b) ≡ flat_map conditions_in parts
+alternate_conditions parts b = conditions_of_parts parts
+
+module _ (library : Library) (conditions : List Condition) (members : Members) where
+  -- the pattern of one part
+  abbrev pattern : Content → Expr
+  pattern = content_pattern library conditions members
+
+  -- those of the parts in a row are those of its list
+  patterns_listed : {n : _} (row : Row_of-Content n) → part_patterns library conditions members row ≡ map pattern (items-the_row-Content n row)
+  patterns_listed end_of-Content = refl
+  patterns_listed (more_of-Content part row) = ap (λ ps. pattern part ∷ ps) (patterns_listed row)
+
+  -- so those of the parts in a block are
+  patterns_of_parts : (parts : List Content) → part_patterns library conditions members (hidden-the_row-Content-0 parts) ≡ map pattern parts
+  patterns_of_parts parts = patterns_listed (hidden-the_row-Content-0 parts) ∙ ap (map pattern) (items_hidden-the_row-Content-0 parts)
+
+  -- a sequence is a group of them, and an alternate a choice
+
+  pub sequence_pattern : (parts : List Content) (b : Bounds) → content_pattern library conditions members (Sequence parts b) ≡ repeated (group_pattern (map (content_pattern library conditions members) parts)) b
+  sequence_pattern parts b = ap (λ ps. repeated (group_pattern ps) b) (patterns_of_parts parts)
+
+  pub alternate_pattern : (parts : List Content) (b : Bounds) → content_pattern library conditions members (Alternate parts b) ≡ repeated (choice_pattern (map (content_pattern library conditions members) parts)) b
+  alternate_pattern parts b = ap (λ ps. repeated (choice_pattern ps) b) (patterns_of_parts parts)
+
+module _ {A : Type 0} {order : A → A → Ordering} (total : IsTotalOrder order) (bound : A) where
+  -- what is below an item that is below the bound
+  lower : (x y : A) → order x y ≡ Less → is_lt (order y bound) ≡ true → is_lt (order x bound) ≡ true
+  lower x y h b = ap is_lt (total.trans x y bound h (is_less (order y bound) b))
+
+  first_below : (x : A) (xs : List A) → AreRising order (x ∷ xs) → (j : ℕ) (d : A) → j < length (x ∷ xs) → is_lt (order (get_or (x ∷ xs) j d) bound) ≡ true → is_lt (order x bound) ≡ true
+  first_below x xs h zero d lt e = e
+  first_below x [] h (suc j) d lt e = let no : ⊥ = omega arith in absurd no
+  first_below x (y ∷ xs) h (suc j) d lt e = lower x y (h [] xs x y refl) (first_below y xs (rest_rising order total x (y ∷ xs) h) j d (omega arith) e)
+
+  -- no item that is below the bound comes after one that is not
+  pub rising_parted : (xs : List A) → AreRising order xs → IsPartitionedBy (λ x. is_lt (order x bound)) xs
+  rising_parted [] h i j d le lt e = let no : ⊥ = omega arith in absurd no
+  rising_parted (x ∷ xs) h zero j d le lt e = first_below x xs h j d lt e
+  rising_parted (x ∷ xs) h (suc i) zero d le lt e = let no : ⊥ = omega arith in absurd no
+  rising_parted (x ∷ xs) h (suc i) (suc j) d le lt e = rising_parted xs (rest_rising order total x xs h) i j d (omega arith) (omega arith) e
+
+module _ {A : Type 0} (p : A → Bool) where
+  none_counted : (xs : List A) → ((k : ℕ) (d : A) → k < length xs → p (get_or xs k d) ≡ false) → count_by p xs ≡ 0
+  none_counted [] h = refl
+  none_counted (x ∷ xs) h =
+      let first : cond {A = ℕ} (p x) 1 0 ≡ 0 = ap (λ b. cond {A = ℕ} b 1 0) (h zero x (omega arith)) in
+      let step = sum_by-cons (λ y. cond (p y) 1 0) x xs in
+      let rest = none_counted xs (λ k d lt. h (suc k) d (omega arith)) in
+      omega arith
+
+  -- the place up to which the items pass the test is the count of those that pass it
+  pub partition_counted : (xs : List A) (i : ℕ) → i ≤ length xs → IsPartitionPoint (λ x. p x ≡ true) (λ x. p x ≡ false) xs i → count_by p xs ≡ i
+  partition_counted [] i le h = let none : i ≡ 0 = omega arith in sym none
+  partition_counted (x ∷ xs) zero le h = none_counted (x ∷ xs) (λ k d lt. h.1 k d (omega arith) lt)
+  partition_counted (x ∷ xs) (suc i) le h =
+      let first : cond {A = ℕ} (p x) 1 0 ≡ 1 = ap (λ b. cond {A = ℕ} b 1 0) (h.0 zero x (omega arith) (omega arith)) in
+      let step = sum_by-cons (λ y. cond (p y) 1 0) x xs in
+      let rest = partition_counted xs i (omega arith) (λ k d low high. h.0 (suc k) d (omega arith) (omega arith), λ k d low high. h.1 (suc k) d (omega arith) (omega arith)) in
+      omega arith
+
+-- what a test gives is wanted where it is what is looked for
+pub wanted_told : (wanted passes : Bool) → is_wanted wanted passes ≡ beq passes wanted
+wanted_told true true = refl
+wanted_told true false = refl
+wanted_told false true = refl
+wanted_told false false = refl
+
+-- all pass where none is left out
+pub all_picked : (idents : List (List ℕ)) → filter (is_picked pick.All) idents ≡ idents
+all_picked [] = refl
+all_picked (ident ∷ idents) = ap (λ words. ident ∷ words) (all_picked idents)
+
+module _ {A : Type 0} (test : A → Bool) (xs items left : List A) (i : ℕ) (x : A) (same : items ≡ xs) (within : i < length items) (is : x ≡ get_or items i x)
+    (before : left ≡ filter test (take i xs)) where
+  one_more : left ++ cond (test x) (x ∷ []) [] ≡ filter test (take (i + 1) xs)
+  one_more =
+      let there : x ≡ get_or xs i x = is ∙ ap (λ ys. get_or ys i x) same in
+      (λ j. before j ++ cond (test (there j)) (there j ∷ []) []) ∙ sym (filter_more test xs i x (subst (λ ys. i < length ys) same within))
+
+  -- with an item that passes
+  pub one_kept : test x ≡ true → left ++ x ∷ [] ≡ filter test (take (i + 1) xs)
+  one_kept passes = ap (λ b. left ++ cond b (x ∷ []) []) (sym passes) ∙ one_more
+
+  -- and with one that does not
+  pub one_left_out : test x ≡ false → left ≡ filter test (take (i + 1) xs)
+  one_left_out fails = sym (append-nil left) ∙ ap (λ b. left ++ cond b (x ∷ []) []) (sym fails) ∙ one_more
+
+-- how words compare tells whether they are the same
+same_told : (word other : List ℕ) (r : Ordering) → text_cmp other word ≡ r → is_same word other ≡ is_eq (ordering_reverse r)
+same_told word other r e = texts_ties word other ∙ ap is_eq (nat_list_cmp_total.antisymm word other ∙ ap ordering_reverse e)
+
+-- a search among sorted words finds what is there
+pub search_told : (words : List (List ℕ)) (word : List ℕ) → IsSorted text_cmp words → (r : Result ℕ ℕ) → IsSearchInRange r (length words) → IsBinarySearchResult (λ y. text_cmp y word) words r
+    → is_ok r ≡ list_any (is_same word) words
+search_told words word up (Ok k) lt at = sym (list_any_at (is_same word) words k [] lt (same_told word (get_or words k []) Equal (at [])))
+search_told words word up (Err i) le at =
+    let ends = at (searchable_from_sorted nat_list_cmp_total (λ w. w) words word up) in
+    sym (list_any_none (is_same word) words (λ k d lt. elim (cases_lt k i) [
+      | inl low ↦ same_told word (get_or words k d) Less (ends.0 k d (omega arith) low)
+      | inr high ↦ same_told word (get_or words k d) Greater (ends.1 k d high lt)
+    ]))

@@ -1,9 +1,2 @@
 pub mod Collected
-pub mod ContentParts
-pub mod Examples
-pub mod Filtered
-pub mod Holds
-pub mod Ranks
 pub mod Standing
-pub mod Wanted
-pub mod WordSearch

@@ -1,21 +1,12 @@
 -- The conditions of `anyElement` in the contents of a library's components.
 use Rattle.std.specs.Prelude.{List, [], ◌∷◌, ◌++◌, Option, Some, None}
-use Rattle.std.specs.Cmp.Lexicographic.{slice_cmp}
-use Rattle.std.specs.Ordering.{ordering_then}
-use Rattle.std.specs.declared.cmp.Ordering.{Ordering}
-use Rattle.odd_base.specs.NameOrder.{name_cmp}
-use Rattle.odd_base.specs.Text.{text_cmp}
-use Rattle.odd_base.specs.declared.key.Key.{Key}
+use Rattle.odd_text.specs.declared.key.Key.{Key}
 use Rattle.odd_tree.specs.Elements.{StandsIn}
 use Rattle.odd_content.specs.declared.content.Condition.{Condition}
 use Rattle.odd_content.specs.declared.content.Content.{Content, Empty, Text, Element, Class, Macro, Any, Sequence', Alternate', Row_of-Content, end_of-Content, more_of-Content}
-use Rattle.odd_decls.specs.Library.{content_of}
-use Rattle.odd_decls.specs.declared.library.Component.{Component}
-use Rattle.odd_decls.specs.declared.library.Library.{Library}
-
--- by the namespaces that are required, then by those that are excepted, and then by the names that are, item by item
-abbrev pub condition_cmp : Condition → Condition → Ordering
-condition_cmp a b = ordering_then (slice_cmp text_cmp a.require b.require) (ordering_then (slice_cmp text_cmp a.spaces b.spaces) (slice_cmp name_cmp a.names b.names))
+use Rattle.odd_library.specs.Library.{content_of}
+use Rattle.odd_library.specs.declared.library.Component.{Component}
+use Rattle.odd_library.specs.declared.library.Library.{Library}
 
 abbrev mutual
   -- the conditions in a content, at any depth

@@ -3,22 +3,22 @@
 use Rattle.std.specs.Prelude.{ℕ, ◌+◌, Bool, true, false, if◌then◌else◌, List, [], ◌∷◌, ◌++◌, Option, Some, None, codes, count_by, decimal, filter, map}
 use Rattle.std.specs.FinMap.{find}
 use Rattle.std.specs.Ordering.{is_lt}
-use Rattle.odd_base.specs.Key.{key_cmp}
-use Rattle.odd_base.specs.Text.{text_cmp}
+use Rattle.odd_text.specs.Key.{key_cmp}
+use Rattle.odd_text.specs.Text.{text_cmp}
 use Rattle.odd_content.specs.Picking.{is_picked}
 use Rattle.odd_content.specs.declared.content.Condition.{Condition}
 use Rattle.odd_content.specs.declared.content.Content.{Content, Empty, Text, Element, Class, Macro, Any, Sequence', Alternate', Row_of-Content, end_of-Content, more_of-Content}
 use Rattle.odd_content.specs.declared.content.Pick.{Pick}
 use Rattle.odd_content.specs.declared.content.Pick.TheVariants as pick
-use Rattle.odd_decls.specs.Odd.{element_key}
-use Rattle.odd_decls.specs.declared.library.Component.{Component}
-use Rattle.odd_decls.specs.declared.library.Component.TheVariants as component
-use Rattle.odd_decls.specs.declared.library.Library.{Library}
+use Rattle.odd_library.specs.Odd.{element_key}
+use Rattle.odd_library.specs.declared.library.Component.{Component}
+use Rattle.odd_library.specs.declared.library.Component.TheVariants as component
+use Rattle.odd_library.specs.declared.library.Library.{Library}
 use Rattle.odd_meaning.specs.Classes.{Members}
 use Rattle.odd_meaning.specs.Links.{macro_key}
 use Rattle.rng_patterns.specs.declared.grammar.Expr.{Expr}
 use Rattle.rng_patterns.specs.declared.grammar.Expr.TheVariants as expr
-use Rattle.compile_contents.specs.Conditions.{condition_cmp}
+use Rattle.odd_content.specs.ConditionOrder.{condition_cmp}
 use Rattle.compile_contents.specs.Repeating.{choice_pattern, group_pattern, repeated}
 
 -- the names of the defines of an element, a class and a macro

@@ -1,4 +1,3 @@
-pub mod ConditionOrder
 pub mod Conditions
 pub mod Contents
 pub mod Repeating

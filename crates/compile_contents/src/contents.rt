@@ -1,19 +1,19 @@
 ghost use Rattle.std.specs.Prelude.{◌≡◌, ◌++◌, IfOk, IsTrue, map};
 ghost use Rattle.odd_forms.specs.Sorted.{AreRising};
-ghost use Rattle.compile_contents.specs.Conditions.{condition_cmp};
+ghost use Rattle.odd_content.specs.ConditionOrder.{condition_cmp};
 ghost use Rattle.compile_contents.specs.Contents.{class_name as the_class_name, condition_name as the_condition_name, condition_pattern as the_condition_pattern, content_pattern as the_content_pattern, define_name as the_define_name, element_pattern as the_element_pattern, holds_element as the_holds_element, holds_macro as the_holds_macro, listed_in, macro_name as the_macro_name, macro_pattern as the_macro_pattern, members_pattern as the_members_pattern, number_of as the_number_of, reference, references_pattern as the_references_pattern};
 ghost use Rattle.compile_contents.specs.Repeating.{repeated as the_repeated};
 ghost use Rattle.rng_patterns.specs.declared.grammar.Expr.TheVariants as expr;
 ghost use Rattle.rng_patterns.specs.declared.grammar.Expr.{Expr as AnExpr};
 
-use crate::conditions::{Conditions, compared};
+use crate::conditions::Conditions;
 use crate::repeating::{choice_pattern, group_pattern, repeated};
 use crate::words::picked;
 use itoa::Buffer;
-use odd_base::{Key, Kind, NoMemory, Text, TryCopy, Words};
 use odd_classes::MemberTable;
 use odd_content::{Condition, Content, Contents, Pick};
-use odd_decls::{Component, Library};
+use odd_library::{Component, Library};
+use odd_text::{Kind, NoMemory, Text, Words};
 use rng_patterns::{Expr, Exprs};
 use rng_values::Bounds;
 use std::alloc::Global;
@@ -95,7 +95,7 @@ fn part_patterns(
 fn element_pattern(alloc: Global, library: &Library, ident: &Text) -> Result<Expr, NoMemory>
     ensures { IfOk result (λ pattern. pattern ≡ the_element_pattern library.now ident.now) }
 {
-    if holds_element(alloc, library, ident)? {
+    if holds_element(library, ident) {
         Ok(Expr::Ref(define_name(alloc, ident)?))
     } else {
         Ok(Expr::NotAllowed)
@@ -106,33 +106,31 @@ fn element_pattern(alloc: Global, library: &Library, ident: &Text) -> Result<Exp
 fn macro_pattern(alloc: Global, library: &Library, ident: &Text) -> Result<Expr, NoMemory>
     ensures { IfOk result (λ pattern. pattern ≡ the_macro_pattern library.now ident.now) }
 {
-    if holds_macro(alloc, library, ident)? {
+    if holds_macro(library, ident) {
         Ok(Expr::Ref(macro_name(alloc, ident)?))
     } else {
         Ok(Expr::NotAllowed)
     }
 }
 
-/// Whether a library holds an element of the ident. The only error is NoMemory, for want of memory.
-pub fn holds_element(alloc: Global, library: &Library, ident: &Text) -> Result<bool, NoMemory>
-    ensures { IfOk result (λ holds. holds ≡ the_holds_element library.now ident.now) }
+/// Whether a library holds an element of the ident.
+pub fn holds_element(library: &Library, ident: &Text) -> bool
+    ensures { result ≡ the_holds_element library.now ident.now }
 {
-    let key = Key {
-        kind: Kind::Element,
-        ident: ident.copy(alloc)?,
-    };
-    Ok(matches!(library.find(&key), Some(Component::Element(_))))
+    matches!(
+        library.find_by(Kind::Element, ident),
+        Some(Component::Element(_))
+    )
 }
 
 // Whether a library holds a macro of the ident.
-fn holds_macro(alloc: Global, library: &Library, ident: &Text) -> Result<bool, NoMemory>
-    ensures { IfOk result (λ holds. holds ≡ the_holds_macro library.now ident.now) }
+fn holds_macro(library: &Library, ident: &Text) -> bool
+    ensures { result ≡ the_holds_macro library.now ident.now }
 {
-    let key = Key {
-        kind: Kind::Macro,
-        ident: ident.copy(alloc)?,
-    };
-    Ok(matches!(library.find(&key), Some(Component::Macro(_))))
+    matches!(
+        library.find_by(Kind::Macro, ident),
+        Some(Component::Macro(_))
+    )
 }
 
 // The pattern of the members of a class that are picked.
@@ -235,5 +233,5 @@ fn number_of(conditions: &Conditions, condition: &Condition) -> usize
     ensures { result ≡ the_number_of conditions.now condition.now }
 {
     let conditions = conditions.as_slice();
-    conditions.partition_point(|other| compared(other, condition).is_lt()) + 1
+    conditions.partition_point(|other| other.cmp(condition).is_lt()) + 1
 }

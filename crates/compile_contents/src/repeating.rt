@@ -1,7 +1,7 @@
 ghost use Rattle.std.specs.Prelude.{◌≡◌, ◌++◌, IfOk, OnOk, replicate};
 ghost use Rattle.compile_contents.specs.Repeating.{choice_pattern as the_choice_pattern, further, group_pattern as the_group_pattern, repeated as the_repeated};
 
-use odd_base::{NoMemory, TryCopy};
+use odd_text::{NoMemory, TryCopy};
 use rng_patterns::{Expr, Exprs};
 use rng_values::Bounds;
 use sqlite_items::Boxed;

@@ -1,13 +1,13 @@
 ghost use Rattle.std.specs.Prelude.{◌≡◌, IfOk, List, ℕ, filter};
 ghost use Rattle.std.specs.List.{list_any};
 ghost use Rattle.std.specs.List.Sorted.{IsSorted};
-ghost use Rattle.odd_base.specs.Text.{text_cmp};
+ghost use Rattle.odd_text.specs.Text.{text_cmp};
 ghost use Rattle.odd_content.specs.Picking.{is_picked};
 ghost use Rattle.odd_tokens.specs.Same.{is_same};
 ghost use Rattle.compile_contents.specs.Wanted.{is_wanted};
 
-use odd_base::{NoMemory, Text, TryCopy, Words};
 use odd_content::Pick;
+use odd_text::{NoMemory, Text, TryCopy, Words};
 use std::alloc::Global;
 
 /// Those of some idents that are picked, in their order. The only error is NoMemory, for want of memory.

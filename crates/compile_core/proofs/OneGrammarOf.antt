@@ -1,17 +1,78 @@
--- A library and a list of start words have one grammar.
-use Rattle.std.proofs.Common.{◌≡◌, ℕ, List, Option, Some, None, refl, sym, ap, subst, ◌∙◌}
+-- A library and a list of start words have one grammar, whose defines rise, or a least word that is missing.
+use Rattle.std.proofs.Common.{◌≡◌, ℕ, List, [], ◌∷◌, ◌++◌, Option, Some, None, cond, inl, inr, refl, sym, subst, ap, ◌∙◌, true, map}
+use Rattle.std.proofs.lemmas.Bool.{and_from}
 use Rattle.std.proofs.lemmas.Cmp.{nat_list_cmp_total}
-use Rattle.odd_base.specs.Text.{text_cmp}
-use Rattle.odd_forms.proofs.OneSet.{one_set}
-use Rattle.odd_forms.specs.Sorted.{IsSet}
-use Rattle.odd_decls.specs.declared.library.Library.{Library}
+use Rattle.std.specs.FinMap.{find, is_sorted, slice_cmp-IsAntisymmetric, nat_cmp-IsAntisymmetric}
+use Rattle.std.specs.FinMap.Entries.{below_all}
+use Rattle.std.specs.Ordering.{is_gt, is_lt}
+use Rattle.std.specs.Prelude.{IsTrue}
+use Rattle.std.specs.declared.cmp.Ordering.TheVariants.{Less, Equal, Greater}
+use Rattle.compile_contents.proofs.Standing as standing
+use Rattle.odd_content.specs.ConditionOrder.{condition_cmp, condition_total}
+use Rattle.compile_contents.specs.Conditions.{IsConditionOf}
+use Rattle.compile_defines.proofs.NamedDefines.{define_total}
+use Rattle.compile_defines.specs.Compiled.{IsMissing, IsDefineOf, IsGrammarOf, define_cmp}
+use Rattle.odd_forms.proofs.SetOf.{not_below, turned, one_set, rest_rising}
+use Rattle.odd_forms.specs.Sorted.{IsSet, AreRising}
+use Rattle.odd_library.specs.declared.library.Library.{Library}
 use Rattle.odd_meaning.specs.Classes.{AreMembers, IsElementOf, IsListed, Members}
+use Rattle.odd_text.specs.Text.{text_cmp}
+use Rattle.odd_tree.proofs.InList.{stands_push, map_stands}
+use Rattle.odd_tree.specs.Elements.{StandsIn}
+use Rattle.rng_patterns.specs.Denoting.{entry_of}
 use Rattle.rng_patterns.specs.declared.grammar.Define.{Define}
 use Rattle.rng_patterns.specs.declared.grammar.Grammar.{Grammar}
-use Rattle.compile_defines.specs.Compiled.{IsDefineOf, IsGrammarOf, define_cmp}
-use Rattle.compile_contents.specs.ConditionOrder.{condition_total}
-use Rattle.compile_contents.specs.Conditions.{IsConditionOf, condition_cmp}
-use Rattle.compile_defines.proofs.NamedDefines.{define_total}
+use Rattle.compile_core.specs.Schema.{IsLeast, IsLeastMissing, lesser_of}
+
+module _ (library : Library) (words : List (List ℕ)) (v : List ℕ) where
+  -- a word that is held changes nothing
+  pub held_more : (least : Option (List ℕ)) → IsLeast library words least → (IsMissing library v → ⊥) → IsLeast library (words ++ v ∷ []) least
+  held_more None none held = λ w a missing. elim ((stands_push words v w).0 a) [
+    | inl b ↦ none w b missing
+    | inr e ↦ held (subst (IsMissing library) (sym e) missing)
+  ]
+  held_more (Some least) is held = record {
+    among = (stands_push words v least).1 (inl is.among);
+    missing = is.missing;
+    least = λ w a missing less. elim ((stands_push words v w).0 a) [
+      | inl b ↦ is.least w b missing less
+      | inr e ↦ held (subst (IsMissing library) (sym e) missing)
+    ];
+  }
+
+  -- of a missing word and the least so far the lesser is the least
+  pub missing_more : (least : Option (List ℕ)) → IsLeast library words least → IsMissing library v → IsLeast library (words ++ v ∷ []) (Some (lesser_of least v))
+  missing_more None none missing = record {
+    among = (stands_push words v v).1 (inr refl);
+    missing = missing;
+    least = λ w a gone less. elim ((stands_push words v w).0 a) [
+      | inl b ↦ none w b gone
+      | inr e ↦ not_below text_cmp nat_list_cmp_total v (subst (λ x. text_cmp x v ≡ Less) (sym e) less)
+    ];
+  }
+  missing_more (Some other) is missing =
+      elim (text_cmp other v) as (λ r. text_cmp other v ≡ r → IsLeastMissing library (words ++ v ∷ []) (cond (is_gt r) v other)) [
+        | Less ↦ λ p. kept (λ less. let back = turned text_cmp nat_list_cmp_total v other Less p in cc)
+        | Equal ↦ λ p. kept (λ less. let back = turned text_cmp nat_list_cmp_total v other Equal p in cc)
+        | Greater ↦ λ p. record {
+          among = (stands_push words v v).1 (inr refl);
+          missing = missing;
+          least = λ w a gone less. elim ((stands_push words v w).0 a) [
+            | inl b ↦ is.least w b gone (nat_list_cmp_total.trans w v other less (turned text_cmp nat_list_cmp_total v other Greater p))
+            | inr e ↦ not_below text_cmp nat_list_cmp_total v (subst (λ x. text_cmp x v ≡ Less) (sym e) less)
+          ];
+        }
+      ] refl
+    where
+      kept : (text_cmp v other ≡ Less → ⊥) → IsLeastMissing library (words ++ v ∷ []) other
+      kept above = record {
+        among = (stands_push words v other).1 (inl is.among);
+        missing = is.missing;
+        least = λ w a gone less. elim ((stands_push words v w).0 a) [
+          | inl b ↦ is.least w b gone less
+          | inr e ↦ above (subst (λ x. text_cmp x other ≡ Less) (sym e) less)
+        ];
+      }
 
 -- what is listed of a class is one
 one_listed : (library : Library) (class : List ℕ) (some other : Option (List (List ℕ))) → IsListed library class some → IsListed library class other → some ≡ other
@@ -35,3 +96,32 @@ one_grammar_of library start g h p q =
     let defines : g.defines ≡ h.defines = one_set define_cmp define_total (IsDefineOf library q.conditions q.members) g.defines h.defines set q.are_defines in
     let begin : g.start ≡ h.start = p.start_is ∙ sym q.start_is in
     λ i. record { start = begin i; defines = defines i }
+
+-- the name is below those of some defines
+abbrev IsBelow : List ℕ → List Define → Type 0
+IsBelow name ds = below_all text_cmp name (map entry_of ds) ≡ true
+
+abbrev pub Rises : List Define → Type 0
+Rises ds = IsTrue (is_sorted text_cmp (map entry_of ds))
+
+-- where each define is below the next, so it is among all but the first
+later_rise : (d : Define) (ds : List Define) → AreRising define_cmp (d ∷ ds) → AreRising define_cmp ds
+later_rise d ds r = rest_rising define_cmp define_total d ds r
+
+-- a name below the first is below all
+below_later : (name : List ℕ) (d : Define) (ds : List Define) → text_cmp name d.name ≡ Less → AreRising define_cmp (d ∷ ds) → IsBelow name (d ∷ ds)
+below_later name d [] less r = and_from _ _ (ap is_lt less) refl
+below_later name d (e ∷ ds) less r =
+    and_from _ _ (ap is_lt less) (below_later name e ds (nat_list_cmp_total.trans name d.name e.name less (r [] ds d e refl)) (later_rise d (e ∷ ds) r))
+
+-- so the defines rise
+pub rising_sorted : (ds : List Define) → AreRising define_cmp ds → Rises ds
+rising_sorted [] r = refl
+rising_sorted (d ∷ []) r = refl
+rising_sorted (d ∷ e ∷ ds) r = and_from _ _ (below_later d.name e ds (r [] ds d e refl) (later_rise d (e ∷ ds) r)) (rising_sorted (e ∷ ds) (later_rise d (e ∷ ds) r))
+
+-- and the body of each is found at its name
+pub found : (ds : List Define) → AreRising define_cmp ds → (d : Define) → StandsIn ds d → find text_cmp d.name (map entry_of ds) ≡ Some d.body
+found ds r d s =
+    let exact = slice_cmp-IsAntisymmetric nat_cmp-IsAntisymmetric in
+    standing.found text_cmp nat_list_cmp_total exact d.name d.body (map entry_of ds) (rising_sorted ds r) (map_stands entry_of ds d s)

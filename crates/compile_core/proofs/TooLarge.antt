@@ -1,28 +1,39 @@
--- Whether a library's schema is too large, by the counts of its elements and of its nodes after linking.
-use Rattle.std.proofs.Common.{◌≡◌, ◌<◌, ◌≤◌, ℕ, List, inl, inr, length, arith}
-use Rattle.std.specs.Prelude.{All, IsTrue}
+-- Whether a library's schema is too large, by its counts or by the members of its classes.
+use Rattle.std.proofs.Common.{◌≡◌, ◌<◌, ◌≤◌, ℕ, List, inl, inr, length, arith, ◌∙◌, [], ◌∷◌, ◌++◌, map, Option, Some, None}
+use Rattle.std.proofs.lemmas.List.Sums.{sum_by-append, sum_by-le-sum_by}
 use Rattle.std.specs.FinMap.{is_sorted}
-use Rattle.odd_base.specs.Key.{key_cmp}
-use Rattle.odd_forms.specs.Sorted.{IsSet}
+use Rattle.std.specs.Prelude.{All, IsTrue, sum_by}
+use Rattle.compile_contents.proofs.Standing.{each_stands}
+use Rattle.odd_content.specs.ConditionOrder.{condition_cmp}
+use Rattle.compile_contents.specs.Conditions.{IsConditionOf}
+use Rattle.compile_contents.specs.Contents.{define_name, reference, references_pattern}
+use Rattle.compile_counts.proofs.DefineCounts.{text_parts, elements_measured, pattern_elements, ref_elements}
+use Rattle.compile_counts.proofs.Sums.{one_each, sum_by-map, three_of_each}
+use Rattle.compile_counts.specs.Counted.{counted}
+use Rattle.compile_counts.specs.Linking.{HoldsConditions, IsLinkedCount, nodes_by}
+use Rattle.compile_defines.specs.Blocks.{IsConditionDefine, grammar_with, class_at, class_defines, component_defines, element_defines, entry_defines, listed_defines, macro_defines}
+use Rattle.compile_defines.specs.Compiled.{HoldsStart, IsDefineOf, IsGrammarOf, define_cmp}
+use Rattle.compile_laws.proofs.MacroLaw.{BreaksNone}
 use Rattle.odd_content.specs.declared.content.Condition.{Condition}
-use Rattle.odd_decls.specs.declared.library.Library.{Library}
-use Rattle.odd_meaning.specs.Classes.{AreMembers, Members}
+use Rattle.odd_forms.specs.Sorted.{IsSet}
+use Rattle.odd_library.specs.declared.library.Component.{Component}
+use Rattle.odd_library.specs.declared.library.Library.{Library}
+use Rattle.odd_meaning.specs.Classes.{AreMembers, Members, class_count, count_at, listed_count, members_count}
+use Rattle.odd_text.specs.Key.{key_cmp}
+use Rattle.odd_text.specs.declared.key.Key.{Key}
+use Rattle.odd_text.specs.declared.key.Kind.{Kind}
+use Rattle.odd_text.specs.declared.key.Kind.TheVariants as kind
+use Rattle.rng_emit.specs.Grammar.{define_markup}
+use Rattle.rng_emit.specs.Nodes.{text_nodes, elements_in}
 use Rattle.rng_patterns.specs.Nodes.{linked_nodes, reference_nodes}
 use Rattle.rng_patterns.specs.declared.grammar.Define.{Define}
 use Rattle.rng_patterns.specs.declared.grammar.Grammar.{Grammar}
-use Rattle.rng_emit.specs.Nodes.{text_nodes}
-use Rattle.compile_defines.specs.Blocks.{IsConditionDefine, grammar_with}
-use Rattle.compile_defines.specs.Compiled.{HoldsStart, IsDefineOf, IsGrammarOf, define_cmp}
-use Rattle.compile_contents.specs.Conditions.{IsConditionOf, condition_cmp}
-use Rattle.compile_counts.specs.Counted.{counted}
-use Rattle.compile_counts.specs.Linking.{HoldsConditions, IsLinkedCount, nodes_by}
+use Rattle.compile_core.proofs.Blocks.{defines_are, made}
+use Rattle.compile_core.proofs.LinkedNodes.{linked_count}
+use Rattle.compile_core.proofs.MembersExist.{members_exist}
+use Rattle.compile_core.proofs.OneGrammarOf.{found}
+use Rattle.compile_core.proofs.Plain.{apart}
 use Rattle.compile_core.specs.Schema.{HasLargeSchema, IsTooLarge}
-use Rattle.compile_core.proofs.Apart.{apart}
-use Rattle.compile_core.proofs.BlocksSet.{defines_are, made}
-use Rattle.compile_core.proofs.LinkedCount.{linked_count}
-use Rattle.compile_laws.proofs.MacroLaw.{BreaksNone}
-use Rattle.compile_core.proofs.PlainOrder.{found}
-use Rattle.compile_contents.proofs.Standing.{each_stands}
 
 module _ (library : Library) (start : List (List ℕ)) (conditions : List Condition) (members : Members) (before : List Define) (up : IsTrue (is_sorted key_cmp library.parts))
     (holds : HoldsStart library start) (are_members : AreMembers library members) (are_conditions : IsSet condition_cmp (IsConditionOf library) conditions)
@@ -70,3 +81,62 @@ module _ (library : Library) (start : List (List ℕ)) (conditions : List Condit
   -- where it is, the library has a large schema
   pub large_schema : IsTooLarge whole → HasLargeSchema library start
   large_schema large = record { holds_start = holds; grammar = whole; is_grammar = is; too_large = large }
+
+-- the elements of some defines
+abbrev elements_of : List Define → ℕ
+elements_of ds = sum_by (λ d. elements_in (define_markup d)) ds
+
+-- references to members have an element each
+references_many : (idents : List (List ℕ)) → length idents ≤ pattern_elements (references_pattern idents)
+references_many [] = omega arith
+references_many (x ∷ []) = let one = ref_elements (define_name x) in omega arith
+references_many (x ∷ y ∷ rest) =
+    let refs = map reference (x ∷ y ∷ rest) in
+    let choice = elements_measured.choice refs in
+    let sum = sum_by-map pattern_elements reference (x ∷ y ∷ rest) ∙ one_each (λ ident. pattern_elements (reference ident)) (x ∷ y ∷ rest) (λ ident s. ref_elements (define_name ident)) in
+    omega arith
+
+-- so a class's define has one for each of its members
+listed_many : (ident : List ℕ) (listed : Option (List (List ℕ))) → listed_count listed ≤ elements_of (listed_defines ident listed)
+listed_many ident None = omega arith
+listed_many ident (Some idents) = let many = references_many idents in omega arith
+
+module _ (library : Library) (conditions : List Condition) (members : Members) where
+  class_many : (key : Key) (k : Kind) → count_at members k key.ident ≤ elements_of (class_at members k key.ident)
+  class_many key kind.Element = omega arith
+  class_many key kind.Class = listed_many key.ident (members key.ident)
+  class_many key kind.Macro = omega arith
+  class_many key kind.Datatype = omega arith
+
+  -- and an entry's defines one for each of its members, if it is a class
+  entry_many : (entry : Key × Component) → class_count members entry ≤ elements_of (entry_defines library conditions members entry)
+  entry_many (key, part) =
+      let entry : Key × Component = (key, part) in
+      let many = class_many key key.kind in
+      let first = sum_by-append (λ d. elements_in (define_markup d)) (class_defines members entry ++ element_defines library conditions members entry) (macro_defines library conditions members entry) in
+      let second = sum_by-append (λ d. elements_in (define_markup d)) (class_defines members entry) (element_defines library conditions members entry) in
+      omega arith
+
+  components_many : members_count members library ≤ elements_of (component_defines library conditions members)
+  components_many =
+      let each = sum_by-le-sum_by (class_count members) (λ entry. elements_of (entry_defines library conditions members entry)) library.parts entry_many in
+      let whole = three_of_each (λ d. elements_in (define_markup d)) (class_defines members) (element_defines library conditions members) (macro_defines library conditions members) library.parts in
+      omega arith
+
+-- where the members of the classes are more than a schema may have elements, it is too large
+pub too_many : (library : Library) (start : List (List ℕ)) (conditions : List Condition) (before : List Define) → IsTrue (is_sorted key_cmp library.parts) → BreaksNone library
+    → IsSet condition_cmp (IsConditionOf library) conditions → IsSet define_cmp (IsConditionDefine conditions) before → HoldsStart library start
+    → ((members : Members) → AreMembers library members → 1000000 < members_count members library) → HasLargeSchema library start
+too_many library start conditions before up none are_conditions are_before holds more =
+    let exist = members_exist library none in
+    let members = exist.0 in
+    let are = exist.1 in
+    let over = more members are in
+    let many = components_many library conditions members in
+    let text = text_parts (references_pattern start) before (component_defines library conditions members) in
+    record {
+      holds_start = holds;
+      grammar = grammar_with library start conditions members before;
+      is_grammar = made library conditions members before up are_before are start are_conditions;
+      too_large = inl (omega arith);
+    }

@@ -1,10 +1,10 @@
 -- The schema of a library and a list of start words, and where there is none.
 use Rattle.std.specs.Prelude.{◌≡◌, ◌<◌, ◌⊎◌, ℕ, List, Option, Some, None, if◌then◌else◌}
 use Rattle.std.specs.Ordering.{is_gt}
-use Rattle.odd_base.specs.Text.{text_cmp}
-use Rattle.odd_base.specs.declared.offence.Offence.{Offence}
-use Rattle.odd_base.specs.declared.offence.Who.TheVariants as who
-use Rattle.odd_decls.specs.declared.library.Library.{Library}
+use Rattle.odd_text.specs.Text.{text_cmp}
+use Rattle.odd_text.specs.declared.offence.Offence.{Offence}
+use Rattle.odd_text.specs.declared.offence.Who.TheVariants as who
+use Rattle.odd_library.specs.declared.library.Library.{Library}
 use Rattle.odd_tree.specs.Elements.{StandsIn}
 use Rattle.rng_patterns.specs.Nodes.{linked_nodes}
 use Rattle.rng_patterns.specs.declared.grammar.Grammar.{Grammar}

@@ -2,9 +2,9 @@ ghost use Rattle.std.specs.Prelude.{◌≡◌, ◌↔◌, ◌<◌, ℕ, List, If
 ghost use Rattle.std.specs.FinMap.{is_sorted};
 ghost use Rattle.std.specs.Option.{option_copied};
 ghost use Rattle.odd_tree.specs.declared.tree.Tree.{Tree as ATree};
-ghost use Rattle.odd_base.specs.Key.{key_cmp};
-ghost use Rattle.odd_base.specs.declared.key.Key.{Key as AKey};
-ghost use Rattle.odd_base.specs.declared.offence.Offence.{Offence as AnOffence};
+ghost use Rattle.odd_text.specs.Key.{key_cmp};
+ghost use Rattle.odd_text.specs.declared.key.Key.{Key as AKey};
+ghost use Rattle.odd_text.specs.declared.offence.Offence.{Offence as AnOffence};
 ghost use Rattle.odd_content.specs.declared.content.Condition.{Condition as ACondition};
 ghost use Rattle.odd_forms.specs.Sorted.{IsSet};
 ghost use Rattle.odd_meaning.specs.Admission.{Admits};
@@ -14,7 +14,8 @@ ghost use Rattle.rng_patterns.specs.Acceptance.{Accepts};
 ghost use Rattle.rng_emit.specs.Plain.{IsPlain};
 ghost use Rattle.compile_defines.specs.Blocks.{IsConditionDefine, grammar_with};
 ghost use Rattle.compile_defines.specs.Compiled.{HoldsStart, IsGrammarOf, define_cmp};
-ghost use Rattle.compile_contents.specs.Conditions.{IsConditionOf, condition_cmp};
+ghost use Rattle.odd_content.specs.ConditionOrder.{condition_cmp};
+ghost use Rattle.compile_contents.specs.Conditions.{IsConditionOf};
 ghost use Rattle.compile_contents.specs.Contents.{listed_in};
 ghost use Rattle.compile_defines.specs.Formed.{IsFormed};
 ghost use Rattle.compile_core.specs.Schema.{HasLargeSchema, IsLeast, IsOfMembers, IsStartOffence, IsTooLarge, lesser_of};
@@ -22,9 +23,9 @@ ghost use Rattle.compile_core.specs.Schema.{HasLargeSchema, IsLeast, IsOfMembers
 use compile_contents::{conditions_of, holds_element, references_pattern};
 use compile_counts::{linked_nodes, text_nodes};
 use compile_defines::{condition_defines, library_defines};
-use odd_base::{NoMemory, Offence, Text, TryCopy, Who, Words};
 use odd_classes::{MemberTable, TableRefusal, members_by_class};
-use odd_decls::Library;
+use odd_library::Library;
+use odd_text::{NoMemory, Offence, Text, TryCopy, Who, Words};
 use rng_patterns::{Defines, Grammar};
 use std::alloc::Global;
 
@@ -76,7 +77,7 @@ pub fn compile(alloc: Global, library: &Library, start: &Words) -> Result<Gramma
     ensures offence { (offence : AnOffence) → result ≡ Err (CompileRefusal.Offence offence) → IsStartOffence library.now start.now offence }
     ensures too_large { result ≡ Err CompileRefusal.TooLarge → HasLargeSchema library.now start.now }
 {
-    if let Some(word) = least_missing(alloc, library, start)? {
+    if let Some(word) = least_missing(library, start) {
         let who = Who::Start(word.copy(alloc)?);
         return Err(CompileRefusal::Offence(Offence {
             file: 0,
@@ -126,20 +127,16 @@ fn is_too_large(
 }
 
 // The least of the start words that are no held element.
-fn least_missing<'a>(
-    alloc: Global,
-    library: &Library,
-    start: &'a Words,
-) -> Result<Option<&'a Text>, NoMemory>
-    ensures { IfOk result (λ least. IsLeast library.now start.entry.now (option_copied least)) }
+fn least_missing<'a>(library: &Library, start: &'a Words) -> Option<&'a Text>
+    ensures { IsLeast library.now start.entry.now (option_copied result) }
 {
     let mut least = None;
     for word in start.as_slice() {
-        if !holds_element(alloc, library, word)? {
+        if !holds_element(library, word) {
             least = lesser(least, word);
         }
     }
-    Ok(least)
+    least
 }
 
 // The lesser of two words, where there are two.

@@ -1,13 +1,13 @@
 -- How many nodes the references of a library's schema have after linking.
 use Rattle.std.specs.Prelude.{◌≡◌, ◌+◌, ℕ, true, false, List, Option, Some, None, flat_map, sum_by}
 use Rattle.std.specs.FinMap.{find}
-use Rattle.odd_base.specs.Key.{key_cmp}
+use Rattle.odd_text.specs.Key.{key_cmp}
 use Rattle.odd_tree.specs.Elements.{StandsIn}
 use Rattle.odd_content.specs.declared.content.Condition.{Condition}
-use Rattle.odd_decls.specs.declared.library.Component.{Component}
-use Rattle.odd_decls.specs.declared.library.Component.TheVariants as component
-use Rattle.odd_decls.specs.declared.library.Library.{Library}
-use Rattle.odd_decls.specs.declared.library.OtherPart.{OtherPart}
+use Rattle.odd_library.specs.declared.library.Component.{Component}
+use Rattle.odd_library.specs.declared.library.Component.TheVariants as component
+use Rattle.odd_library.specs.declared.library.Library.{Library}
+use Rattle.odd_library.specs.declared.library.OtherPart.{OtherPart}
 use Rattle.odd_meaning.specs.Classes.{Members}
 use Rattle.odd_meaning.specs.Links.{IsLinked, macro_key, macros_of}
 use Rattle.rng_patterns.specs.Nodes.{element_nodes, nodes}

@@ -1,12 +1,12 @@
 -- How many nodes a pattern of content has, where references to classes and macros count more than one.
 use Rattle.std.specs.Prelude.{◌≡◌, ◌+◌, ℕ, List, Some, sum_by, unwrap_or}
 use Rattle.std.specs.FinMap.{find}
-use Rattle.odd_base.specs.Text.{text_cmp}
+use Rattle.odd_text.specs.Text.{text_cmp}
 use Rattle.odd_tree.specs.Elements.{StandsIn}
 use Rattle.odd_content.specs.declared.content.Condition.{Condition}
 use Rattle.odd_content.specs.declared.content.Content.{Content}
-use Rattle.odd_decls.specs.Odd.{element_key}
-use Rattle.odd_decls.specs.declared.library.Library.{Library}
+use Rattle.odd_library.specs.Odd.{element_key}
+use Rattle.odd_library.specs.declared.library.Library.{Library}
 use Rattle.odd_meaning.specs.Classes.{Members}
 use Rattle.odd_meaning.specs.Links.{class_key, macro_key, named_in}
 use Rattle.rng_patterns.specs.declared.grammar.Expr.{Expr}

@@ -1,6 +1,6 @@
 ghost use Rattle.std.specs.Prelude.{◌≡◌, All, IfOk, List, [], ℕ, map, sum_by};
 ghost use Rattle.odd_content.specs.declared.content.Condition.{Condition as ACondition};
-ghost use Rattle.odd_decls.specs.declared.library.Library.{Library as ALibrary};
+ghost use Rattle.odd_library.specs.declared.library.Library.{Library as ALibrary};
 ghost use Rattle.rng_emit.specs.Grammar.{class_markup, define_markup, part_markup};
 ghost use Rattle.rng_emit.specs.Nodes.{elements_in, text_nodes as the_text_nodes};
 ghost use Rattle.compile_defines.specs.Blocks.{IsConditionDefine, component_defines, entry_defines, grammar_with, listed_defines};
@@ -11,10 +11,10 @@ ghost use Rattle.compile_counts.specs.Weights.{AreMembersWeighed, AreWeighed, Is
 ghost use Rattle.rng_patterns.specs.declared.grammar.Expr.{Expr as AnExpr};
 
 use compile_contents::{class_name, macro_name, picked};
-use odd_base::{Key, Kind, Map, NoMemory, Text, Words};
 use odd_classes::MemberTable;
 use odd_content::{Content, Contents, Pick};
-use odd_decls::{Component, Library};
+use odd_library::{Component, Library};
+use odd_text::{Key, Kind, Map, NoMemory, Text, Words};
 use rng_patterns::{Body, Define, Defines, NameClass, NsParts};
 use rng_values::Bounds;
 use std::alloc::Global;

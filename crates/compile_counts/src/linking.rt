@@ -1,9 +1,9 @@
 ghost use Rattle.std.specs.Prelude.{◌≡◌, ◌∷◌, ◌++◌, [], All, IfOk, List, ℕ, OnOk, sum_by};
 ghost use Rattle.std.specs.Option.{option_copied};
 ghost use Rattle.odd_content.specs.declared.content.Condition.{Condition as ACondition};
-ghost use Rattle.odd_base.specs.declared.key.Key.{Key as AKey};
-ghost use Rattle.odd_decls.specs.Library.{content_of};
-ghost use Rattle.odd_decls.specs.declared.library.Library.{Library as ALibrary};
+ghost use Rattle.odd_text.specs.declared.key.Key.{Key as AKey};
+ghost use Rattle.odd_library.specs.Library.{content_of};
+ghost use Rattle.odd_library.specs.declared.library.Library.{Library as ALibrary};
 ghost use Rattle.odd_meaning.specs.Classes.{Members};
 ghost use Rattle.odd_meaning.specs.Rules.{Breaks};
 ghost use Rattle.odd_tree.specs.Elements.{StandsIn};
@@ -17,9 +17,9 @@ ghost use Rattle.compile_defines.specs.Compiled.{HoldsStart};
 
 use crate::counting::{Weights, content_nodes, grouped_nodes};
 use compile_contents::{class_name, macro_name};
-use odd_base::{Key, Kind, NoMemory, Text, TryCopy, Words};
 use odd_classes::{MemberTable, in_macro_order};
-use odd_decls::{Component, Library, OtherPart};
+use odd_library::{Component, Library, OtherPart};
+use odd_text::{Key, Kind, NoMemory, Text, Words};
 use rng_patterns::{Body, Defines};
 use std::alloc::Global;
 
@@ -146,11 +146,7 @@ fn add_macro(
 ) -> Result<(), NoMemory>
     ensures { OnOk result ((conditions : List ACondition) (count : List ℕ → ℕ) (before : List (List ℕ)) → HoldsConditions library.now conditions → IsLinkedCount library.now conditions (listed_in members.now) count → StandsAfter library.now before ident.now → AreWeightsOf library.now (listed_in members.now) (StandsIn before) weights.old count → AreWeightsOf library.now (listed_in members.now) (StandsIn (before ++ ident.now ∷ [])) weights.new count) }
 {
-    let key = Key {
-        kind: Kind::Macro,
-        ident: ident.copy(alloc)?,
-    };
-    let Some(part) = library.find(&key) else {
+    let Some(part) = library.find_by(Kind::Macro, ident) else {
         return Ok(());
     };
     let Some(part) = as_macro(part) else {

@@ -1,5 +1,2 @@
 pub mod BySpace
-pub mod Examples
-pub mod HeldParts
 pub mod NamedDefines
-pub mod Spaces

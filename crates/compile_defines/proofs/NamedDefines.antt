@@ -1,6 +1,6 @@
--- The defines of conditions that rise have distinct names, and so they rise once they are sorted by name.
-use Rattle.std.proofs.Common.{◌≡◌, ◌<◌, ◌≤◌, ◌+◌, ◌^◌, ℕ, suc, Bool, true, false, cond, List, [], ◌∷◌, ◌++◌, get_or, length, map, refl, sym, ap, subst, ◌∙◌, arith}
-use Rattle.std.specs.Prelude.{codes, sum_by}
+-- The defines of what a library holds, and those of conditions, which have distinct names and rise.
+use Rattle.std.proofs.Common.{◌≡◌, ℕ, List, Some, ◌<◌, ◌≤◌, ◌+◌, ◌^◌, suc, Bool, true, false, cond, [], ◌∷◌, ◌++◌, get_or, length, map, refl, sym, ap, subst, ◌∙◌, arith}
+use Rattle.std.proofs.lemmas.Bool.{false_from_ne_true}
 use Rattle.std.proofs.lemmas.Cmp.{eq_by_cmp_equiv, nat_list_cmp_total, on_total}
 use Rattle.std.proofs.lemmas.Fmt.{decimal_injective}
 use Rattle.std.proofs.lemmas.List.{append_cancel_left}
@@ -9,24 +9,59 @@ use Rattle.std.proofs.lemmas.List.Sums.{count_by-le-length, sum_by-append, sum_b
 use Rattle.std.proofs.lemmas.Map.Keys.{IsDistinct-IsPermutation}
 use Rattle.std.specs.Cmp.{IsStrictWeakOrder, IsTotalOrder, tied_itself}
 use Rattle.std.specs.Cmp.Lexicographic.{same_text, texts_ties}
+use Rattle.std.specs.FinMap.{find}
 use Rattle.std.specs.List.{AllByRecursion, IsDistinct}
 use Rattle.std.specs.List.Sorted.{IsPermutation, IsSorted}
 use Rattle.std.specs.Ordering.{eq_by_cmp, is_eq, is_lt, ordering_reverse}
+use Rattle.std.specs.Prelude.{codes, sum_by}
 use Rattle.std.specs.declared.cmp.Ordering.{Ordering}
 use Rattle.std.specs.declared.cmp.Ordering.TheVariants.{Less, Equal, Greater}
+use Rattle.compile_contents.proofs.Standing.{HoldsElementAt, held_stands, is_less}
+use Rattle.odd_content.specs.ConditionOrder.{condition_cmp, condition_total}
+use Rattle.compile_contents.specs.Contents.{condition_name, number_of}
 use Rattle.odd_content.specs.declared.content.Condition.{Condition}
-use Rattle.odd_tree.specs.Elements.{StandsIn}
-use Rattle.odd_tree.proofs.InList.{contained, map_stands, standing, stands_first, stands_later, stands_map}
-use Rattle.odd_forms.proofs.OneSet.{first_below, rest_rising}
+use Rattle.odd_forms.proofs.SetOf.{first_below, rest_rising}
 use Rattle.odd_forms.specs.Sorted.{AreRising, IsSet}
+use Rattle.odd_graph.proofs.Chains.{first_step}
+use Rattle.odd_library.specs.Odd.{element_key}
+use Rattle.odd_library.specs.declared.library.Component.{Component}
+use Rattle.odd_library.specs.declared.library.Component.TheVariants as component
+use Rattle.odd_library.specs.declared.library.Library.{Library}
+use Rattle.odd_meaning.specs.Classes.{AreMembers, IsElementOf, IsListed, IsMember, Members}
+use Rattle.odd_meaning.specs.Links.{IsLinked, class_key, classes_of}
+use Rattle.odd_text.specs.Key.{key_cmp}
+use Rattle.odd_text.specs.KeyOrder.{key_total, key_exact}
+use Rattle.odd_text.specs.declared.key.Key.{Key}
+use Rattle.odd_tree.proofs.InList.{contained, map_stands, standing, stands_first, stands_later, stands_map}
+use Rattle.odd_tree.specs.Elements.{StandsIn}
 use Rattle.rng_patterns.specs.declared.grammar.Define.{Define}
 use Rattle.compile_defines.specs.Blocks.{IsConditionDefine}
 use Rattle.compile_defines.specs.Compiled.{condition_define, define_cmp}
-use Rattle.compile_contents.specs.ConditionOrder.{condition_total}
-use Rattle.compile_contents.specs.Conditions.{condition_cmp}
-use Rattle.compile_contents.specs.Contents.{condition_name, number_of}
-use Rattle.compile_contents.proofs.Standing.{is_less}
-use Rattle.std.proofs.lemmas.Bool.{false_from_ne_true}
+use Rattle.compile_defines.specs.Formed.{IsFormed}
+
+-- what is found at a key is an entry of the library
+pub entry_stands : (library : Library) (key : Key) (part : Component) → find key_cmp key library.parts ≡ Some part → StandsIn library.parts (key, part)
+entry_stands library key part e = held_stands key_cmp key_total key_exact key part library.parts e
+
+-- the class of listed members is one of type `model`, and these are its members
+pub listed_is : (library : Library) (members : Members) (class : List ℕ) (idents : List (List ℕ)) → AreMembers library members → members class ≡ Some idents → IsListed library class (Some idents)
+listed_is library members class idents are e = rw e at (are class)
+
+-- a member of a class of a formed library is a held element
+member_held : (library : Library) (class ident : List ℕ) → IsFormed library → IsMember library class (element_key ident) → HoldsElementAt library ident
+member_held library class ident f m =
+    let first = first_step (IsLinked classes_of library) (element_key ident) (class_key class) m in
+    of_kind first.1.part first.1.held
+  where
+    of_kind : (part : Component) → find key_cmp (element_key ident) library.parts ≡ Some part → HoldsElementAt library ident
+    of_kind (component.Element part) e = (part, e)
+    of_kind (component.Class part) e = absurd (f.formed (element_key ident) (component.Class part) e).1
+    of_kind (component.Macro part) e = absurd (f.formed (element_key ident) (component.Macro part) e).1
+    of_kind (component.Datatype part) e = absurd (f.formed (element_key ident) (component.Datatype part) e).1
+
+-- and so one of its elements
+pub element_of : (library : Library) (class ident : List ℕ) → IsFormed library → IsMember library class (element_key ident) → IsElementOf library class ident
+element_of library class ident f m = let h = member_held library class ident f m in record { part = h.0; held = h.1; member = m }
 
 -- what neither falls nor ties is less
 less_left : (r : Ordering) → is_lt (ordering_reverse r) ≡ false → is_eq r ≡ false → r ≡ Less

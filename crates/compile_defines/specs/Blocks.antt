@@ -1,13 +1,13 @@
 -- The defines of a library, one kind after the other, as its entries stand.
 use Rattle.std.specs.Prelude.{◌≡◌, ℕ, List, [], ◌∷◌, ◌++◌, Option, Some, None, flat_map}
-use Rattle.odd_base.specs.declared.key.Key.{Key}
-use Rattle.odd_base.specs.declared.key.Kind.{Kind}
-use Rattle.odd_base.specs.declared.key.Kind.TheVariants as kind
+use Rattle.odd_text.specs.declared.key.Key.{Key}
+use Rattle.odd_text.specs.declared.key.Kind.{Kind}
+use Rattle.odd_text.specs.declared.key.Kind.TheVariants as kind
 use Rattle.odd_tree.specs.Elements.{StandsIn}
 use Rattle.odd_content.specs.declared.content.Condition.{Condition}
-use Rattle.odd_decls.specs.declared.library.Component.{Component}
-use Rattle.odd_decls.specs.declared.library.Component.TheVariants as component
-use Rattle.odd_decls.specs.declared.library.Library.{Library}
+use Rattle.odd_library.specs.declared.library.Component.{Component}
+use Rattle.odd_library.specs.declared.library.Component.TheVariants as component
+use Rattle.odd_library.specs.declared.library.Library.{Library}
 use Rattle.odd_meaning.specs.Classes.{Members}
 use Rattle.rng_patterns.specs.declared.grammar.Define.{Define}
 use Rattle.rng_patterns.specs.declared.grammar.Grammar.{Grammar}

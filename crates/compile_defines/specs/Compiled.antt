@@ -2,17 +2,17 @@
 use Rattle.std.specs.Prelude.{◌≡◌, ℕ, false, not, List, [], ◌∷◌, Some, map, filter}
 use Rattle.std.specs.FinMap.{find}
 use Rattle.std.specs.List.{list_any}
-use Rattle.odd_base.specs.Key.{key_cmp}
-use Rattle.odd_base.specs.Text.{text_cmp}
+use Rattle.odd_text.specs.Key.{key_cmp}
+use Rattle.odd_text.specs.Text.{text_cmp}
 use Rattle.odd_tokens.specs.Same.{is_same}
 use Rattle.odd_tree.specs.Elements.{StandsIn}
 use Rattle.odd_forms.specs.Sorted.{IsSet}
 use Rattle.odd_content.specs.declared.content.Condition.{Condition}
-use Rattle.odd_decls.specs.Odd.{element_key}
-use Rattle.odd_decls.specs.declared.library.Component.TheVariants as component
-use Rattle.odd_decls.specs.declared.library.ElementPart.{ElementPart}
-use Rattle.odd_decls.specs.declared.library.Library.{Library}
-use Rattle.odd_decls.specs.declared.library.OtherPart.{OtherPart}
+use Rattle.odd_library.specs.Odd.{element_key}
+use Rattle.odd_library.specs.declared.library.Component.TheVariants as component
+use Rattle.odd_library.specs.declared.library.ElementPart.{ElementPart}
+use Rattle.odd_library.specs.declared.library.Library.{Library}
+use Rattle.odd_library.specs.declared.library.OtherPart.{OtherPart}
 use Rattle.odd_meaning.specs.Classes.{AreMembers, Members}
 use Rattle.odd_meaning.specs.Links.{macro_key}
 use Rattle.rng_patterns.specs.declared.grammar.AttrPart.TheVariants as attributes
@@ -25,7 +25,8 @@ use Rattle.rng_patterns.specs.declared.grammar.Grammar.{Grammar}
 use Rattle.rng_patterns.specs.declared.grammar.NameClass.TheVariants as class
 use Rattle.rng_patterns.specs.declared.grammar.NsPart.{NsPart}
 use Rattle.std.specs.declared.cmp.Ordering.{Ordering}
-use Rattle.compile_contents.specs.Conditions.{IsConditionOf, condition_cmp}
+use Rattle.odd_content.specs.ConditionOrder.{condition_cmp}
+use Rattle.compile_contents.specs.Conditions.{IsConditionOf}
 use Rattle.compile_contents.specs.Contents.{class_name, condition_name, content_pattern, define_name, holds_element, macro_name, references_pattern}
 
 -- no attribute is offered so far

@@ -1,17 +1,17 @@
 -- What is asked of a library: that it is as files give it.
 use Rattle.std.specs.Prelude.{◌≡◌, All, Some, IsTrue}
 use Rattle.std.specs.FinMap.{find, is_sorted}
-use Rattle.odd_base.specs.Key.{key_cmp}
-use Rattle.odd_base.specs.declared.key.Key.{Key}
-use Rattle.odd_base.specs.declared.key.Kind.{Kind}
-use Rattle.odd_base.specs.declared.key.Kind.TheVariants as kind
+use Rattle.odd_text.specs.Key.{key_cmp}
+use Rattle.odd_text.specs.declared.key.Key.{Key}
+use Rattle.odd_text.specs.declared.key.Kind.{Kind}
+use Rattle.odd_text.specs.declared.key.Kind.TheVariants as kind
 use Rattle.odd_tokens.specs.Characters.{IsLegal, IsNCName}
 use Rattle.odd_content.specs.declared.content.Condition.{Condition}
 use Rattle.odd_content.specs.declared.content.Content.{Content}
-use Rattle.odd_decls.specs.declared.library.Component.{Component}
-use Rattle.odd_decls.specs.declared.library.Component.TheVariants as component
-use Rattle.odd_decls.specs.declared.library.ElementPart.{ElementPart}
-use Rattle.odd_decls.specs.declared.library.Library.{Library}
+use Rattle.odd_library.specs.declared.library.Component.{Component}
+use Rattle.odd_library.specs.declared.library.Component.TheVariants as component
+use Rattle.odd_library.specs.declared.library.ElementPart.{ElementPart}
+use Rattle.odd_library.specs.declared.library.Library.{Library}
 use Rattle.rng_emit.specs.Plain.{IsPlainName}
 use Rattle.compile_contents.specs.Conditions.{conditions_in}
 use Rattle.compile_defines.specs.OrderedBounds.{AreBoundsOrdered}

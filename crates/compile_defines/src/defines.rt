@@ -1,11 +1,11 @@
 ghost use Rattle.std.specs.Prelude.{◌≡◌, ◌++◌, ℕ, List, map, filter, flat_map, IfOk, OnOk};
 ghost use Rattle.std.specs.List.Sorted.{IsPermutation, IsSorted, IsSortedByKey};
-ghost use Rattle.odd_base.specs.Text.{text_cmp};
+ghost use Rattle.odd_text.specs.Text.{text_cmp};
 ghost use Rattle.odd_forms.specs.Sorted.{AreRising, IsSet};
 ghost use Rattle.odd_tokens.specs.Same.{is_same};
 ghost use Rattle.compile_defines.specs.Blocks.{IsConditionDefine, class_defines, component_defines, element_defines, macro_defines};
 ghost use Rattle.compile_defines.specs.Compiled.{class_define as the_class_define, condition_body as the_condition_body, condition_define as the_condition_define, content_throughout as the_content_throughout, define_cmp, element_define as the_element_define, macro_define as the_macro_define, space_part as the_space_part, spaces_left as the_spaces_left};
-ghost use Rattle.compile_contents.specs.Conditions.{condition_cmp};
+ghost use Rattle.odd_content.specs.ConditionOrder.{condition_cmp};
 ghost use Rattle.compile_contents.specs.Contents.{listed_in};
 ghost use Rattle.rng_patterns.specs.declared.grammar.AttrPart.TheVariants as attributes;
 ghost use Rattle.rng_patterns.specs.declared.grammar.Body.TheVariants as body;
@@ -14,10 +14,10 @@ use compile_contents::{
     Conditions, class_name, condition_name, content_pattern, define_name, macro_name,
     references_pattern, those_among,
 };
-use odd_base::{Key, Kind, Name, Names, NoMemory, Text, TryCopy, Words};
 use odd_classes::MemberTable;
 use odd_content::Condition;
-use odd_decls::{Component, ElementPart, Library, OtherPart};
+use odd_library::{Component, ElementPart, Library, OtherPart};
+use odd_text::{Key, Kind, Name, Names, NoMemory, Text, TryCopy, Words};
 use rng_patterns::{
     AttrPart, Body, Define, Defines, Expr, Exprs, NameClass, NsPart, NsParts, Rules,
 };

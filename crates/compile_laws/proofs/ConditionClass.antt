@@ -1,28 +1,44 @@
--- The name class of a condition's define holds the names that meet the condition. Where there is no such name, the define holds `notAllowed`.
-use Rattle.std.proofs.Common.{◌≡◌, ◌↔◌, ◌⊎◌, ℕ, true, List, [], ◌∷◌, map, inl, inr, ⊎_elim, refl, sym, ap, subst, ◌∙◌}
-use Rattle.std.proofs.lemmas.Bool.{both_ways, false≢true, false_from_ne_true, not-true, not_from_false, or_cases}
-use Rattle.std.proofs.lemmas.Cmp.{nat_list_eq_equiv}
+-- The name class of a condition's define, the one body of each define, and the elements among the significant children.
+use Rattle.std.proofs.Common.{◌≡◌, ◌↔◌, ◌⊎◌, ℕ, true, List, [], ◌∷◌, map, inl, inr, ⊎_elim, refl, sym, ap, subst, ◌∙◌, false, not, ◌++◌, filter, rules}
+use Rattle.std.proofs.lemmas.Bool.{both_ways, false≢true, false_from_ne_true, not-true, not_from_false, or_cases, cases_Bool, or_parts}
+use Rattle.std.proofs.lemmas.Cmp.{nat_list_eq_equiv, nat_list_cmp_total, on_total}
 use Rattle.std.proofs.lemmas.Map.Views.{list_any-from_Contains}
+use Rattle.std.specs.Cmp.{IsTotalOrder, tied_itself}
 use Rattle.std.specs.Cmp.Lexicographic.{same_text}
 use Rattle.std.specs.List.{list_any}
-use Rattle.odd_base.specs.declared.name.Name.{Name}
-use Rattle.odd_tokens.specs.Same.{is_same}
-use Rattle.odd_tree.proofs.InList.{contained, map_stands, nothing_stands, stands_first, stands_later, stands_map}
-use Rattle.odd_tree.proofs.SameTexts.{same_from}
-use Rattle.odd_tree.specs.Elements.{StandsIn}
+use Rattle.std.specs.declared.cmp.Ordering.{Ordering}
+use Rattle.std.specs.declared.cmp.Ordering.TheVariants.{Less, Equal}
+use Rattle.compile_contents.proofs.Standing.{filter_passed, stands_filter, filter_stands}
+use Rattle.compile_contents.specs.Contents.{condition_name}
+use Rattle.compile_defines.specs.Compiled.{condition_body, content_throughout, space_part, spaces_left, IsGrammarOf, condition_define, define_cmp}
+use Rattle.compile_defines.specs.Compiled as compiled
 use Rattle.odd_content.specs.declared.content.Condition.{Condition}
+use Rattle.odd_forms.proofs.SetOf.{first_below, rest_rising, turned}
+use Rattle.odd_forms.specs.Sorted.{AreRising}
+use Rattle.odd_library.specs.declared.library.Library.{Library}
 use Rattle.odd_meaning.specs.Conditions.{IsMetBy}
+use Rattle.odd_text.specs.declared.name.Name.{Name}
+use Rattle.odd_tokens.specs.Same.{is_same}
+use Rattle.odd_tree.proofs.InList.{contained, map_stands, nothing_stands, stands_first, stands_later, stands_map, first_or_later, elements_append, with_element, with_text}
+use Rattle.odd_tree.proofs.PrintedTrees.{same_from}
+use Rattle.odd_tree.specs.Elements.{StandsIn, elements_of}
+use Rattle.odd_tree.specs.Significant.{IsSignificant, beside_elements, blank, is_blank, is_element, whole}
+use Rattle.odd_tree.specs.declared.tree.Node.{Node, Element, Text, out-Node, roll-Node, roll-out-Node}
+use Rattle.odd_tree.specs.declared.tree.Node as N
+use Rattle.odd_tree.specs.declared.tree.Node.TheOpen as shown
+use Rattle.odd_tree.specs.declared.tree.Node.TheVariants.{rolls-Element, rolls-Text}
+use Rattle.odd_tree.specs.declared.tree.Tree.{Tree}
 use Rattle.rng_patterns.specs.Acceptance.{IsInClass}
+use Rattle.rng_patterns.specs.Patterns.{IsDefined}
 use Rattle.rng_patterns.specs.declared.grammar.AttrPart.TheVariants as attributes
-use Rattle.rng_patterns.specs.declared.grammar.Body.TheVariants as body
 use Rattle.rng_patterns.specs.declared.grammar.Body.{Body}
+use Rattle.rng_patterns.specs.declared.grammar.Body.TheVariants as body
+use Rattle.rng_patterns.specs.declared.grammar.Define.{Define}
 use Rattle.rng_patterns.specs.declared.grammar.Expr.TheVariants as expr
-use Rattle.rng_patterns.specs.declared.grammar.NameClass.TheVariants as class
+use Rattle.rng_patterns.specs.declared.grammar.Grammar.{Grammar}
 use Rattle.rng_patterns.specs.declared.grammar.NameClass.{NameClass}
+use Rattle.rng_patterns.specs.declared.grammar.NameClass.TheVariants as class
 use Rattle.rng_patterns.specs.declared.grammar.NsPart.{NsPart}
-use Rattle.compile_defines.specs.Compiled.{condition_body, content_throughout, space_part, spaces_left}
-use Rattle.compile_contents.proofs.Filtered.{filter_passed, stands_filter}
-use Rattle.compile_contents.proofs.Standing.{filter_stands}
 
 -- a namespace that a test finds in a list stands there
 listed : (space : List ℕ) (spaces : List (List ℕ)) → list_any (is_same space) spaces ≡ true → StandsIn spaces space
@@ -117,3 +133,99 @@ by_required own (space ∷ more) spaces names = by_parts (parts c) refl
 -- the body of a condition is one of the two
 pub body_kind : (own : List ℕ) (c : Condition) → IsBody c own (condition_body own c)
 body_kind own c = by_required own c.require c.spaces c.names
+
+-- of items that rise those that tie are one
+tied_same : {A : Type 0} (order : A → A → Ordering) → IsTotalOrder order → (xs : List A) → AreRising order xs → (a b : A) → StandsIn xs a → StandsIn xs b → order a b ≡ Equal → a ≡ b
+tied_same order total [] r a b s t e = absurd (nothing_stands a s)
+tied_same order total (x ∷ xs) r a b s t e = elim (first_or_later x a xs s) [
+  | inl here ↦ elim (first_or_later x b xs t) [
+    | inl there ↦ here ∙ sym there
+    | inr later ↦
+        let less : order x b ≡ Less = first_below order total x xs r b later in
+        let tied : order x b ≡ Equal = subst (λ y. order y b ≡ Equal) here e in
+        cc
+  ]
+  | inr late ↦ elim (first_or_later x b xs t) [
+    | inl there ↦
+        let more = turned order total a x Less (first_below order total x xs r a late) in
+        let tied : order a x ≡ Equal = subst (λ y. order a y ≡ Equal) there e in
+        cc
+    | inr later ↦ tied_same order total xs (rest_rising order total x xs r) a b late later e
+  ]
+]
+
+module _ (library : Library) (start : List (List ℕ)) (g : Grammar) (is : IsGrammarOf library start g) where
+  -- a name is defined with one body
+  pub one_body : (name : List ℕ) (a b : Body) → IsDefined g name a → IsDefined g name b → a ≡ b
+  one_body name a b s t =
+      let d : Define = record { name = name; body = a } in
+      let e : Define = record { name = name; body = b } in
+      ap (λ (x : Define). x.body)
+      (tied_same define_cmp (on_total (λ (x : Define). x.name) nat_list_cmp_total) g.defines is.are_defines.rising d e s t (tied_itself nat_list_cmp_total name))
+
+  -- the name of a condition's define is defined with the body of that
+  pub condition_defined : (c : Condition) → StandsIn is.conditions c → IsDefined g (condition_name is.conditions c) (condition_body (condition_name is.conditions c) c)
+  condition_defined c s = is.are_defines.each (condition_define is.conditions c) (compiled.of_condition c s refl)
+
+  -- and with no other
+  pub condition_bodied : (c : Condition) → StandsIn is.conditions c → (b : Body) → IsDefined g (condition_name is.conditions c) b → b ≡ condition_body (condition_name is.conditions c) c
+  condition_bodied c s b d = one_body (condition_name is.conditions c) b (condition_body (condition_name is.conditions c) c) d (condition_defined c s)
+
+-- an element is one, a text is none, and an element is not blank
+pub element_is : (t : Tree) → is_element (Element t) ≡ true
+element_is t = search (rules, N.the_lemmas)
+
+pub text_is_none : (x : List ℕ) → is_element (Text x) ≡ false
+text_is_none x = search (rules, N.the_lemmas)
+
+element_filled : (t : Tree) → is_blank (Element t) ≡ false
+element_filled t = search (rules, N.the_lemmas)
+
+-- a child is an element or a text
+pub data IsOfKind : Node → Type 0 where
+  element : (t : Tree) → IsOfKind (Element t)
+  text : (x : List ℕ) → IsOfKind (Text x)
+
+-- by the form in which it is held
+pub kind_of : (n : Node) → IsOfKind n
+kind_of n = elim (out-Node n) as (λ q. out-Node n ≡ q → IsOfKind n) [
+  | shown.Element t ↦ λ e. subst IsOfKind (sym (rolls-Element t) ∙ ap roll-Node (sym e) ∙ roll-out-Node n) (element t)
+  | shown.Text x ↦ λ e. subst IsOfKind (sym (rolls-Text x) ∙ ap roll-Node (sym e) ∙ roll-out-Node n) (text x)
+] refl
+
+-- what stands among the elements of a list stands in the list
+pub element_stands : (nodes : List Node) (u : Tree) → StandsIn (elements_of nodes) u → StandsIn nodes (Element u)
+element_stands [] u s = absurd (nothing_stands u s)
+element_stands (n ∷ nodes) u s = elim (kind_of n) as (λ m k. StandsIn (elements_of (m ∷ nodes)) u → StandsIn (m ∷ nodes) (Element u)) [
+  | element t ↦ λ h. elim (first_or_later t u (elements_of nodes) (subst (λ ts. StandsIn ts u) (with_element t nodes) h)) [
+    | inl e ↦ subst (λ v. StandsIn (Element t ∷ nodes) (Element v)) (sym e) (stands_first (Element t) nodes)
+    | inr later ↦ stands_later (Element t) (Element u) nodes (element_stands nodes u later)
+  ]
+  | text x ↦ λ h. stands_later (Text x) (Element u) nodes (element_stands nodes u (subst (λ ts. StandsIn ts u) (with_text x nodes) h))
+] s
+
+-- and the other way round
+pub stands_element : (nodes : List Node) (u : Tree) → StandsIn nodes (Element u) → StandsIn (elements_of nodes) u
+stands_element nodes u (before, after, e) =
+    (elements_of before, elements_of after, ap elements_of e ∙ elements_append before (Element u ∷ after) ∙ ap (λ ts. elements_of before ++ ts) (with_element u after))
+
+-- where no child is an element, none stands there
+pub no_element : (nodes : List Node) (u : Tree) → list_any is_element nodes ≡ false → StandsIn nodes (Element u) → ⊥
+no_element [] u e s = nothing_stands (Element u) s
+no_element (n ∷ nodes) u e s = elim (first_or_later n (Element u) nodes s) [
+  | inl is ↦ false≢true (sym (or_parts (is_element n) (list_any is_element nodes) e).0 ∙ ap is_element (sym is) ∙ element_is u)
+  | inr later ↦ no_element nodes u (or_parts (is_element n) (list_any is_element nodes) e).1 later
+]
+
+-- each element among the children is significant
+pub stands_kept : (all kept : List Node) (u : Tree) → IsSignificant all kept → StandsIn all (Element u) → StandsIn kept (Element u)
+stands_kept all kept u (beside_elements h) s = stands_filter (λ n. not (is_blank n)) all (Element u) s (not_from_false (is_blank (Element u)) (element_filled u))
+stands_kept all kept u (blank {child = child} b) s = elim (first_or_later child (Element u) [] s) [
+  | inl e ↦ absurd (false≢true (sym (element_filled u) ∙ ap is_blank e ∙ b))
+  | inr later ↦ absurd (nothing_stands (Element u) later)
+]
+stands_kept all kept u (whole h) s = s
+
+-- of all children some are significant
+pub significant : (all : List Node) → (kept : List Node) × IsSignificant all kept
+significant all = ⊎_elim (λ h. (filter (λ n. not (is_blank n)) all, beside_elements h)) (λ h. (all, whole h)) (cases_Bool (list_any is_element all))

@@ -1,41 +1,128 @@
--- The content law: a content admits the lists of children that its pattern matches.
--- What is asked is that the leaves are kept (`AreLeavesKept`): what an element, a class or a condition admits is what its pattern matches,
--- in lists of which each child is such as Q says. And of what the content names (`AreNamesKept`): each macro is kept too, each class is none of
--- attributes, which is compiled to nothing, and each condition is one of those that are numbered, since its number is in the name of its define.
--- The law goes up from the leaves by induction on the content. What stands several times is `repeated_law`, the parts of a sequence are `group_law`
--- (Repetition.antt) and those of an alternate `choice_law` (ChoiceLaw.antt), and Pieces.antt shows which splits of a list hold the same lists.
--- The bounds must be in order: of a minimum above its maximum no number is allowed, and yet the pattern matches as many as the minimum.
--- The law holds of any two markings and of any meaning of macros, and speaks of no depth, so it needs no induction on documents.
--- MacroLaw.antt cites it for the contents of macros, and Joining.antt for that of a held element, with the leaves of Leaves.antt.
-use Rattle.std.proofs.Common.{ℕ, List, [], ◌++◌}
-use Rattle.odd_base.specs.declared.key.Key.{Key}
-use Rattle.odd_tree.proofs.InList.{stands_first}
-use Rattle.odd_tree.specs.Elements.{StandsIn}
-use Rattle.odd_tree.specs.Significant.{Marking}
-use Rattle.odd_tree.specs.declared.tree.Node.{Node}
+-- The content law: a content admits the lists of children that its pattern matches, repetitions by their bounds.
+use Rattle.std.proofs.Common.{◌≡◌, ◌↔◌, ◌⊎◌, inl, inr, ℕ, zero, suc, ◌+◌, ◌-◌, ◌≤◌, Option, Some, None, List, [], ◌∷◌, ◌++◌, replicate, refl, sym, subst, arith}
+use Rattle.std.specs.Prelude.{All}
+use Rattle.compile_contents.proofs.Standing.{stands_left, stands_right}
+use Rattle.compile_contents.specs.Conditions.{conditions_in, conditions_in_parts}
+use Rattle.compile_contents.specs.Contents.{condition_pattern, content_pattern, element_pattern, macro_pattern, members_pattern, part_patterns}
+use Rattle.compile_contents.specs.Repeating.{further, group_pattern, repeated, repeated_within, choice_pattern}
+use Rattle.compile_defines.specs.OrderedBounds.{IsOrdered, AreAllOrdered, AreBoundsOrdered}
 use Rattle.odd_content.specs.declared.content.Condition.{Condition}
 use Rattle.odd_content.specs.declared.content.Content.{Content, Empty, Text, Element, Class, Macro, Any, Sequence', Alternate', Row_of-Content, end_of-Content, more_of-Content}
 use Rattle.odd_content.specs.declared.content.Pick.{Pick}
-use Rattle.odd_decls.specs.declared.library.Library.{Library}
+use Rattle.odd_library.specs.declared.library.Library.{Library}
 use Rattle.odd_meaning.specs.Classes.{Members}
-use Rattle.odd_meaning.specs.Contents.{AdmitsBy, ByOne, InOrder, IsOne, IsOneMember, Macros}
+use Rattle.odd_meaning.specs.Contents.{IsUpTo, IsWithin, AdmitsBy, ByOne, InOrder, IsOne, IsOneMember, Macros}
 use Rattle.odd_meaning.specs.Labels.{Label, element, condition}
 use Rattle.odd_meaning.specs.Links.{class_key, macro_key, named_in, named_in_parts}
 use Rattle.odd_meaning.specs.Rules.{IsOfAttributes}
-use Rattle.rng_patterns.proofs.Told.{text_shown, told}
+use Rattle.odd_text.specs.declared.key.Key.{Key}
+use Rattle.odd_tree.proofs.InList.{stands_first}
+use Rattle.odd_tree.specs.Elements.{StandsIn}
+use Rattle.odd_tree.specs.Significant.{Marking}
+use Rattle.odd_tree.specs.Splits.{Counted, Pieces, Then}
+use Rattle.odd_tree.specs.declared.tree.Node.{Node}
+use Rattle.rng_patterns.proofs.OnePattern.{empty_shown, group_shown, one_or_more_shown, optional_shown, told, zero_or_more_shown, text_shown}
 use Rattle.rng_patterns.specs.Patterns as patterns
-use Rattle.rng_patterns.specs.Patterns.{IsMatched}
+use Rattle.rng_patterns.specs.Patterns.{AreMatched, IsMatched, IsRepeated}
+use Rattle.rng_patterns.specs.declared.grammar.Expr.{Expr}
 use Rattle.rng_patterns.specs.declared.grammar.Expr.TheOpen as shape
 use Rattle.rng_patterns.specs.declared.grammar.Expr.TheVariants as expr
 use Rattle.rng_patterns.specs.declared.grammar.Grammar.{Grammar}
-use Rattle.compile_contents.specs.Conditions.{conditions_in, conditions_in_parts}
-use Rattle.compile_contents.specs.Contents.{condition_pattern, content_pattern, element_pattern, macro_pattern, members_pattern, part_patterns}
-use Rattle.compile_contents.specs.Repeating.{choice_pattern, group_pattern}
-use Rattle.compile_defines.specs.OrderedBounds.{AreAllOrdered, AreBoundsOrdered}
-use Rattle.compile_laws.proofs.ChoiceLaw.{InChoice, choice_law}
-use Rattle.compile_laws.proofs.Pieces.{Same, or_same, same, then_same, trans}
-use Rattle.compile_laws.proofs.Repetition.{InGroup, group_law, repeated_law}
-use Rattle.compile_contents.proofs.Standing.{stands_left, stands_right}
+use Rattle.rng_values.specs.declared.bounds.Bounds.{Bounds}
+use Rattle.compile_laws.proofs.Pieces.{Same, at_most_more, counted_same, counts_same, none_same, one_more, swap, then_end, then_same, trans, InChoice, choice_law, or_same, same}
+
+module _ (Q : Node → Type 0) (g : Grammar) (marks : Marking (List ℕ)) where
+  -- one piece a pattern, in order
+  abbrev pub InGroup : List Expr → List Node → Type 0
+  InGroup [] w = w ≡ []
+  InGroup (p ∷ ps) w = Then (IsMatched g marks p) (InGroup ps) w
+
+  -- what splits so, each piece by its pattern
+  are_matched : (ps : List Expr) (w : List Node) → InGroup ps w → AreMatched g marks ps w
+  are_matched [] w h = subst (AreMatched g marks []) (sym h) patterns.nothing
+  are_matched (p ∷ ps) w h = patterns.more h.left h.right h.split h.first (are_matched ps h.right h.second)
+
+  -- and the other way round
+  in_group : (ps : List Expr) (w : List Node) → AreMatched g marks ps w → InGroup ps w
+  in_group [] w patterns.nothing = refl
+  in_group (p ∷ ps) w (patterns.more left right split m ms) = record { left = left; right = right; split = split; first = m; second = in_group ps right ms }
+
+  -- a group of any patterns matches what splits so
+  pub group_law : (ps : List Expr) → Same Q (InGroup ps) (IsMatched g marks (group_pattern ps))
+  group_law [] w q = (λ none. subst (IsMatched g marks expr.Empty) (sym none) patterns.empty, told g marks expr.Empty shape.Empty w empty_shown)
+  group_law (p ∷ []) w q = swap Q (then_end Q (IsMatched g marks p)) w q
+  group_law (p ∷ r ∷ ps) w q = (
+    λ h. patterns.group refl (are_matched (p ∷ r ∷ ps) w h),
+    λ m. in_group (p ∷ r ∷ ps) w (told g marks _ (shape.Group (p ∷ r ∷ ps)) w (group_shown (p ∷ r ∷ ps)) m),
+  )
+
+  module _ (p : Expr) where
+    -- so many pieces are so many repetitions
+    is_repeated : (n : ℕ) (w : List Node) → Pieces (IsMatched g marks p) n w → IsRepeated g marks n p w
+    is_repeated zero w h = subst (IsRepeated g marks zero p) (sym h) patterns.none
+    is_repeated (suc n) w h = patterns.again h.left h.right h.split h.first (is_repeated n h.right h.second)
+
+    -- and the other way round
+    pieces : (n : ℕ) (w : List Node) → IsRepeated g marks n p w → Pieces (IsMatched g marks p) n w
+    pieces zero w patterns.none = refl
+    pieces (suc n) w (patterns.again left right split m ms) = record { left = left; right = right; split = split; first = m; second = pieces n right ms }
+
+    -- nothing, or one piece
+    optional_law : Same Q (IsMatched g marks (expr.Optional p)) (λ w. (w ≡ []) ⊎ IsMatched g marks p w)
+    optional_law w q = (
+      told g marks (expr.Optional p) (shape.Optional p) w (optional_shown p),
+      λ h. elim h [ inl e ↦ subst (IsMatched g marks (expr.Optional p)) (sym e) (patterns.absent p refl) | inr m ↦ patterns.present refl m ],
+    )
+
+    -- any number of pieces
+    zero_or_more_law : Same Q (IsMatched g marks (expr.ZeroOrMore p)) (Counted (λ n. Unit {0}) (IsMatched g marks p))
+    zero_or_more_law w q = (
+      λ m. let h = told g marks (expr.ZeroOrMore p) (shape.ZeroOrMore p) w (zero_or_more_shown p) m in record { count = h.0; allowed = tt; pieces = pieces h.0 w h.1 },
+      λ h. patterns.zero_or_more h.count refl (is_repeated h.count w h.pieces),
+    )
+
+    -- any number but none
+    one_or_more_law : Same Q (IsMatched g marks (expr.OneOrMore p)) (Counted (λ n. (1 ≤ n) × Unit {0}) (IsMatched g marks p))
+    one_or_more_law w q = (
+      λ m.
+          let h = told g marks (expr.OneOrMore p) (shape.OneOrMore p) w (one_or_more_shown p) m in
+          record { count = suc h.0; allowed = (omega arith, tt); pieces = pieces (suc h.0) w h.1 },
+      λ h. some h.count h.allowed.0 h.pieces,
+    )
+      where
+        some : (n : ℕ) → 1 ≤ n → Pieces (IsMatched g marks p) n w → IsMatched g marks (expr.OneOrMore p) w
+        some zero l h = absurd (omega arith)
+        some (suc n) l h = patterns.one_or_more n refl (is_repeated (suc n) w h)
+
+    -- so many needed pieces before a rest
+    needed : (Fits : ℕ → ℕ → Type 0) → ((k n : ℕ) → Fits k n ↔ Fits (suc k) (suc n)) → ((k : ℕ) → Fits (suc k) zero → ⊥) → (rest : List Expr)
+        → Same Q (InGroup rest) (Counted (Fits zero) (IsMatched g marks p)) → (k : ℕ) → Same Q (InGroup (replicate k p ++ rest)) (Counted (Fits k) (IsMatched g marks p))
+    needed Fits more never rest h zero = h
+    needed Fits more never rest h (suc k) = one_more Q (more k) (never k) (needed Fits more never rest h k)
+
+    -- at most so many pieces
+    offered : (k : ℕ) → Same Q (InGroup (replicate k (expr.Optional p))) (Counted (λ n. n ≤ k) (IsMatched g marks p))
+    offered zero = none_same Q
+    offered (suc k) = trans Q (then_same Q optional_law (offered k)) (at_most_more Q k)
+
+    -- a number of pieces within the bounds
+    listed : (min : ℕ) (max : Option ℕ) → IsUpTo max min → Same Q (InGroup (replicate min p ++ further p min max)) (Counted (λ n. (min ≤ n) × IsUpTo max n) (IsMatched g marks p))
+    listed min None o = needed (λ k n. (k ≤ n) × Unit {0}) (λ k n. (λ h. (omega arith, tt), λ h. (omega arith, tt))) (λ k h. omega arith) _
+        (trans Q (swap Q (then_end Q (IsMatched g marks (expr.ZeroOrMore p)))) (trans Q zero_or_more_law (counts_same Q (λ n. (λ h. (omega arith, tt), λ h. tt))))) min
+    listed min (Some max) o = trans Q
+        (needed (λ k n. (k ≤ n) × (n ≤ k + (max - min))) (λ k n. (λ h. (omega arith, omega arith), λ h. (omega arith, omega arith))) (λ k h. omega arith) _
+        (trans Q (offered (max - min)) (counts_same Q (λ n. (λ h. (omega arith, omega arith), λ h. omega arith)))) min)
+        (counts_same Q (λ n. (λ h. (omega arith, omega arith), λ h. (omega arith, omega arith))))
+
+    -- and so does the pattern, which is written in another way for one and more
+    written : (min : ℕ) (max : Option ℕ) → IsUpTo max min → Same Q (Counted (λ n. (min ≤ n) × IsUpTo max n) (IsMatched g marks p)) (IsMatched g marks (repeated_within p min max))
+    written (suc zero) None o = swap Q one_or_more_law
+    written min max o = trans Q (swap Q (listed min max o)) (group_law (replicate min p ++ further p min max))
+
+  -- a repetition within bounds in order matches what splits into a number of pieces within them
+  pub repeated_law : (A : List Node → Type 0) (p : Expr) (b : Bounds) → IsOrdered b → ((w : List Node) → All Q w → A w ↔ IsMatched g marks p w)
+      → (w : List Node) → All Q w → Counted (IsWithin b) A w ↔ IsMatched g marks (repeated p b) w
+  repeated_law A p b o h = trans Q (counted_same Q h) (written p b.min b.max o)
 
 module _ (library : Library) (numbered : List Condition) (members : Members) (g : Grammar) (counts : Marking Label) (marks : Marking (List ℕ)) (Q : Node → Type 0) where
   -- what an element, a class and a condition admit is what their patterns match, of children of which each is such

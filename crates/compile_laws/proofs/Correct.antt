@@ -3,7 +3,7 @@ use Rattle.std.proofs.Common.{◌↔◌, ℕ, List, [], ◌∷◌, sym, subst, a
 use Rattle.odd_tree.specs.Significant.{Marking, depth}
 use Rattle.odd_tree.specs.declared.tree.Node.{Element}
 use Rattle.odd_tree.specs.declared.tree.Tree.{Tree}
-use Rattle.odd_decls.specs.declared.library.Library.{Library}
+use Rattle.odd_library.specs.declared.library.Library.{Library}
 use Rattle.odd_meaning.specs.Admission.{Admits}
 use Rattle.rng_patterns.specs.Acceptance.{Accepts, IsAcceptedWithin}
 use Rattle.rng_patterns.specs.Patterns.{IsMatched}
@@ -11,11 +11,9 @@ use Rattle.rng_patterns.specs.declared.grammar.Grammar.{Grammar}
 use Rattle.compile_defines.specs.Compiled.{IsGrammarOf}
 use Rattle.compile_contents.specs.Contents.{define_name}
 use Rattle.compile_defines.specs.Formed.{IsFormed}
-use Rattle.compile_laws.proofs.HeldDefines.{hold_elements}
-use Rattle.compile_laws.proofs.Joining.{joined}
-use Rattle.compile_laws.proofs.Leaves.{accepted_defined}
+use Rattle.compile_laws.proofs.HeldDefines.{hold_elements, start_law}
+use Rattle.compile_laws.proofs.Joining.{joined, accepted_defined}
 use Rattle.compile_laws.proofs.MacroLaw.{BreaksNone}
-use Rattle.compile_laws.proofs.StartLaw.{start_law}
 
 -- by the start law for the root, and the joining induction for what is in it
 pub accepts_admitted : (library : Library) (start : List (List ℕ)) (g : Grammar) → IsFormed library → BreaksNone library → IsGrammarOf library start g

@@ -1,42 +1,125 @@
 -- The joining induction: an element is valid for a held element where the define of that element accepts it.
--- On one side stands the library with what its contents admit, on the other the grammar with what its patterns match. Both go down by levels,
--- and `joined` shows, for a tree of no more levels than are given, that within them both say the same of each ident.
--- A step takes an element and its children, which are less deep (Levels.antt). The induction says of them that they count for the same idents,
--- so one element that counts for a label is what the label's pattern matches (Leaves.antt, from the start law's reference and the condition law).
--- From these leaves the content law carries on to the content of a held element (ContentLaw.antt), which is in order since the library is formed,
--- and in which each macro is kept, since no macro reaches itself (MacroRanks.antt).
--- Its attributes are those of AttributeLaw.antt, and its define is the only one of that name (HeldDefines.antt).
--- Of an ident that is not held there is no define: no element is valid for it, and none is accepted by that name.
--- Correct.antt cites `joined` for the root of a document, where its depth is levels enough.
-use Rattle.std.proofs.Common.{◌≡◌, ◌↔◌, ◌≤◌, ◌<◌, ℕ, zero, suc, List, [], subst, arith}
+use Rattle.std.proofs.Common.{◌≡◌, ◌↔◌, ℕ, List, [], ◌∷◌, refl, subst, sym, ◌≤◌, zero, suc, Bool, true, false, cond, inl, inr, ◌∙◌, ◌<◌, arith}
+use Rattle.std.proofs.lemmas.Bool.{false≢true}
+use Rattle.std.proofs.lemmas.List.Elements.{All-nil, All-head}
+use Rattle.std.specs.Prelude.{All}
+use Rattle.compile_contents.proofs.Standing.{element_held, IsElementAt}
+use Rattle.compile_contents.specs.Contents.{condition_name, condition_pattern, define_name, element_pattern, holds_element, reference, content_pattern}
+use Rattle.compile_defines.specs.Compiled.{IsGrammarOf, element_body}
+use Rattle.compile_defines.specs.Formed.{IsFormed}
+use Rattle.odd_content.specs.declared.content.Condition.{Condition}
+use Rattle.odd_library.specs.Odd.{element_key}
+use Rattle.odd_library.specs.declared.library.Component.TheVariants as component
+use Rattle.odd_library.specs.declared.library.ElementPart.{ElementPart}
+use Rattle.odd_library.specs.declared.library.Library.{Library}
+use Rattle.odd_meaning.specs.Admission.{offers_of, IsValidWithin, counting, IsValidBy, name_in_documents}
+use Rattle.odd_meaning.specs.Contents.{IsOne, Admits, IsOfMacro}
+use Rattle.odd_meaning.specs.Labels.{Label, condition, element}
+use Rattle.odd_meaning.specs.Offers.{AreOffered, IsOffered}
+use Rattle.odd_tree.proofs.InList.{nothing_stands}
 use Rattle.odd_tree.specs.Elements.{StandsIn}
-use Rattle.odd_tree.specs.Significant.{IsSignificant, Marking, depth}
+use Rattle.odd_tree.specs.Significant.{Marking, depth, IsSignificant}
+use Rattle.odd_tree.specs.declared.tree.Attr.{Attr}
 use Rattle.odd_tree.specs.declared.tree.Node.{Node, Element}
 use Rattle.odd_tree.specs.declared.tree.Tree.{Tree, out-Tree}
-use Rattle.odd_decls.specs.Odd.{element_key}
-use Rattle.odd_decls.specs.declared.library.Component.TheVariants as component
-use Rattle.odd_decls.specs.declared.library.ElementPart.{ElementPart}
-use Rattle.odd_decls.specs.declared.library.Library.{Library}
-use Rattle.odd_meaning.specs.Admission.{IsValidBy, IsValidWithin, counting, name_in_documents}
-use Rattle.odd_meaning.specs.Contents.{Admits, IsOfMacro}
-use Rattle.odd_meaning.specs.Labels.{Label}
-use Rattle.rng_patterns.specs.Acceptance.{AreMatched, IsAcceptedBy, IsAcceptedWithin, IsInClass}
-use Rattle.rng_patterns.specs.Patterns.{IsMatched}
+use Rattle.rng_patterns.proofs.OnePattern.{ref_shown, told}
+use Rattle.rng_patterns.specs.Acceptance.{AreRuled, HasRule, IsAcceptedWithin, AreMatched, IsAcceptedBy, IsInClass}
+use Rattle.rng_patterns.specs.Patterns as patterns
+use Rattle.rng_patterns.specs.Patterns.{DefinesElement, IsMatched}
 use Rattle.rng_patterns.specs.declared.grammar.AttrPart.TheVariants as attributes
 use Rattle.rng_patterns.specs.declared.grammar.Body.TheVariants as body
+use Rattle.rng_patterns.specs.declared.grammar.Expr.TheOpen as shape
+use Rattle.rng_patterns.specs.declared.grammar.Expr.TheVariants as expr
 use Rattle.rng_patterns.specs.declared.grammar.Grammar.{Grammar}
 use Rattle.rng_patterns.specs.declared.grammar.NameClass.TheVariants as class
-use Rattle.compile_defines.specs.Compiled.{IsGrammarOf, element_body}
-use Rattle.compile_contents.specs.Contents.{content_pattern, define_name}
-use Rattle.compile_defines.specs.Formed.{IsFormed}
-use Rattle.compile_laws.proofs.AttributeLaw.{attribute_law}
+use Rattle.compile_laws.proofs.ConditionLaw.{condition_law, condition_part}
 use Rattle.compile_laws.proofs.ContentLaw.{AreLeavesKept, content_law}
-use Rattle.compile_laws.proofs.HeldDefines.{defined_held, held_defined}
-use Rattle.compile_contents.proofs.Holds.{IsElementAt}
-use Rattle.compile_laws.proofs.Leaves.{leaves_kept}
+use Rattle.compile_laws.proofs.HeldDefines.{class_kept, hold_elements, reference_law, defined_held, held_defined}
 use Rattle.compile_laws.proofs.Levels.{all_kept, child_less}
-use Rattle.compile_laws.proofs.MacroLaw.{BreaksNone, names_kept}
-use Rattle.compile_laws.proofs.MacroRanks.{macro_kept}
+use Rattle.compile_laws.proofs.MacroLaw.{BreaksNone, names_kept, macro_kept}
+use Rattle.compile_laws.proofs.Pieces.{none_matched, Same}
+use Rattle.compile_laws.proofs.SameMarkings.{alone_is}
+
+-- without offers no attribute is there
+none_offered : (attrs : List Attr) → AreOffered [] attrs → attrs ≡ []
+none_offered [] o = refl
+none_offered (a ∷ rest) o = let h = All-head (IsOffered []) a rest o.offered in absurd (nothing_stands h.0 h.1)
+
+-- nor is one without rules
+none_ruled : (attrs : List Attr) → AreRuled [] attrs → attrs ≡ []
+none_ruled [] m = refl
+none_ruled (a ∷ rest) m = let h = All-head (HasRule []) a rest m.ruled in absurd (nothing_stands h.0 h.1)
+
+-- so both are no attribute
+pub attribute_law : (library : Library) (ident : List ℕ) (attrs : List Attr) → AreOffered (offers_of library ident) attrs ↔ AreRuled [] attrs
+attribute_law library ident attrs = (
+  λ o. subst (AreRuled []) (sym (none_offered attrs o)) (record { ruled = All-nil _; complete = All-nil _ }),
+  λ m. subst (AreOffered []) (sym (none_ruled attrs m)) (record { offered = All-nil _; complete = All-nil _ }),
+)
+
+-- an accepted element is of a define that holds an `element`
+pub accepted_defined : (levels : ℕ) (g : Grammar) (t : Tree) (name : List ℕ) → IsAcceptedWithin levels g t name → DefinesElement g name
+accepted_defined zero g t name a = absurd a
+accepted_defined (suc levels) g t name a = record { names = a.names; attrs = a.attrs; content = a.content; defined = a.defined }
+
+-- none is valid for what is not held
+valid_held : (levels : ℕ) (library : Library) (t : Tree) (ident : List ℕ) → holds_element library ident ≡ false → IsValidWithin levels library t ident → ⊥
+valid_held zero library t ident lacks v = v
+valid_held (suc levels) library t ident lacks v = false≢true (sym lacks ∙ element_held library ident v.part v.held)
+
+module _ (library : Library) (start : List (List ℕ)) (g : Grammar) (is : IsGrammarOf library start g) (f : IsFormed library) (levels : ℕ) (Q : Node → Type 0)
+    (under : (t : Tree) → Q (Element t) → depth t ≤ levels)
+    (join : (t : Tree) → depth t ≤ levels → (ident : List ℕ) → IsValidWithin levels library t ident ↔ IsAcceptedWithin levels g t (define_name ident)) where
+  -- the markings of the children
+  abbrev counts : Marking Label
+  counts = counting (IsValidWithin levels library)
+
+  abbrev marks : Marking (List ℕ)
+  marks = IsAcceptedWithin levels g
+
+  -- an element that is alone in the list is not too deep
+  alone_under : (t : Tree) (children : List Node) → children ≡ Element t ∷ [] → All Q children → depth t ≤ levels
+  alone_under t children e q = under t (alone_is Q t children e q)
+
+  -- one element that counts for an ident
+  referred_kept : (key : List ℕ) → Same Q (IsOne counts (element key)) (IsMatched g marks (reference key))
+  referred_kept key children q = (
+    λ o.
+        let accepted = (join o.tree (alone_under o.tree children o.alone q) key).0 o.counted in
+        let defines = accepted_defined levels g o.tree (define_name key) accepted in
+        (reference_law g (hold_elements library start g is) marks key children).1 (record { tree = o.tree; alone = o.alone; is_of = (defines, accepted) }),
+    λ m.
+        let o = (reference_law g (hold_elements library start g is) marks key children).0 m in
+        record { tree = o.tree; alone = o.alone; counted = (join o.tree (alone_under o.tree children o.alone q) key).1 o.is_of.1 },
+  )
+
+  -- be it held or not
+  element_kept : (key : List ℕ) → Same Q (IsOne counts (element key)) (IsMatched g marks (element_pattern library key))
+  element_kept key = by (holds_element library key) refl
+    where
+      by : (holds : Bool) → holds_element library key ≡ holds → Same Q (IsOne counts (element key)) (IsMatched g marks (cond holds (reference key) expr.NotAllowed))
+      by true e = referred_kept key
+      by false e = λ children q. (λ o. absurd (valid_held levels library o.tree key e o.counted), λ m. absurd (none_matched g marks children m))
+
+  -- one that meets a condition throughout
+  condition_kept : (c : Condition) → StandsIn is.conditions c → Same Q (IsOne counts (condition c)) (IsMatched g marks (condition_pattern is.conditions c))
+  condition_kept c s children q = (
+    λ o.
+        let h = (condition_law library start g is c s levels o.tree (alone_under o.tree children o.alone q)).0 o.counted in
+        patterns.element h.0 o.alone h.1,
+    λ m. elim (told g marks (condition_pattern is.conditions c) (shape.Ref (condition_name is.conditions c)) children (ref_shown (condition_name is.conditions c)) m) [
+      | inl one ↦ record {
+        tree = one.0;
+        alone = one.2;
+        counted = (condition_law library start g is c s levels one.0 (alone_under one.0 children one.2 q)).1 (one.1, one.3);
+      }
+      | inr part ↦ absurd (none_matched g marks children (subst (λ p. IsMatched g marks p children) (condition_part library start g is c s part.0 part.1) part.2))
+    ],
+  )
+
+  -- so the leaves are kept
+  pub leaves_kept : AreLeavesKept library is.conditions is.members g counts marks Q
+  leaves_kept = record { elements = element_kept; classes = class_kept library start g is marks f counts Q referred_kept; conditions = condition_kept }
 
 -- a child has less levels than the element
 child_under : (levels : ℕ) (t : Tree) → depth t ≤ suc levels → (u : Tree) → StandsIn (out-Tree t).children (Element u) → depth u ≤ levels

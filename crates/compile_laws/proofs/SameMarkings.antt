@@ -9,7 +9,7 @@ use Rattle.odd_tree.specs.declared.tree.Node.{Node, Element as AnElement}
 use Rattle.odd_tree.specs.declared.tree.Tree.{Tree}
 use Rattle.odd_content.specs.declared.content.Content.{Content, Empty, Text, Element, Class, Macro, Any, Sequence', Alternate', Row_of-Content, end_of-Content, more_of-Content}
 use Rattle.odd_content.specs.declared.content.Pick.{Pick}
-use Rattle.odd_decls.specs.declared.library.Library.{Library}
+use Rattle.odd_library.specs.declared.library.Library.{Library}
 use Rattle.odd_meaning.specs.Contents.{Admits, AdmitsBy, ByOne, InOrder, IsOfMacro, IsOne, IsOneMember, MacroAdmits, Macros}
 use Rattle.odd_meaning.specs.Labels.{Label, element, condition}
 use Rattle.rng_patterns.specs.Patterns as patterns

@@ -1,25 +1,21 @@
-//! Texts, keys, lists and maps.
+//! The outside: the traits of what is read and what is written, both in memory, and whole files and replies. The texts, lists, maps
+//! and keys that all layers speak of are the crate `odd_text`.
 #![tactic(auto)]
 
-pub mod bytes;
-pub mod copy;
-pub mod count;
-pub mod key;
-pub mod map;
-pub mod memory;
-pub mod name;
-pub mod offence;
-pub mod order;
-pub mod seq;
-pub mod text;
+pub mod mem_shelf;
+pub mod mem_sink;
+pub mod reading;
+pub mod shelf;
+pub mod sink;
+pub mod writing;
 
-pub use bytes::Bytes;
-pub use copy::TryCopy;
-pub use key::{Key, Keys, Kind};
-pub use map::Map;
-pub use memory::NoMemory;
-pub use name::{Bind, Name, Names, Scope};
-pub use offence::{Offence, Who};
-pub use order::ExactOrd;
-pub use seq::Seq;
-pub use text::{Text, Words};
+pub use mem_shelf::{Calls, File, Files, MemShelf};
+pub use mem_sink::MemSink;
+pub use odd_text::{
+    Bind, Bytes, Key, Keys, Kind, Map, Name, Names, NoMemory, Offence, Scope, Seq, Text, TryCopy,
+    Who, Words,
+};
+pub use reading::{SlurpRefusal, slurp};
+pub use shelf::{Shelf, ShelfFault};
+pub use sink::{Sink, SinkFault};
+pub use writing::write_whole;

@@ -1,5 +1,5 @@
-use odd_base::{Name, Names, NoMemory, Text, Words};
 use odd_content::{Condition, Content, Contents, Pick};
+use odd_text::{Name, Names, NoMemory, Text, Words};
 use rng_values::Bounds;
 use std::alloc::Global;
 

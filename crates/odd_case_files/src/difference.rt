@@ -1,7 +1,7 @@
 ghost use Rattle.std.specs.Prelude.{◌≡◌, ◌↔◌, IsNone, IfOk};
 
 use crate::fault::CaseFault;
-use odd_base::{Bytes, Text};
+use odd_text::{Bytes, Text};
 use std::alloc::Global;
 
 // How many bytes of an answer are told.

@@ -1,4 +1,4 @@
-use odd_base::NoMemory;
+use odd_text::NoMemory;
 use std::alloc::{AllocError, AllocFailed};
 use std::{fmt, io};
 

@@ -1,5 +1,5 @@
 use crate::fault::CaseFault;
-use odd_base::{Bytes, NoMemory, Text, Words};
+use odd_text::{Bytes, NoMemory, Text, Words};
 use std::alloc::Global;
 
 /// The words that a part's text says, apart at blanks and line breaks.

@@ -5,10 +5,10 @@ use crate::comparing::{Answer, is_answered, is_wanted};
 use crate::draft::read_question;
 use crate::question::{Faulty, Question, Reply, Wanted};
 use crate::showing::shown_text;
-use odd_base::{Bytes, Words};
+use odd_base::{Files, MemShelf, MemSink};
 use odd_case_files::{Asking, CaseFault, Part, add_place, text_difference};
-use odd_outside::{Files, MemShelf, MemSink};
-use odd_run::run;
+use odd_cli::run;
+use odd_text::{Bytes, Words};
 use std::alloc::Global;
 
 // How many bytes an output takes, and how many of them at once.

@@ -2,7 +2,7 @@ ghost use Rattle.std.specs.Prelude.{◌↔◌, IsTrue};
 ghost use Rattle.odd_cases.specs.Comparing.{IsAnswered, IsWanted, StandsIn, HoldsEach};
 
 use crate::question::{Reply, Wanted};
-use odd_base::Bytes;
+use odd_text::Bytes;
 
 /// What a run answered.
 #[derive(Drop)]

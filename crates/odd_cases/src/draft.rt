@@ -1,7 +1,7 @@
 use crate::question::{Faulty, Question, Reply, Wanted};
-use odd_base::{Bytes, Text, Words};
+use odd_base::{Calls, File, Files};
 use odd_case_files::{CaseFault, Device, Head, Part, Shown, said_answer, said_words, set_once};
-use odd_outside::{Calls, File, Files};
+use odd_text::{Bytes, Text, Words};
 use std::alloc::Global;
 
 // What is read of a case so far.

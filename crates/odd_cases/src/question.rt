@@ -1,6 +1,6 @@
-use odd_base::{Bytes, Words};
+use odd_base::{Calls, Files};
 use odd_case_files::Shown;
-use odd_outside::{Calls, Files};
+use odd_text::{Bytes, Words};
 
 /// Bytes that are written, or the parts that they must have.
 #[derive(Drop)]

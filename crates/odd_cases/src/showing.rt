@@ -1,9 +1,9 @@
-use odd_base::{NoMemory, Text};
 use odd_case_files::{Shown, add_content, add_name};
 use odd_content::{ContentRefusal, read_content};
 use odd_forms::Element;
 use odd_members::{Membership, read_classes};
 use odd_reader::read_tree;
+use odd_text::{NoMemory, Text};
 use odd_tree::{Node, Tree, elements};
 use std::alloc::Global;
 

@@ -1,20 +1,94 @@
--- The docs of a chain, one after another: the library after those so far, none of which has an offence, and the first offence.
-use Rattle.std.proofs.Common.{◌≡◌, ◌⊎◌, ◌≤◌, ◌<◌, ◌+◌, ℕ, suc, List, [], ◌∷◌, ◌++◌, length, get_or, take, drop, inl, inr, ⊎_elim, refl, sym, ap, subst, ◌∙◌, arith, length-append}
+-- The docs that files declare, one after another, and the library after those so far.
+use Rattle.std.proofs.Common.{◌≡◌, suc, List, [], ◌∷◌, ◌++◌, length, ⊎_elim, refl, ap, subst, ◌⊎◌, ◌≤◌, ◌<◌, ◌+◌, ℕ, get_or, take, drop, inl, inr, sym, ◌∙◌, arith, length-append, append_assoc}
 use Rattle.std.proofs.Math.Nat.{eq-or-lt_of_le}
 use Rattle.std.proofs.Math.Seq.{get_or-append_seam}
 use Rattle.std.proofs.lemmas.List.{length-take-le, take-append-drop, take_at}
-use Rattle.odd_base.specs.declared.key.Key.{Key}
-use Rattle.odd_base.specs.declared.offence.Offence.{Offence}
-use Rattle.odd_tree.proofs.InList.{begins, ends}
-use Rattle.odd_decls.specs.declared.library.Library.{Library}
-use Rattle.odd_decls.specs.declared.odd.OddDoc.{OddDoc}
+use Rattle.odd_decls.proofs.OneDoc.{one_doc}
+use Rattle.odd_decls.specs.Declares.{Declares}
+use Rattle.odd_decls.specs.Offences.{IsRefusal}
+use Rattle.odd_decls.specs.Pending.{IsPending}
+use Rattle.odd_library.specs.declared.library.Library.{Library}
+use Rattle.odd_library.specs.declared.odd.OddDoc.{OddDoc}
 use Rattle.odd_meaning.specs.Rules.{Breaks}
-use Rattle.odd_choosing.specs.After.{IsLibraryAfter}
-use Rattle.odd_choosing.specs.Offences.{IsFirstOffence, Offends}
-use Rattle.odd_modes.proofs.OneLibrary.{one_library}
+use Rattle.odd_modes.proofs.HeldEntries.{one_library}
+use Rattle.odd_modes.specs.After.{IsLibraryAfter}
+use Rattle.odd_modes.specs.Offences.{IsFirstOffence, Offends}
+use Rattle.odd_text.specs.declared.key.Key.{Key}
+use Rattle.odd_text.specs.declared.offence.Offence.{Offence}
+use Rattle.odd_tree.proofs.InList.{first_or_later, nothing_stands, begins, ends, stands_push}
+use Rattle.odd_tree.specs.declared.tree.Tree.{Tree}
+use Rattle.odd_chain.specs.Files.{AreAllRead, AreDeclared, more, none, IsFirstPending}
 use Rattle.odd_chain.specs.Offences.{OffendsIn, of_item, of_library}
 use Rattle.odd_chain.specs.Order.{ComesNotAfter, IsFirst, Position, form, held, item}
-use Rattle.odd_chain.specs.Reading.{IsFirstOfLibrary}
+use Rattle.odd_chain.specs.Reading.{IsFirstOfLibrary, IsBrokenAfter}
+
+-- one file more declares its doc
+pub one_declared_more : (trees : List Tree) (t : Tree) (docs : List OddDoc) (doc : OddDoc) → AreDeclared trees docs → Declares t doc → AreDeclared (trees ++ t ∷ []) (docs ++ doc ∷ [])
+one_declared_more trees t docs doc none d = more d none
+one_declared_more trees t docs doc (more {trees = rest} {docs = others} e are) d = more e (one_declared_more rest t others doc are d)
+
+-- there are as many docs as files
+pub as_many : (trees : List Tree) (docs : List OddDoc) → AreDeclared trees docs → length docs ≡ length trees
+as_many trees docs none = refl
+as_many trees docs (more {trees = rest} {docs = others} d are) = ap suc (as_many rest others are)
+
+-- files declare one list of docs
+pub one_docs : (trees : List Tree) (docs others : List OddDoc) → AreDeclared trees docs → AreDeclared trees others → docs ≡ others
+one_docs trees docs others none none = refl
+one_docs trees docs others (more {t = t} {trees = rest} {doc = a} {docs = before} d are) (more {doc = b} {docs = after} e also) = cc (one_doc t a b d e, one_docs rest before after are also)
+
+-- each of them is read
+pub declared_read : (trees : List Tree) (docs : List OddDoc) → AreDeclared trees docs → AreAllRead trees
+declared_read trees docs none t s p = nothing_stands t s
+declared_read trees docs (more {t = first} {trees = rest} {docs = others} d are) t s p =
+    ⊎_elim (λ e. d.all_read (subst IsPending e p)) (λ later. declared_read rest others are t later p) (first_or_later first t rest s)
+
+-- the first of the docs are declared by as many files
+pub first_declared : (trees : List Tree) (docs upto later : List OddDoc) → AreDeclared trees docs → docs ≡ upto ++ later
+    → (files : List Tree) × (others : List Tree) × (trees ≡ files ++ others) × AreDeclared files upto
+first_declared trees docs [] later are e = ([], trees, refl, none)
+first_declared trees docs (doc ∷ upto) later none e = absurd cc
+first_declared trees docs (doc ∷ upto) later (more {t = t} {trees = rest} {doc = first} {docs = others} d are) e =
+    let made = first_declared rest others upto later are cc in
+    let same : first ≡ doc = cc in
+    (t ∷ made.0, made.1, ap (λ ts. t ∷ ts) made.2, more (subst (Declares t) same d) made.3)
+
+-- the file declares no doc
+abbrev DeclaresNone : Tree → Type 0
+DeclaresNone t = (doc : OddDoc) → Declares t doc → ⊥
+
+-- the first of the files, where there is one, declares none
+abbrev BeginWithNone : List Tree → Type 0
+BeginWithNone files = (t : Tree) (later : List Tree) → files ≡ t ∷ later → DeclaresNone t
+
+-- of the files the first ones declare the docs, and the next, where there is one, declares none
+pub record DeclareFirst (trees : List Tree) (docs : List OddDoc) : Type 0 where
+  pub files : List Tree
+  pub rest : List Tree
+  pub parts : trees ≡ files ++ rest
+  pub declared : AreDeclared files docs
+  pub end : BeginWithNone rest
+
+-- then no more files declare docs from the first on
+pub no_more_declared : (files rest upto later : List Tree) (docs others : List OddDoc) → BeginWithNone rest → AreDeclared files docs → AreDeclared upto others
+    → files ++ rest ≡ upto ++ later → (between : List OddDoc) × (docs ≡ others ++ between)
+no_more_declared files rest upto later docs others end are none e = (docs, refl)
+no_more_declared files rest upto later docs others end none (more {t = t} {trees = ts} {doc = doc} d also) e = absurd (end t (ts ++ later) e doc d)
+no_more_declared files rest upto later docs others end (more {t = t} {trees = ts} {doc = a} {docs = before} d are) (more {t = u} {trees = us} {doc = b} {docs = after} f also) e =
+    let made = no_more_declared ts rest us later before after end are also cc in
+    let same : t ≡ u = cc in
+    let docs : a ≡ b = one_doc u a b (subst (λ x. Declares x a) same d) f in
+    (made.0, cc (docs, made.1))
+
+-- a file that declares none stands after those that declare docs
+pub stands_after : (files rest before later : List Tree) (docs : List OddDoc) (t : Tree) → AreDeclared files docs → DeclaresNone t → files ++ rest ≡ before ++ t ∷ later
+    → (between : List Tree) × (before ≡ files ++ between) × (rest ≡ between ++ t ∷ later)
+stands_after files rest before later docs t none idle e = (before, refl, e)
+stands_after files rest [] later docs t (more {t = u} {doc = doc} d are) idle e = let same : u ≡ t = cc in absurd (idle doc (subst (λ x. Declares x doc) same d))
+stands_after files rest (v ∷ before) later docs t (more {t = u} {trees = ts} {docs = others} d are) idle e =
+    let made = stands_after ts rest before later others t are idle cc in
+    let same : u ≡ v = cc in
+    (made.0, cc (same, made.1), made.2)
 
 -- the library is that after the first docs of a chain, and only later ones have offences
 pub record IsMerged (docs : List OddDoc) (count : ℕ) (library : Library) : Type 0 where
@@ -64,14 +138,14 @@ module _ (docs : List OddDoc) (i : ℕ) (doc : OddDoc) (library : Library) (with
   -- a doc more, where neither its items nor the library after it have an offence
   pub one_merged : (made : Library) → IsLibraryAfter upto made → ((place rule : ℕ) → Offends library doc place rule → ⊥) → ((key : Key) (rule : ℕ) → Breaks made key rule → ⊥)
       → IsMerged docs (i + 1) made
-  one_merged made after none unbroken = record {
+  one_merged made after alone unbroken = record {
     after = subst (λ ds. IsLibraryAfter ds made) (sym (ends docs i doc within there)) after;
     only_later = λ file at o. ⊎_elim (λ own. absurd (none_own at own.1)) (λ h. omega (arith, h)) (own_or_later file at o);
   }
     where
       none_own : (at : Position) → Own at → ⊥
       none_own (form place rule) own = own
-      none_own (item place rule) own = none place rule own
+      none_own (item place rule) own = alone place rule own
       none_own (held key rule) own = unbroken key rule (subst (λ l. Breaks l key rule) (one_library upto own.0 made own.1 after) own.2)
 
   -- the chain parts at the next doc
@@ -85,8 +159,8 @@ module _ (docs : List OddDoc) (i : ℕ) (doc : OddDoc) (library : Library) (with
   -- no offence comes before one of the next doc, where none of its own does
   first_own : (file : ℕ) (at : Position) → file ≡ i + 1 → ((others : Position) → Own others → ComesNotAfter file at file others) → (other : ℕ) (others : Position) → OffendsIn docs other others
       → ComesNotAfter file at other others
-  first_own file at e none other others o =
-      ⊎_elim (λ own. subst (λ n. ComesNotAfter file at n others) (omega (arith, own.0, e)) (none others own.1)) (λ h. inl (omega (arith, h, e))) (own_or_later other others o)
+  first_own file at e alone other others o =
+      ⊎_elim (λ own. subst (λ n. ComesNotAfter file at n others) (omega (arith, own.0, e)) (alone others own.1)) (λ h. inl (omega (arith, h, e))) (own_or_later other others o)
 
   -- the first offence of its items is that of the chain
   pub item_refused : (offence : Offence) → IsFirstOffence (Offends library doc) (i + 1) offence → IsFirst (OffendsIn docs) offence
@@ -94,16 +168,16 @@ module _ (docs : List OddDoc) (i : ℕ) (doc : OddDoc) (library : Library) (with
     at = at;
     told = λ n. record { file = offence.file; who = f.placed n; rule = offence.rule };
     is_one = subst (λ n. OffendsIn docs n at) (number offence.file f.in_file) (of_item (take i docs) doc (drop (i + 1) docs) library parts m.after f.is_first.is_one);
-    first = first_own offence.file at f.in_file none;
+    first = first_own offence.file at f.in_file alone;
   }
     where
       at : Position
       at = item f.place offence.rule
 
-      none : (others : Position) → Own others → ComesNotAfter offence.file at offence.file others
-      none (form place rule) own = absurd own
-      none (item place rule) own = inr (refl, f.is_first.first place rule own)
-      none (held key rule) own = inr (refl, tt)
+      alone : (others : Position) → Own others → ComesNotAfter offence.file at offence.file others
+      alone (form place rule) own = absurd own
+      alone (item place rule) own = inr (refl, f.is_first.first place rule own)
+      alone (held key rule) own = inr (refl, tt)
 
   -- and where its items have none, that of the library after it
   pub library_refused : (made : Library) (offence : Offence) → IsLibraryAfter upto made → ((place rule : ℕ) → Offends library doc place rule → ⊥) → IsFirstOfLibrary made (i + 1) offence
@@ -112,13 +186,47 @@ module _ (docs : List OddDoc) (i : ℕ) (doc : OddDoc) (library : Library) (with
     at = at;
     told = λ n. record { file = offence.file; who = f.placed n; rule = offence.rule };
     is_one = subst (λ n. OffendsIn docs n at) (number offence.file f.in_file) (of_library (take i docs) doc (drop (i + 1) docs) made parts after f.is_first.is_one);
-    first = first_own offence.file at f.in_file none;
+    first = first_own offence.file at f.in_file alone;
   }
     where
       at : Position
       at = held f.key offence.rule
 
-      none : (others : Position) → Own others → ComesNotAfter offence.file at offence.file others
-      none (form place rule) own = absurd own
-      none (item place rule) own = absurd (sound place rule own)
-      none (held key rule) own = inr (refl, f.is_first.first key rule (subst (λ l. Breaks l key rule) (one_library upto own.0 made own.1 after) own.2))
+      alone : (others : Position) → Own others → ComesNotAfter offence.file at offence.file others
+      alone (form place rule) own = absurd own
+      alone (item place rule) own = absurd (sound place rule own)
+      alone (held key rule) own = inr (refl, f.is_first.first key rule (subst (λ l. Breaks l key rule) (one_library upto own.0 made own.1 after) own.2))
+
+module _ (trees : List Tree) (t : Tree) where
+  -- one that is read
+  all_read_more : AreAllRead trees → (IsPending t → ⊥) → AreAllRead (trees ++ t ∷ [])
+  all_read_more are read u s p = ⊎_elim (λ before. are u before p) (λ e. read (subst IsPending (sym e) p)) ((stands_push trees t u).0 s)
+
+  -- the first that is not read
+  pub pending_last : (file : ℕ) → AreAllRead trees → file ≡ suc (length trees) → IsPending t → IsFirstPending (trees ++ t ∷ []) file
+  pending_last file are number p = record { earlier = trees; tree = t; later = []; parts = refl; number = number; read_before = are; is_pending = p }
+
+  -- the first with an offence of form
+  pub broken_last : (docs : List OddDoc) (file : ℕ) (offence : Offence) → AreDeclared trees docs → file ≡ suc (length trees) → IsRefusal t file offence
+      → IsBrokenAfter (trees ++ t ∷ []) docs offence
+  broken_last docs file offence are number refused = record {
+    earlier = trees;
+    tree = t;
+    later = [];
+    parts = refl;
+    declared = are;
+    refused = subst (λ n. IsRefusal t n offence) number refused;
+    all_read = all_read_more (declared_read trees docs are) refused.is_one.all_read;
+  }
+
+  -- one that is read after the first with an offence of form
+  pub broken_more : (docs : List OddDoc) (offence : Offence) → IsBrokenAfter trees docs offence → (IsPending t → ⊥) → IsBrokenAfter (trees ++ t ∷ []) docs offence
+  broken_more docs offence broken read = record {
+    earlier = broken.earlier;
+    tree = broken.tree;
+    later = broken.later ++ t ∷ [];
+    parts = ap (λ ts. ts ++ t ∷ []) broken.parts ∙ append_assoc broken.earlier (broken.tree ∷ broken.later) (t ∷ []);
+    declared = broken.declared;
+    refused = broken.refused;
+    all_read = all_read_more broken.all_read read;
+  }

@@ -1,14 +1,14 @@
 -- The files of a chain, by the trees that they spell: what they declare one after another, the first offence, and the library after them.
 use Rattle.std.specs.Prelude.{◌≡◌, ℕ, suc, List, [], ◌∷◌, ◌++◌, length}
-use Rattle.odd_base.specs.declared.offence.Offence.{Offence}
+use Rattle.odd_text.specs.declared.offence.Offence.{Offence}
 use Rattle.odd_tree.specs.Elements.{StandsIn}
 use Rattle.odd_tree.specs.declared.tree.Tree.{Tree}
-use Rattle.odd_items.specs.Declares.{Declares}
-use Rattle.odd_items.specs.Offences.{HasOffence}
-use Rattle.odd_items.specs.Pending.{IsPending}
-use Rattle.odd_decls.specs.declared.library.Library.{Library}
-use Rattle.odd_decls.specs.declared.odd.OddDoc.{OddDoc}
-use Rattle.odd_choosing.specs.After.{IsLibraryAfter}
+use Rattle.odd_decls.specs.Declares.{Declares}
+use Rattle.odd_decls.specs.Offences.{HasOffence}
+use Rattle.odd_decls.specs.Pending.{IsPending}
+use Rattle.odd_library.specs.declared.library.Library.{Library}
+use Rattle.odd_library.specs.declared.odd.OddDoc.{OddDoc}
+use Rattle.odd_modes.specs.After.{IsLibraryAfter}
 use Rattle.odd_chain.specs.Offences.{OffendsIn}
 use Rattle.odd_chain.specs.Order.{IsFirst, Position, form}
 

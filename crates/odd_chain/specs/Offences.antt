@@ -1,11 +1,11 @@
 -- The offences of a chain's docs: of the items of a doc against the library after the docs before it, and of the library after a doc.
 use Rattle.std.specs.Prelude.{◌≡◌, ℕ, suc, List, [], ◌∷◌, ◌++◌, length}
-use Rattle.odd_base.specs.declared.key.Key.{Key}
-use Rattle.odd_decls.specs.declared.library.Library.{Library}
-use Rattle.odd_decls.specs.declared.odd.OddDoc.{OddDoc}
+use Rattle.odd_text.specs.declared.key.Key.{Key}
+use Rattle.odd_library.specs.declared.library.Library.{Library}
+use Rattle.odd_library.specs.declared.odd.OddDoc.{OddDoc}
 use Rattle.odd_meaning.specs.Rules.{Breaks}
-use Rattle.odd_choosing.specs.After.{IsLibraryAfter}
-use Rattle.odd_choosing.specs.Offences.{Offends}
+use Rattle.odd_modes.specs.After.{IsLibraryAfter}
+use Rattle.odd_modes.specs.Offences.{Offends}
 use Rattle.odd_chain.specs.Order.{Position, held, item}
 
 -- the number of a doc is its place, counted from 1

@@ -1,9 +1,9 @@
 -- Where an offence of a chain is, and which of two comes first.
 use Rattle.std.specs.Prelude.{◌≡◌, ◌⊎◌, ◌<◌, ℕ}
-use Rattle.odd_base.specs.declared.key.Key.{Key}
-use Rattle.odd_base.specs.declared.offence.Offence.{Offence}
-use Rattle.odd_base.specs.declared.offence.Who.TheVariants as who
-use Rattle.odd_decls.specs.First.{IsNotAfter}
+use Rattle.odd_text.specs.declared.key.Key.{Key}
+use Rattle.odd_text.specs.declared.offence.Offence.{Offence}
+use Rattle.odd_text.specs.declared.offence.Who.TheVariants as who
+use Rattle.odd_library.specs.First.{IsNotAfter}
 use Rattle.odd_meaning.specs.Rules.{IsNotBehind}
 
 -- in a file an offence is one of form, or of an item, at a byte by a rule; or of the library after the file, at a key by a rule

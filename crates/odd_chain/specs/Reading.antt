@@ -1,12 +1,12 @@
 -- What is kept of the files of a chain that are read so far.
 use Rattle.std.specs.Prelude.{◌≡◌, ◌<◌, ◌^◌, ℕ, suc, List, ◌∷◌, ◌++◌, length}
-use Rattle.odd_base.specs.declared.key.Key.{Key}
-use Rattle.odd_base.specs.declared.offence.Offence.{Offence}
-use Rattle.odd_base.specs.declared.offence.Who.TheVariants as who
+use Rattle.odd_text.specs.declared.key.Key.{Key}
+use Rattle.odd_text.specs.declared.offence.Offence.{Offence}
+use Rattle.odd_text.specs.declared.offence.Who.TheVariants as who
 use Rattle.odd_tree.specs.declared.tree.Tree.{Tree}
-use Rattle.odd_items.specs.Offences.{IsRefusal}
-use Rattle.odd_decls.specs.declared.library.Library.{Library}
-use Rattle.odd_decls.specs.declared.odd.OddDoc.{OddDoc}
+use Rattle.odd_decls.specs.Offences.{IsRefusal}
+use Rattle.odd_library.specs.declared.library.Library.{Library}
+use Rattle.odd_library.specs.declared.odd.OddDoc.{OddDoc}
 use Rattle.odd_meaning.specs.Rules.{Breaks, IsFirstBreak}
 use Rattle.odd_chain.specs.Files.{AreAllRead, AreDeclared, IsFirstPending}
 use Rattle.odd_chain.specs.declared.chain.Chain.{Chain}

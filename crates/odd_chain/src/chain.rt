@@ -1,8 +1,8 @@
 ghost use Rattle.std.specs.Prelude.{◌≡◌, ◌≢◌, ◌<◌, ◌^◌, ℕ, suc, List, [], ◌∷◌, ◌++◌, length, Err, IfOk, IsOk};
-ghost use Rattle.odd_base.specs.declared.key.Key.{Key as AKey};
-ghost use Rattle.odd_base.specs.declared.offence.Offence.{Offence as AnOffence};
+ghost use Rattle.odd_text.specs.declared.key.Key.{Key as AKey};
+ghost use Rattle.odd_text.specs.declared.offence.Offence.{Offence as AnOffence};
 ghost use Rattle.odd_meaning.specs.Rules.{Breaks};
-ghost use Rattle.odd_choosing.specs.After.{IsLibraryAfter};
+ghost use Rattle.odd_modes.specs.After.{IsLibraryAfter};
 ghost use Rattle.odd_chain.specs.Files.{AreAllRead, AreDeclared, Gives, IsChainRefusal, IsFirstPending};
 ghost use Rattle.odd_chain.specs.Offences.{OffendsIn};
 ghost use Rattle.odd_chain.specs.Order.{IsFirst, Position};
@@ -11,9 +11,9 @@ ghost use Rattle.odd_tree.specs.Formed.{IsFormed};
 ghost use Rattle.odd_tree.specs.declared.tree.Tree.{Tree as ATree};
 
 use crate::merging::{OddDocs, merge};
-use odd_base::{NoMemory, Offence};
-use odd_decls::{Library, OddRefusal};
-use odd_docs::read_odd;
+use odd_decls::read_odd;
+use odd_library::{Library, OddRefusal};
+use odd_text::{NoMemory, Offence};
 use odd_tree::Tree;
 use std::alloc::Global;
 

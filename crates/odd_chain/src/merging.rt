@@ -1,16 +1,16 @@
 ghost use Rattle.std.specs.Prelude.{◌≡◌, ◌≢◌, ◌<◌, ◌^◌, ℕ, length, Err, IfOk, IsOk};
-ghost use Rattle.odd_base.specs.declared.key.Key.{Key as AKey};
-ghost use Rattle.odd_base.specs.declared.offence.Offence.{Offence as AnOffence};
+ghost use Rattle.odd_text.specs.declared.key.Key.{Key as AKey};
+ghost use Rattle.odd_text.specs.declared.offence.Offence.{Offence as AnOffence};
 ghost use Rattle.odd_meaning.specs.Rules.{Breaks};
-ghost use Rattle.odd_choosing.specs.After.{IsLibraryAfter};
+ghost use Rattle.odd_modes.specs.After.{IsLibraryAfter};
 ghost use Rattle.odd_chain.specs.Offences.{OffendsIn};
 ghost use Rattle.odd_chain.specs.Order.{IsFirst, Position};
 ghost use Rattle.odd_chain.specs.Reading.{IsFirstOfLibrary};
 
-use odd_base::{Offence, Seq, Who};
 use odd_classes::{LibraryRefusal, check_library};
-use odd_decls::{Library, OddDoc, OddRefusal};
+use odd_library::{Library, OddDoc, OddRefusal};
 use odd_modes::step;
+use odd_text::{Offence, Seq, Who};
 use std::alloc::Global;
 
 /// The docs of a chain, in the order of its files.

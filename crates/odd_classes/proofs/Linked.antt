@@ -1,19 +1,32 @@
--- The graph of a library by a link: its arrows are the links of components, and its chains those of their keys.
-use Rattle.std.proofs.Common.{◌≡◌, ◌↔◌, ◌<◌, ℕ, List, Option, Some, None, length, get_or, is_some, refl, sym, ap, subst, ◌∙◌}
-use Rattle.std.specs.Prelude.{IsTrue, IsSome}
+-- The graph of a library by a link: its arrows, its chains, its cycles and the members of a class.
+use Rattle.std.proofs.Common.{◌≡◌, ◌↔◌, ◌<◌, ℕ, List, Option, Some, None, length, get_or, is_some, refl, sym, ap, subst, ◌∙◌, inl, inr, [], ◌∷◌, ◌⊎◌, ◌≤◌, ◌+◌, ◌++◌, take, ⊎_elim, arith}
+use Rattle.std.proofs.Math.ListN.{get_or-append}
+use Rattle.std.proofs.lemmas.Bool.{false≢true, cases_order}
+use Rattle.std.proofs.lemmas.Bool.Decides.{eqb_tells}
+use Rattle.std.proofs.lemmas.List.{get_or_push, length_push}
+use Rattle.std.proofs.lemmas.List.Elements.{Contains-append_left, Contains-push, Contains-push_cases}
+use Rattle.std.proofs.lemmas.Option.{same_Some, slice_get-get_or, slice_get_within}
+use Rattle.std.specs.Cmp.{tied_itself}
 use Rattle.std.specs.FinMap.{find, is_sorted}
-use Rattle.std.proofs.lemmas.Bool.{false≢true}
-use Rattle.std.proofs.lemmas.Option.{same_Some, slice_get-get_or}
-use Rattle.odd_base.specs.Key.{key_cmp}
-use Rattle.odd_base.specs.declared.key.Key.{Key}
-use Rattle.odd_graph.specs.Graph.{Chained, HasArrow, Leads}
-use Rattle.odd_graph.proofs.Chains.{chained_along}
+use Rattle.std.specs.List.{Contains}
+use Rattle.std.specs.Prelude.{IsTrue, IsSome, option_map, slice_get}
+use Rattle.std.specs.declared.cmp.Ordering.{Ordering}
+use Rattle.odd_forms.specs.Sorted.{IsSet}
+use Rattle.odd_graph.proofs.Chains.{chained_along, first_step, chained_back, last_step}
+use Rattle.odd_graph.specs.Graph.{Chained, HasArrow, Leads, IsFirstOnCycle}
+use Rattle.odd_library.specs.Odd.{element_key}
+use Rattle.odd_library.specs.declared.library.Component.{Component}
+use Rattle.odd_library.specs.declared.library.Component.TheVariants as component
+use Rattle.odd_library.specs.declared.library.Library.{Library}
+use Rattle.odd_meaning.specs.Classes.{IsElementOf, IsMember}
+use Rattle.odd_meaning.specs.Links.{IsLinked, class_key, classes_of}
+use Rattle.odd_text.specs.Key.{key_cmp}
+use Rattle.odd_text.specs.KeyOrder.{key_total}
+use Rattle.odd_text.specs.declared.key.Key.{Key}
+use Rattle.odd_tree.proofs.InList.{nothing_stands, StandsOnce, ends, once_push}
 use Rattle.odd_tree.specs.Elements.{StandsIn}
-use Rattle.odd_decls.specs.declared.library.Component.{Component}
-use Rattle.odd_decls.specs.declared.library.Library.{Library}
-use Rattle.odd_meaning.specs.Links.{IsLinked}
-use Rattle.odd_classes.specs.Placing.{IsEntryAt, IsGraphOf}
-use Rattle.odd_classes.proofs.Places.{entry_held, held_at, one_place}
+use Rattle.odd_classes.proofs.Places.{entry_held, held_at, one_place, places_rise, both_more, none_more, entry_here}
+use Rattle.odd_classes.specs.Placing.{IsEntryAt, IsGraphOf, IsFirstAmong, ArePlacesOf, IsReachedFrom, IsTurnedGraphOf}
 
 -- where something is held
 pub held : (key : Key) (library : Library) → IsSome (find key_cmp key library.parts) → (part : Component) × (find key_cmp key library.parts ≡ Some part)
@@ -74,3 +87,151 @@ module _ (keys_of : Component → List Key) (library : Library) (up : IsTrue (is
 
       back : Chained (IsLinked keys_of library) key last → Leads arrows place other
       back l = let made = linked_chain key last place a l in subst (Leads arrows place) (one_place library.parts up made.0 other last made.1.0 b.0 made.1.1 b.1) made.2
+
+-- a key at a place is that of an entry
+pub entry_of_key : (es : List (Key × Component)) (place : ℕ) (key : Key) → Some key ≡ option_map (λ e. e.0) (slice_get es place) → (part : Component) × IsEntryAt es place key part
+entry_of_key es place key is = by (slice_get es place) is
+  where
+    by : (o : Option (Key × Component)) → Some key ≡ option_map (λ e. e.0) o → (part : Component) × (o ≡ Some (key, part))
+    by None h = cc
+    by (Some e) h = (e.1, ap (λ k. Some (k, e.1)) (sym (same_Some _ _ h)))
+
+module _ (keys_of : Component → List Key) (library : Library) (up : IsTrue (is_sorted key_cmp library.parts)) (arrows : List (List ℕ)) (is : IsGraphOf keys_of library.parts arrows) where
+  -- a key that leads to itself has a place that does
+  looping_place : (key : Key) → Chained (IsLinked keys_of library) key key → (place : ℕ) × ((part : Component) × IsEntryAt library.parts place key part) × Leads arrows place place
+  looping_place key l =
+      let step = (first_step (IsLinked keys_of library) key key l).1 in
+      let there = held_at library.parts key step.part step.held in
+      (there.0, (step.part, there.1), (chains_agree keys_of library up arrows is there.0 there.0 key key (step.part, there.1) (step.part, there.1)).1 l)
+
+  -- where no place is on a cycle, no key leads to itself
+  pub none_loops : IsFirstOnCycle arrows None → (key : Key) → Chained (IsLinked keys_of library) key key → ⊥
+  none_loops none key l = let at = looping_place key l in none at.0 at.2
+
+  -- and where one is the first, its key is the first that leads to itself
+  pub first_loops : (place : ℕ) (key : Key) (part : Component) → IsFirstOnCycle arrows (Some place) → IsEntryAt library.parts place key part
+      → IsFirstAmong (λ k. Chained (IsLinked keys_of library) k k) key
+  first_loops place key part first at = record {
+    is_one = (chains_agree keys_of library up arrows is place place key key (part, at) (part, at)).0 first.0;
+    first = λ other l greater. let found = looping_place other l in elim (cases_order place found.0) [
+      | inl same ↦ cc (tied_itself key_total key, one_key_at keys_of library up arrows is place key other (part, at) (rw same found.1), greater)
+      | inr (inl less) ↦ cc (places_rise library.parts up place found.0 key other part found.1.0 less at found.1.1, greater)
+      | inr (inr less) ↦ first.1 found.0 less found.2
+    ];
+  }
+
+-- a set is one of what is the same
+pub set_same : {A : Type 0} (order : A → A → Ordering) (Is Other : A → Type 0) (items : List A) → ((item : A) → Is item ↔ Other item) → IsSet order Is items → IsSet order Other items
+set_same order Is Other items same h = record { rising = h.rising; none_else = λ item s. (same item).0 (h.none_else item s); each = λ item o. h.each item ((same item).1 o) }
+
+-- the set of what is not
+pub no_set : {A : Type 0} (order : A → A → Ordering) (Is : A → Type 0) (items : List A) → items ≡ [] → ((item : A) → Is item → ⊥) → IsSet order Is items
+no_set {A} order Is items empty not = subst (IsSet order Is) (sym empty) (record {
+  rising = λ before after item next e. absurd (nothing_stands item (before, next ∷ after, e));
+  none_else = λ item s. absurd (nothing_stands item s);
+  each = λ item is. absurd (not item is);
+})
+
+module _ (library : Library) (places : List (Key × ℕ)) (are : ArePlacesOf library.parts places) (class : List ℕ) where
+  -- a class that has no place is not held
+  pub not_held : find key_cmp (class_key class) places ≡ None → (part : Component) → find key_cmp (class_key class) library.parts ≡ Some part → ⊥
+  not_held none part holds =
+      let at = held_at library.parts (class_key class) part holds in
+      let no : None ≡ Some at.0 = sym none ∙ (are (class_key class) at.0).1 (part, at.1) in
+      cc
+
+  -- and has no element
+  pub no_member : find key_cmp (class_key class) places ≡ None → (ident : List ℕ) → IsElementOf library class ident → ⊥
+  no_member none ident m =
+      let found = held (class_key class) library (last_step (IsLinked classes_of library) (element_key ident) (class_key class) m.member).1.other_held in
+      not_held none found.0 found.1
+
+  -- the elements that its place leads back to are its members
+  pub members_reached : IsTrue (is_sorted key_cmp library.parts) → (back : List (List ℕ)) (place : ℕ) → IsTurnedGraphOf classes_of library.parts back → find key_cmp (class_key class) places ≡ Some place
+      → (ident : List ℕ) → IsReachedFrom library.parts back place ident ↔ IsElementOf library class ident
+  members_reached up back place is found ident = (
+    λ r. record {
+      part = r.1;
+      held = entry_held library.parts up r.0 (element_key ident) (component.Element r.1) r.2;
+      member = (agree r.0 (component.Element r.1) r.2).0 (chained_back (HasArrow back) (HasArrow is.arrows) (λ a b. (is.turned b a).0) place r.0 r.3);
+    },
+    λ m.
+        let at = held_at library.parts (element_key ident) (component.Element m.part) m.held in
+        (at.0, m.part, at.1, chained_back (HasArrow is.arrows) (HasArrow back) (λ a b. (is.turned a b).1) at.0 place ((agree at.0 (component.Element m.part) at.1).1 m.member)),
+  )
+    where
+      agree : (from : ℕ) (part : Component) → IsEntryAt library.parts from (element_key ident) part → Leads is.arrows from place ↔ IsMember library class (element_key ident)
+      agree from part at = chains_agree classes_of library up is.arrows is.graph from place (element_key ident) (class_key class) (part, at) ((are (class_key class) place).0 found)
+
+-- the nodes are the places of those of the keys that have one
+abbrev pub AreNodes : List (Key × ℕ) → List Key → List ℕ → Type 0
+AreNodes places keys nodes = (place : ℕ) → Contains nodes place ↔ StandsOnce (λ key. find key_cmp key places ≡ Some place) keys
+
+-- what a list with one node more contains
+contains_with : (nodes : List ℕ) (node place : ℕ) → Contains (nodes ++ node ∷ []) place ↔ (Contains nodes place ⊎ (node ≡ place))
+contains_with nodes node place = (
+  Contains-push_cases nodes node place,
+  λ h. ⊎_elim (Contains-append_left nodes (node ∷ []) place) (λ e. subst (Contains (nodes ++ node ∷ [])) e (Contains-push nodes node)) h,
+)
+
+module _ (places : List (Key × ℕ)) (keys : List Key) (i : ℕ) (nodes : List ℕ) (key : Key) (before : AreNodes places (take i keys) nodes) (within : i < length keys) (is : key ≡ get_or keys i key) where
+  -- the next key has a place
+  pub place_found : (node : ℕ) → find key_cmp key places ≡ Some node → AreNodes places (take (i + 1) keys) (nodes ++ node ∷ [])
+  place_found node found place =
+      rw (ends keys i key within is)
+      (both_more (contains_with nodes node place) (before place) (once_push (λ k. find key_cmp k places ≡ Some place) (take i keys) key)
+      (λ f. same_Some _ _ (sym found ∙ f), λ e. found ∙ ap Some e))
+
+  -- the next key has none
+  pub no_place : find key_cmp key places ≡ None → AreNodes places (take (i + 1) keys) nodes
+  no_place none place =
+      rw (ends keys i key within is)
+      (none_more (before place) (once_push (λ k. find key_cmp k places ≡ Some place) (take i keys) key) (λ f. let no : None ≡ Some place = sym none ∙ f in cc))
+
+-- the arrows lead to the entries of the keys
+abbrev pub AreArrows : List (Key × Component) → List Key → List ℕ → Type 0
+AreArrows entries keys nodes = (next : ℕ) → Contains nodes next ↔ StandsOnce (λ key. (part : Component) × IsEntryAt entries next key part) keys
+
+-- to their places
+placed : (entries : List (Key × Component)) (places : List (Key × ℕ)) (keys : List Key) (nodes : List ℕ) → ArePlacesOf entries places → AreNodes places keys nodes → AreArrows entries keys nodes
+placed entries places keys nodes is are next =
+    (λ h. let s = (are next).0 h in (s.0, s.1, (is s.0 next).0 s.2), λ s. (are next).1 (s.0, s.1, (is s.0 next).1 s.2))
+
+-- the arrows of the first entries
+pub record ArrowsSoFar (keys_of : Component → List Key) (entries : List (Key × Component)) (arrows : List (List ℕ)) (count : ℕ) : Type 0 where
+  pub as_many : length arrows ≡ count
+  pub lead : (place : ℕ) (key : Key) (part : Component) → place < count → IsEntryAt entries place key part → AreArrows entries (keys_of part) (get_or arrows place [])
+
+-- those of the next entry
+pub arrows_more : (keys_of : Component → List Key) (entries : List (Key × Component)) (places : List (Key × ℕ)) (arrows : List (List ℕ)) (i : ℕ) (here : Key × Component) (nodes : List ℕ)
+    → ArePlacesOf entries places → ArrowsSoFar keys_of entries arrows i → i < length entries → here ≡ get_or entries i here → AreNodes places (keys_of here.1) nodes
+    → ArrowsSoFar keys_of entries (arrows ++ nodes ∷ []) (i + 1)
+arrows_more keys_of entries places arrows i here nodes are before within is h = record {
+  as_many = length_push arrows nodes ∙ ap (λ n. n + 1) before.as_many;
+  lead = λ place key part less at. ⊎_elim (λ t. last place key part t.1 at) (λ t. earlier place key part (omega (arith, t.1)) at) (eqb_tells i place);
+}
+  where
+    Lead : ℕ → Component → Type 0
+    Lead place part = AreArrows entries (keys_of part) (get_or (arrows ++ nodes ∷ []) place [])
+
+    last : (place : ℕ) (key : Key) (part : Component) → i ≡ place → IsEntryAt entries place key part → Lead place part
+    last place key part e at =
+        let same : here.1 ≡ part = ap (λ p. p.1) (same_Some _ _ (sym (entry_here entries i here within is) ∙ ap (λ n. slice_get entries n) e ∙ at)) in
+        subst (Lead place) same (rw (get_or_push arrows nodes [] place (before.as_many ∙ e)) (placed entries places (keys_of here.1) nodes are h))
+
+    earlier : (place : ℕ) (key : Key) (part : Component) → place < i → IsEntryAt entries place key part → Lead place part
+    earlier place key part less at = rw (get_or-append arrows (nodes ∷ []) [] place (omega (arith, before.as_many))) (before.lead place key part less at)
+
+-- at the end they are the graph
+pub all_arrows : (keys_of : Component → List Key) (entries : List (Key × Component)) (arrows : List (List ℕ)) (count : ℕ) → ArrowsSoFar keys_of entries arrows count → length entries ≤ count
+    → count ≤ length entries → IsGraphOf keys_of entries arrows
+all_arrows keys_of entries arrows count h all within = record {
+  as_many = omega (arith, h.as_many);
+  leads = λ place next key other part others at there.
+      let to = h.lead place key part (omega (arith, slice_get_within entries place (key, part) at)) at next in (
+        λ a.
+            let s = to.0 a.among in
+            subst (StandsIn (keys_of part)) (ap (λ p. p.0) (same_Some _ _ (sym s.2.1 ∙ there))) s.1,
+        λ s. record { among = to.1 (other, s, (others, there)); within = omega (arith, h.as_many, slice_get_within entries next (other, others) there) },
+      );
+}

@@ -1,19 +1,28 @@
--- What a library holds at a key, and the places of its entries.
-use Rattle.std.proofs.Common.{◌≡◌, ◌⊎◌, inl, inr, ℕ, ◌<◌, List, get_or, length, Some, sym, ap, ◌∙◌}
-use Rattle.std.specs.Prelude.{IsTrue}
-use Rattle.std.specs.Cmp.{tied_itself}
+-- The places of the entries of a library, found and put one after the other.
+use Rattle.std.proofs.Common.{◌≡◌, ◌⊎◌, inl, inr, ℕ, ◌<◌, List, get_or, length, Some, sym, ap, ◌∙◌, ◌≢◌, ◌↔◌, ◌+◌, true, false, Bool, [], refl, subst, ⊎_elim, arith, if◌then◌else◌, ◌≤◌, Option, None}
+use Rattle.std.proofs.lemmas.Bool.{cases_order, false≢true}
+use Rattle.std.proofs.lemmas.Bool.Decides.{eqb_tells}
+use Rattle.std.proofs.lemmas.Map.Views.{tells_apart}
+use Rattle.std.proofs.lemmas.Option.{get_or_from_slice_get, slice_get-get_or, slice_get_within, same_Some}
+use Rattle.std.specs.Cmp.{tied_itself, IsTotalOrder}
 use Rattle.std.specs.FinMap.{find, is_sorted}
+use Rattle.std.specs.Ordering.{eq_by_cmp, is_eq}
+use Rattle.std.specs.Prelude.{IsTrue, slice_get}
+use Rattle.std.specs.declared.cmp.Ordering.{Ordering}
 use Rattle.std.specs.declared.cmp.Ordering.TheVariants.{Less}
-use Rattle.std.proofs.lemmas.Bool.{cases_order}
-use Rattle.std.proofs.lemmas.Option.{get_or_from_slice_get, slice_get-get_or, slice_get_within}
-use Rattle.odd_base.specs.Key.{key_cmp}
-use Rattle.odd_base.specs.KeyOrder.{key_exact, key_total}
-use Rattle.odd_base.specs.Map.{IsAfter}
-use Rattle.odd_base.specs.declared.key.Key.{Key}
-use Rattle.odd_base.proofs.Entries.{as_T, find_at, found_contained, rising}
-use Rattle.odd_forms.proofs.OneSet.{not_below, turned}
-use Rattle.odd_decls.specs.declared.library.Component.{Component}
-use Rattle.odd_classes.specs.Placing.{IsEntryAt}
+use Rattle.odd_forms.proofs.SetOf.{not_below, turned}
+use Rattle.odd_library.specs.declared.library.ClassPart.{ClassPart}
+use Rattle.odd_library.specs.declared.library.Component.{Component}
+use Rattle.odd_library.specs.declared.library.Component.TheVariants as component
+use Rattle.odd_text.proofs.Entries.{as_T, find_at, found_contained, rising}
+use Rattle.odd_text.specs.Key.{key_cmp}
+use Rattle.odd_text.specs.KeyOrder.{key_exact, key_total}
+use Rattle.odd_text.specs.Map.{IsAfter, SetsOnly}
+use Rattle.odd_text.specs.declared.key.Key.{Key}
+use Rattle.odd_text.specs.declared.key.Kind.{Kind}
+use Rattle.odd_text.specs.declared.key.Kind.TheVariants as kind
+use Rattle.odd_classes.specs.Listing.{IsModelAt}
+use Rattle.odd_classes.specs.Placing.{IsEntryAt, ArePlacesOf}
 
 -- what is found at a place is the entry there
 pub found_here : (es : List (Key × Component)) (place : ℕ) (here : Key × Component) → (place < length es) × ((d : Key × Component) → here ≡ get_or es place d) → IsEntryAt es place here.0 here.1
@@ -52,3 +61,100 @@ module _ (es : List (Key × Component)) (up : IsTrue (is_sorted key_cmp es)) whe
       turned key_cmp key_total key (get_or es j d).0 Less (ap (λ (p : Key × Component). key_cmp (get_or es j d).0 p.0) (sym (here d)) ∙ less) in
       find_at key_cmp key_total key es place (key, part) within after (ap (λ (p : Key × Component). key_cmp key p.0) (here (key, part)) ∙ tied_itself key_total key)
       ∙ ap (λ (p : Key × Component). Some p.1) (here (key, part))
+
+module _ {K V : Type 0} (order : K → K → Ordering) (At : ℕ → K → V → Type 0) where
+  -- it holds what stands at the first places
+  abbrev pub IsFilled : ℕ → List (K × V) → Type 0
+  IsFilled count table = (key : K) (value : V) → (find order key table ≡ Some value) ↔ ((place : ℕ) × (place < count) × At place key value)
+
+  -- at none
+  pub filled_first : (table : List (K × V)) → table ≡ [] → IsFilled 0 table
+  filled_first table empty = rw empty (λ key value. (λ h. cc, λ s. absurd (omega (arith, s.1))))
+
+  -- what stands at the first places and at the next, where the next is no such place
+  earlier : (i : ℕ) (key : K) (value : V) → (At i key value → ⊥) → ((place : ℕ) × (place < i + 1) × At place key value) → (place : ℕ) × (place < i) × At place key value
+  earlier i key value not s = ⊎_elim (λ same. absurd (not (subst (λ p. At p key value) (sym same.1) s.2))) (λ other. (s.0, omega (arith, s.1, other.1), s.2)) (eqb_tells i s.0)
+
+  -- nothing stands at the next
+  pub filled_none : (i : ℕ) (table : List (K × V)) → IsFilled i table → ((key : K) (value : V) → At i key value → ⊥) → IsFilled (i + 1) table
+  filled_none i table before not key value = (λ h. let s = (before key value).0 h in (s.0, omega (arith, s.1), s.2), λ s. (before key value).1 (earlier i key value (not key value) s))
+
+  -- what stands there is put
+  pub filled_more : IsTotalOrder order → ((a b : K) → eq_by_cmp order a b ≡ true → a ≡ b) → (i : ℕ) (old new : List (K × V)) (key : K) (value : V) → IsFilled i old → SetsOnly order old new key value
+      → At i key value → ((other : K) (w : V) → At i other w → other ≡ key) → ((place : ℕ) (w : V) → At place key w → value ≡ w) → IsFilled (i + 1) new
+  filled_more total exact i old new key value before sets at here one asked w = by_key (eq_by_cmp order asked key) refl
+    where
+      by_key : (b : Bool) → eq_by_cmp order asked key ≡ b → (find order asked new ≡ Some w) ↔ ((place : ℕ) × (place < i + 1) × At place asked w)
+      by_key true e =
+          let same : asked ≡ key = exact asked key e in
+          let found : find order asked new ≡ Some value = sets asked ∙ ap (λ b. if b then Some value else find order asked old) e in (
+            λ h. (i, omega arith, subst (λ v. At i asked v) (same_Some _ _ (sym found ∙ h)) (subst (λ k. At i k value) (sym same) at)),
+            λ s. found ∙ ap Some (one s.0 w (subst (λ k. At s.0 k w) same s.2)),
+          )
+      by_key false e =
+          let found : find order asked new ≡ find order asked old = sets asked ∙ ap (λ b. if b then Some value else find order asked old) e in
+          let other : asked ≢ key = λ same. false≢true (sym e ∙ ap is_eq (ap (order asked) (sym same) ∙ tied_itself total asked)) in (
+            λ h. let s = (before asked w).0 (sym found ∙ h) in (s.0, omega (arith, s.1), s.2),
+            λ s. found ∙ (before asked w).1 (earlier i asked w (λ a. other (here asked w a)) s),
+          )
+
+-- what stands at a place is the entry there
+pub entry_here : (entries : List (Key × Component)) (i : ℕ) (here : Key × Component) → i < length entries → here ≡ get_or entries i here → IsEntryAt entries i here.0 here.1
+entry_here entries i here within is = slice_get-get_or entries i here within ∙ ap Some (sym is)
+
+module _ (entries : List (Key × Component)) where
+  -- the entry there has the key, and this is the place
+  abbrev IsPlaceAt : ℕ → Key → ℕ → Type 0
+  IsPlaceAt i key place = (place ≡ i) × ((part : Component) × IsEntryAt entries i key part)
+
+  -- what is found at a key is the place of its entry, where that is among the first
+  abbrev pub PlacesSoFar : ℕ → List (Key × ℕ) → Type 0
+  PlacesSoFar count places = IsFilled key_cmp IsPlaceAt count places
+
+  -- the next entry is put
+  pub places_more : IsTrue (is_sorted key_cmp entries) → (i : ℕ) (old new : List (Key × ℕ)) (here : Key × Component) (key : Key) → PlacesSoFar i old → i < length entries
+      → here ≡ get_or entries i here → key ≡ here.0 → SetsOnly key_cmp old new key i → PlacesSoFar (i + 1) new
+  places_more up i old new here key before within is same sets =
+      filled_more key_cmp IsPlaceAt key_total (tells_apart key_exact) i old new key i before sets (refl, (here.1, there)) (λ other w a. ap (λ p. p.0) (same_Some _ _ (sym a.1.1 ∙ there)))
+      (λ place w a. one_place entries up i place key here.1 a.1.0 there a.1.1 ∙ sym a.0)
+    where
+      there : IsEntryAt entries i key here.1
+      there = entry_here entries i here within is ∙ ap (λ k. Some (k, here.1)) (sym same)
+
+  -- at the end all are
+  pub all_placed : (count : ℕ) (places : List (Key × ℕ)) → PlacesSoFar count places → length entries ≤ count → ArePlacesOf entries places
+  all_placed count places h all key place = (
+    λ f. let s = (h key place).0 f in subst (λ p. (part : Component) × IsEntryAt entries p key part) (sym s.2.0) s.2.1,
+    λ s. (h key place).1 (place, omega (arith, slice_get_within entries place (key, s.0) s.1), (refl, s)),
+  )
+
+-- where the item adds to both sides
+pub both_more : {All Some One Was Now Is : Type 0} → All ↔ (Some ⊎ One) → Some ↔ Was → Now ↔ (Was ⊎ Is) → Is ↔ One → All ↔ Now
+both_more all some now is = grind arith
+
+-- and where it adds to none
+pub none_more : {Some Was Now Is : Type 0} → Some ↔ Was → Now ↔ (Was ⊎ Is) → (Is → ⊥) → Some ↔ Now
+none_more some now not = grind arith
+
+-- whether a class of type `model` stands at a place
+pub model_or_not : (entries : List (Key × Component)) (place : ℕ) → ((class : List ℕ) × IsModelAt entries place class) ⊎ ((class : List ℕ) → IsModelAt entries place class → ⊥)
+model_or_not entries place = by_found (slice_get entries place) refl
+  where
+    by_gives : (key : Key) → key.kind ≡ kind.Class → (part : ClassPart) → slice_get entries place ≡ Some (key, component.Class part) → (gives : Bool) → part.gives ≡ gives
+        → ((class : List ℕ) × IsModelAt entries place class) ⊎ ((class : List ℕ) → IsModelAt entries place class → ⊥)
+    by_gives key is part at false e = inl (key.ident, record { part = part; here = at ∙ ap (λ k. Some (record { kind = k; ident = key.ident }, component.Class part)) is; gives = e })
+    by_gives key is part at true e = inr (λ class m. let same = same_Some _ _ (sym at ∙ m.here) in let of_class : component.Class part ≡ component.Class m.part = ap (λ (x : Key × Component). x.1) same in let parts : part ≡ m.part = cc in false≢true (sym m.gives ∙ ap (λ (p : ClassPart). p.gives) (sym parts) ∙ e))
+
+    by_kind : (key : Key) (part : ClassPart) → slice_get entries place ≡ Some (key, component.Class part) → (k : Kind) → key.kind ≡ k
+        → ((class : List ℕ) × IsModelAt entries place class) ⊎ ((class : List ℕ) → IsModelAt entries place class → ⊥)
+    by_kind key part at kind.Class e = by_gives key e part at part.gives refl
+    by_kind key part at kind.Element e = inr (λ class m. let kinds : key.kind ≡ kind.Class = ap (λ (x : Key × Component). x.0.kind) (same_Some _ _ (sym at ∙ m.here)) in cc)
+    by_kind key part at kind.Macro e = inr (λ class m. let kinds : key.kind ≡ kind.Class = ap (λ (x : Key × Component). x.0.kind) (same_Some _ _ (sym at ∙ m.here)) in cc)
+    by_kind key part at kind.Datatype e = inr (λ class m. let kinds : key.kind ≡ kind.Class = ap (λ (x : Key × Component). x.0.kind) (same_Some _ _ (sym at ∙ m.here)) in cc)
+
+    by_found : (o : Option (Key × Component)) → slice_get entries place ≡ o → ((class : List ℕ) × IsModelAt entries place class) ⊎ ((class : List ℕ) → IsModelAt entries place class → ⊥)
+    by_found None e = inr (λ class m. let here = m.here in cc)
+    by_found (Some (key, component.Class part)) e = by_kind key part e key.kind refl
+    by_found (Some (key, component.Element part)) e = inr (λ class m. let parts : component.Element part ≡ component.Class m.part = ap (λ (x : Key × Component). x.1) (same_Some _ _ (sym e ∙ m.here)) in cc)
+    by_found (Some (key, component.Macro part)) e = inr (λ class m. let parts : component.Macro part ≡ component.Class m.part = ap (λ (x : Key × Component). x.1) (same_Some _ _ (sym e ∙ m.here)) in cc)
+    by_found (Some (key, component.Datatype part)) e = inr (λ class m. let parts : component.Datatype part ≡ component.Class m.part = ap (λ (x : Key × Component). x.1) (same_Some _ _ (sym e ∙ m.here)) in cc)

@@ -1,26 +1,88 @@
--- The table of the members of classes tells what they are, and how many idents it holds.
-use Rattle.std.proofs.Common.{◌≡◌, ◌<◌, ◌≤◌, ℕ, List, [], length, get_or, Option, None, Some, refl, sym, ap, subst, ◌∙◌, ⊎_elim, arith}
-use Rattle.std.specs.Prelude.{IsTrue, slice_get, sum_by}
-use Rattle.std.specs.FinMap.{find, is_sorted}
+-- The table of the members of classes: what it tells, how many idents it holds, and the elements at places.
+use Rattle.std.proofs.Common.{◌≡◌, ◌<◌, ◌≤◌, ◌+◌, ◌-◌, ◌∷◌, drop, suc, ℕ, true, List, [], length, get_or, sym, ap, subst, ◌∙◌, arith, Option, None, Some, refl, ⊎_elim, ◌↔◌, ◌⊎◌, ◌++◌, take, inl, inr}
 use Rattle.std.proofs.lemmas.Cmp.{nat_list_cmp_total}
-use Rattle.std.proofs.lemmas.Option.{get_or_from_slice_get, same_Some, slice_get_within}
-use Rattle.odd_base.specs.Key.{key_cmp}
-use Rattle.odd_base.specs.Text.{text_cmp}
-use Rattle.odd_base.specs.declared.key.Key.{Key}
-use Rattle.odd_base.specs.declared.key.Kind.{Kind}
-use Rattle.odd_base.specs.declared.key.Kind.TheVariants as kind
-use Rattle.odd_tree.specs.Elements.{StandsIn}
+use Rattle.std.proofs.lemmas.List.{drop_more, length-drop}
+use Rattle.std.proofs.lemmas.Map.Views.{tells_apart}
+use Rattle.std.proofs.lemmas.Option.{same_Some, get_or_from_slice_get, slice_get_within}
+use Rattle.std.specs.FinMap.{is_sorted, nat_cmp-IsAntisymmetric, slice_cmp-IsAntisymmetric, find}
+use Rattle.std.specs.List.{Contains}
+use Rattle.std.specs.Ordering.{eq_by_cmp}
+use Rattle.std.specs.Prelude.{IsTrue, slice_get, sum_by}
 use Rattle.odd_forms.specs.Sorted.{AreRising, IsSet}
-use Rattle.odd_decls.specs.declared.library.Component.{Component}
-use Rattle.odd_decls.specs.declared.library.Component.TheVariants as component
-use Rattle.odd_decls.specs.declared.library.Library.{Library}
+use Rattle.odd_graph.proofs.OneMore.{contains_next}
+use Rattle.odd_library.specs.Odd.{element_key}
+use Rattle.odd_library.specs.declared.library.Component.{Component}
+use Rattle.odd_library.specs.declared.library.Component.TheVariants as component
+use Rattle.odd_library.specs.declared.library.ElementPart.{ElementPart}
+use Rattle.odd_library.specs.declared.library.Library.{Library}
 use Rattle.odd_meaning.specs.Classes.{AreMembers, IsElementOf, IsListed, IsModel, Members, class_count, count_at, listed_count, members_count}
 use Rattle.odd_meaning.specs.Links.{class_key}
-use Rattle.odd_classes.specs.Listing.{AreListed, AreListsOf, IsModelAt, IsTableOf}
+use Rattle.odd_text.specs.Key.{key_cmp}
+use Rattle.odd_text.specs.Map.{SetsOnly}
+use Rattle.odd_text.specs.Text.{text_cmp}
+use Rattle.odd_text.specs.declared.key.Key.{Key}
+use Rattle.odd_text.specs.declared.key.Kind.{Kind}
+use Rattle.odd_text.specs.declared.key.Kind.TheVariants as kind
+use Rattle.odd_tree.proofs.InList.{stands_push}
+use Rattle.odd_tree.specs.Elements.{StandsIn}
+use Rattle.odd_classes.proofs.Listed.{part_no_longer, sums_le}
+use Rattle.odd_classes.proofs.Places.{IsFilled, filled_more, filled_none, one_place, entry_held, held_at, model_or_not, both_more, none_more}
+use Rattle.odd_classes.specs.Listing.{IsModelAt, IsTableOf, AreListed, AreListsOf}
 use Rattle.odd_classes.specs.Placing.{IsEntryAt}
-use Rattle.odd_classes.proofs.Places.{entry_held, held_at, one_place}
-use Rattle.odd_classes.proofs.Rising.{part_no_longer, sums_le}
-use Rattle.odd_classes.proofs.ModelPlaces.{model_or_not}
+
+-- idents that tie are one
+one_ident : (a b : List ℕ) → eq_by_cmp text_cmp a b ≡ true → a ≡ b
+one_ident = tells_apart (slice_cmp-IsAntisymmetric nat_cmp-IsAntisymmetric)
+
+-- what is left of a list from a place on begins with what stands there
+first_left : {A : Type 0} (xs ys : List A) (i : ℕ) (x d : A) → i ≤ length xs → drop i xs ≡ x ∷ ys → (i < length xs) × (get_or xs i d ≡ x) × (drop (i + 1) xs ≡ ys)
+first_left xs ys i x d le is =
+    let long : length xs - i ≡ suc (length ys) = sym (length-drop i xs) ∙ ap length is in
+    let within : i < length xs = omega (arith, le, long) in
+    let begins : get_or xs i d ∷ drop (i + 1) xs ≡ x ∷ ys = sym (drop_more xs i d within) ∙ is in
+    (within, cc, cc)
+
+module _ (entries : List (Key × Component)) (lists : List (List (List ℕ))) where
+  -- the class stands there, and this is its list
+  abbrev pub IsListAt : ℕ → List ℕ → List (List ℕ) → Type 0
+  IsListAt place class idents = IsModelAt entries place class × (idents ≡ get_or lists place [])
+
+  -- the table of the classes among the first entries
+  abbrev pub IsTableSoFar : ℕ → List (List ℕ × List (List ℕ)) → Type 0
+  IsTableSoFar count table = IsFilled text_cmp IsListAt count table
+
+  -- the list of the class at the next place is put
+  table_more : IsTrue (is_sorted key_cmp entries) → (i : ℕ) (old new : List (List ℕ × List (List ℕ))) (class ident : List ℕ) (list : List (List ℕ)) → IsTableSoFar i old → IsModelAt entries i class
+      → ident ≡ class → list ≡ get_or lists i [] → SetsOnly text_cmp old new ident list → IsTableSoFar (i + 1) new
+  table_more up i old new class ident list before model same is sets =
+      filled_more text_cmp IsListAt nat_list_cmp_total one_ident i old new ident list before sets (subst (IsModelAt entries i) (sym same) model, is)
+      (λ other w a. ap (λ (e : Key × Component). e.0.ident) (same_Some _ _ (sym a.0.here ∙ model.here)) ∙ sym same)
+      (λ place w a.
+      is ∙ ap (λ p. get_or lists p []) (one_place entries up i place (class_key class) (component.Class model.part) (component.Class a.0.part) model.here (subst (λ c. IsEntryAt entries place (class_key c) (component.Class a.0.part)) same a.0.here)) ∙ sym a.1)
+
+  -- the table of the classes among the first entries, and the lists that are left
+  abbrev pub IsMadeSoFar : ℕ → List (List (List ℕ)) → List (List ℕ × List (List ℕ)) → Type 0
+  IsMadeSoFar count left table = IsTableSoFar count table × (drop count lists ≡ left) × (count ≤ length lists)
+
+  -- the next list is that of a class, and is put
+  pub made_more : IsTrue (is_sorted key_cmp entries) → (i : ℕ) (list : List (List ℕ)) (left : List (List (List ℕ))) (old new : List (List ℕ × List (List ℕ))) (class ident : List ℕ) → IsMadeSoFar i (list ∷ left) old
+      → IsModelAt entries i class → ident ≡ class → SetsOnly text_cmp old new ident list → IsMadeSoFar (i + 1) left new
+  made_more up i list left old new class ident before model same sets =
+      let first = first_left lists left i list [] before.2 before.1 in
+      (table_more up i old new class ident list before.0 model same (sym first.1) sets, first.2, omega (arith, first.0))
+
+  -- it is none
+  pub made_none : (i : ℕ) (list : List (List ℕ)) (left : List (List (List ℕ))) (table : List (List ℕ × List (List ℕ))) → IsMadeSoFar i (list ∷ left) table → ((class : List ℕ) → IsModelAt entries i class → ⊥)
+      → IsMadeSoFar (i + 1) left table
+  made_none i list left table before not =
+      let first = first_left lists left i list [] before.2 before.1 in
+      (filled_none text_cmp IsListAt i table before.0 (λ class idents a. not class a.0), first.2, omega (arith, first.0))
+
+  -- none is left
+  pub all_made : (count : ℕ) (left : List (List (List ℕ))) (table : List (List ℕ × List (List ℕ))) → IsMadeSoFar count left table → length left ≡ 0 → IsTableOf entries lists table
+  all_made count left table made none =
+      let all : count ≡ length lists = omega (arith, length-drop count lists, ap length made.1, none, made.2) in
+      subst (λ n. IsTableSoFar n table) all made.0
 
 module _ (library : Library) (up : IsTrue (is_sorted key_cmp library.parts)) (lists : List (List (List ℕ))) where
   -- what stands at a place is of type `model`
@@ -78,3 +140,32 @@ module _ (library : Library) (up : IsTrue (is_sorted key_cmp library.parts)) (li
           let same : (class_key model.0, component.Class model.1.part) ≡ entry = same_Some _ _ (sym model.1.here ∙ at) in
           subst (λ e. length list ≤ class_count members e) same (by_listed i model.0 model.1 list is (members model.0) (all model.0)))
           (λ not. let none : list ≡ [] = sym is ∙ are.models.others i (slice_get_within lists i list there) not in omega (arith, ap length none)) (model_or_not library.parts i)
+
+-- the element stands at the place
+abbrev pub IsElementAt : List (Key × Component) → List ℕ → ℕ → Type 0
+IsElementAt entries ident place = (part : ElementPart) × IsEntryAt entries place (element_key ident) (component.Element part)
+
+-- the idents are those of the elements at these places
+abbrev pub AreAmong : List (Key × Component) → List ℕ → List (List ℕ) → Type 0
+AreAmong entries places idents = (ident : List ℕ) → StandsIn idents ident ↔ ((place : ℕ) × IsElementAt entries ident place × Contains places place)
+
+-- what is such at the first places is so at the next, or at one before
+at_next : (Is : ℕ → Type 0) (places : List ℕ) (i : ℕ) → i < length places
+    → ((k : ℕ) × Is k × Contains (take (i + 1) places) k) ↔ (((k : ℕ) × Is k × Contains (take i places) k) ⊎ Is (get_or places i 0))
+at_next Is places i within = (
+  λ s. ⊎_elim (λ c. inl (s.0, s.1, c)) (λ e. inr (subst Is (sym e) s.1)) ((contains_next places i 0 s.0 within).0 s.2),
+  λ h. ⊎_elim (λ s. (s.0, s.1, (contains_next places i 0 s.0 within).1 (inl s.2))) (λ is. (get_or places i 0, is, (contains_next places i 0 (get_or places i 0) within).1 (inr (λ n. get_or places i 0)))) h,
+)
+
+module _ (entries : List (Key × Component)) (places : List ℕ) (i : ℕ) (idents : List (List ℕ)) (before : AreAmong entries (take i places) idents) (within : i < length places) where
+  -- an element stands there
+  pub among_more : (here : Key × Component) (part : ElementPart) → IsEntryAt entries (get_or places i 0) here.0 here.1 → here ≡ (element_key here.0.ident, component.Element part)
+      → AreAmong entries (take (i + 1) places) (idents ++ here.0.ident ∷ [])
+  among_more here part at element ident = both_more (stands_push idents here.0.ident ident) (before ident) (at_next (IsElementAt entries ident) places i within) (
+    λ m. ap (λ (e : Key × Component). e.0.ident) (same_Some _ _ (sym at ∙ m.1)),
+    λ e. (part, at ∙ ap Some (element ∙ ap (λ x. (element_key x, component.Element part)) e)),
+  )
+
+  -- none stands there
+  pub among_none : ((ident : List ℕ) → IsElementAt entries ident (get_or places i 0) → ⊥) → AreAmong entries (take (i + 1) places) idents
+  among_none not ident = none_more (before ident) (at_next (IsElementAt entries ident) places i within) (not ident)

@@ -2,17 +2,17 @@
 use Rattle.std.specs.Prelude.{◌≡◌, ◌↔◌, ◌⊎◌, ◌<◌, ℕ, false, List, [], ◌∷◌, ◌++◌, Some, length, get_or}
 use Rattle.std.specs.FinMap.{find}
 use Rattle.std.specs.List.{Contains}
-use Rattle.odd_base.specs.Text.{text_cmp}
-use Rattle.odd_base.specs.declared.key.Key.{Key}
+use Rattle.odd_text.specs.Text.{text_cmp}
+use Rattle.odd_text.specs.declared.key.Key.{Key}
 use Rattle.odd_graph.specs.Graph.{Leads}
 use Rattle.odd_tree.specs.Elements.{StandsIn}
 use Rattle.odd_forms.specs.Sorted.{AreRising, IsSet}
-use Rattle.odd_decls.specs.Odd.{element_key}
-use Rattle.odd_decls.specs.declared.library.ClassPart.{ClassPart}
-use Rattle.odd_decls.specs.declared.library.Component.{Component}
-use Rattle.odd_decls.specs.declared.library.Component.TheVariants as component
-use Rattle.odd_decls.specs.declared.library.ElementPart.{ElementPart}
-use Rattle.odd_decls.specs.declared.library.Library.{Library}
+use Rattle.odd_library.specs.Odd.{element_key}
+use Rattle.odd_library.specs.declared.library.ClassPart.{ClassPart}
+use Rattle.odd_library.specs.declared.library.Component.{Component}
+use Rattle.odd_library.specs.declared.library.Component.TheVariants as component
+use Rattle.odd_library.specs.declared.library.ElementPart.{ElementPart}
+use Rattle.odd_library.specs.declared.library.Library.{Library}
 use Rattle.odd_meaning.specs.Classes.{IsElementOf}
 use Rattle.odd_meaning.specs.Links.{class_key}
 use Rattle.odd_classes.specs.Placing.{IsEntryAt}

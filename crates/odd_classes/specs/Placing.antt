@@ -2,15 +2,15 @@
 use Rattle.std.specs.Prelude.{◌≡◌, ◌≢◌, ◌↔◌, ℕ, List, Some, length, slice_get}
 use Rattle.std.specs.FinMap.{find}
 use Rattle.std.specs.declared.cmp.Ordering.TheVariants.{Greater}
-use Rattle.odd_base.specs.Key.{key_cmp}
-use Rattle.odd_base.specs.declared.key.Key.{Key}
+use Rattle.odd_text.specs.Key.{key_cmp}
+use Rattle.odd_text.specs.declared.key.Key.{Key}
 use Rattle.odd_graph.specs.Graph.{Chained, HasArrow, Leads}
 use Rattle.odd_tree.specs.Elements.{StandsIn}
-use Rattle.odd_decls.specs.Odd.{element_key}
-use Rattle.odd_decls.specs.declared.library.Component.{Component}
-use Rattle.odd_decls.specs.declared.library.Component.TheVariants as component
-use Rattle.odd_decls.specs.declared.library.ElementPart.{ElementPart}
-use Rattle.odd_decls.specs.declared.library.Library.{Library}
+use Rattle.odd_library.specs.Odd.{element_key}
+use Rattle.odd_library.specs.declared.library.Component.{Component}
+use Rattle.odd_library.specs.declared.library.Component.TheVariants as component
+use Rattle.odd_library.specs.declared.library.ElementPart.{ElementPart}
+use Rattle.odd_library.specs.declared.library.Library.{Library}
 use Rattle.odd_meaning.specs.Links.{IsHeld, IsLinked, class_key, classes_of, macro_key, macros_of}
 use Rattle.odd_meaning.specs.Rules.{IsOfAttributes, Names}
 use Rattle.odd_classes.specs.declared.links.Link.{Link}

@@ -1,10 +1,10 @@
 ghost use Rattle.std.specs.Prelude.{◌≡◌, ◌↔◌, ℕ, List, IfOk, IsTrue};
 ghost use Rattle.std.specs.List.{Contains};
-ghost use Rattle.odd_base.specs.Text.{text_cmp};
+ghost use Rattle.odd_text.specs.Text.{text_cmp};
 ghost use Rattle.odd_forms.specs.Sorted.{IsSet};
-ghost use Rattle.odd_decls.specs.Odd.{element_key};
-ghost use Rattle.odd_decls.specs.declared.library.Component.TheVariants as the_component;
-ghost use Rattle.odd_decls.specs.declared.library.ElementPart.{ElementPart as AnElementPart};
+ghost use Rattle.odd_library.specs.Odd.{element_key};
+ghost use Rattle.odd_library.specs.declared.library.Component.TheVariants as the_component;
+ghost use Rattle.odd_library.specs.declared.library.ElementPart.{ElementPart as AnElementPart};
 ghost use Rattle.odd_meaning.specs.Classes.{IsElementOf};
 ghost use Rattle.odd_meaning.specs.Links.{class_key as the_class_key};
 ghost use Rattle.odd_tree.specs.Elements.{StandsIn};
@@ -12,10 +12,10 @@ ghost use Rattle.odd_classes.specs.Placing.{IsEntryAt};
 
 use crate::graph::{places_of, turned_by};
 use crate::links::Link;
-use odd_base::{Key, Kind, NoMemory, Text, TryCopy, Words};
-use odd_decls::{Component, Library};
 use odd_forms::sorted;
 use odd_graph::{reached, unmarked};
+use odd_library::{Component, Library};
+use odd_text::{Key, Kind, NoMemory, Text, TryCopy, Words};
 use std::alloc::Global;
 
 /// The idents of the elements that are members of a class, by their own memberships or through classes of classes (TEI

@@ -1,13 +1,13 @@
 ghost use Rattle.std.specs.Prelude.{◌≡◌, ℕ, Err, IsOk};
-ghost use Rattle.odd_base.specs.declared.key.Key.{Key as AKey};
+ghost use Rattle.odd_text.specs.declared.key.Key.{Key as AKey};
 ghost use Rattle.odd_meaning.specs.Rules.{BreaksByCycle, IsFirstBreak};
 ghost use Rattle.odd_classes.specs.Placing.{IsFirstAmong, LeadsToItself};
 
 use crate::graph::graph_by;
 use crate::links::Link;
-use odd_base::{Key, NoMemory, TryCopy};
-use odd_decls::Library;
 use odd_graph::first_on_cycle;
+use odd_library::Library;
+use odd_text::{Key, NoMemory, TryCopy};
 use std::alloc::Global;
 
 /// Why a library is not known to have no cycle.

@@ -1,15 +1,15 @@
 ghost use Rattle.std.specs.Prelude.{◌≡◌, ◌↔◌, ℕ, Some, IfOk, IsTrue};
 ghost use Rattle.std.specs.FinMap.{find, is_sorted};
 ghost use Rattle.std.specs.List.{Contains};
-ghost use Rattle.odd_base.specs.Key.{key_cmp};
-ghost use Rattle.odd_base.specs.declared.key.Key.{Key as AKey};
+ghost use Rattle.odd_text.specs.Key.{key_cmp};
+ghost use Rattle.odd_text.specs.declared.key.Key.{Key as AKey};
 ghost use Rattle.odd_tree.specs.Elements.{StandsIn};
 ghost use Rattle.odd_classes.specs.Placing.{ArePlacesOf, IsGraphOf, IsTurnedGraphOf, keys_by};
 
 use crate::links::{Link, linked};
-use odd_base::{Key, Map, NoMemory, TryCopy};
-use odd_decls::Component;
 use odd_graph::{Nodes, turned};
+use odd_library::Component;
+use odd_text::{Key, Map, NoMemory, TryCopy};
 use std::alloc::Global;
 
 /// For each key its place among the entries of a library, counted from 0.

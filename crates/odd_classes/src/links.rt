@@ -2,9 +2,9 @@ ghost use Rattle.std.specs.Prelude.{◌≡◌, [], ◌∷◌, ◌++◌, IfOk, On
 ghost use Rattle.odd_meaning.specs.Links.{class_key, classes_of, macros_of, named_by, named_in};
 ghost use Rattle.odd_classes.specs.Placing.{keys_by};
 
-use odd_base::{Key, Keys, Kind, NoMemory, Text, TryCopy, Words};
 use odd_content::{Content, Contents};
-use odd_decls::Component;
+use odd_library::Component;
+use odd_text::{Key, Keys, Kind, NoMemory, Text, TryCopy, Words};
 use std::alloc::Global;
 
 /// By what a component leads on to others.

@@ -3,9 +3,9 @@ ghost use Rattle.odd_classes.specs.Ranking.{IsMacroOrder};
 
 use crate::graph::graph_by;
 use crate::links::Link;
-use odd_base::{Kind, NoMemory, TryCopy, Words};
-use odd_decls::Library;
 use odd_graph::ordered;
+use odd_library::Library;
+use odd_text::{Kind, NoMemory, TryCopy, Words};
 use std::alloc::Global;
 
 /// The idents of the macros of a library that reach no macro which reaches itself, each once, in an order in which each stands

@@ -1,8 +1,8 @@
 ghost use Rattle.std.specs.Prelude.{◌≡◌, ◌↔◌, ◌<◌, ◌≤◌, ◌+◌, ℕ, List, [], Err, IfOk, IsTrue, OnOk, Some, length, replicate, sum_by};
 ghost use Rattle.std.specs.FinMap.{find, is_sorted};
 ghost use Rattle.std.specs.Option.{option_copied};
-ghost use Rattle.odd_base.specs.Key.{key_cmp};
-ghost use Rattle.odd_base.specs.Text.{text_cmp};
+ghost use Rattle.odd_text.specs.Key.{key_cmp};
+ghost use Rattle.odd_text.specs.Text.{text_cmp};
 ghost use Rattle.odd_graph.specs.Graph.{StandOnce};
 ghost use Rattle.odd_meaning.specs.Classes.{AreMembers, Members, members_count};
 ghost use Rattle.odd_classes.specs.Listing.{AreListed, AreListsOf, HasListed, IsModelAt, IsTableOf};
@@ -10,9 +10,9 @@ ghost use Rattle.odd_classes.specs.Listing.{AreListed, AreListsOf, HasListed, Is
 use crate::class_members::is_element;
 use crate::graph::graph_by;
 use crate::links::Link;
-use odd_base::{Key, Kind, Map, NoMemory, Text, TryCopy, Words};
-use odd_decls::{Component, Library};
 use odd_graph::{reached, unmarked};
+use odd_library::{Component, Library};
+use odd_text::{Key, Kind, Map, NoMemory, Text, TryCopy, Words};
 use std::alloc::Global;
 
 /// For each class of type `model` the idents of the elements that are its members, in rising order.

@@ -1,16 +1,16 @@
 ghost use Rattle.std.specs.Prelude.{◌≡◌, ◌↔◌, ℕ, Err, IfOk, IsOk, IsTrue};
-ghost use Rattle.odd_base.specs.declared.key.Key.{Key as AKey};
+ghost use Rattle.odd_text.specs.declared.key.Key.{Key as AKey};
 ghost use Rattle.odd_tree.specs.Elements.{StandsIn};
-ghost use Rattle.odd_decls.specs.declared.library.ClassPart.{ClassPart as AClassPart};
-ghost use Rattle.odd_decls.specs.declared.library.Component.TheVariants as the_component;
+ghost use Rattle.odd_library.specs.declared.library.ClassPart.{ClassPart as AClassPart};
+ghost use Rattle.odd_library.specs.declared.library.Component.TheVariants as the_component;
 ghost use Rattle.odd_meaning.specs.Links.{named_by};
 ghost use Rattle.odd_meaning.specs.Rules.{Breaks, IsFirstBreak};
 ghost use Rattle.odd_classes.specs.Placing.{IsFirstAmong, IsWrong, NamesWrongly};
 
 use crate::cycles::{CycleRefusal, check_cycles};
 use crate::links::named;
-use odd_base::{Key, Kind, NoMemory, TryCopy};
-use odd_decls::{Component, Library};
+use odd_library::{Component, Library};
+use odd_text::{Key, Kind, NoMemory, TryCopy};
 use std::alloc::Global;
 
 /// Why a library breaks a rule.

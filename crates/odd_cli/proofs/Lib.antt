@@ -1,1 +1,6 @@
-mod Arguments
+pub mod Answering
+pub mod BoundsOrdered
+pub mod Formed
+pub mod FormedParts
+pub mod OneReply
+pub mod Saying

@@ -1,1 +1,6 @@
-pub mod CommandLine
+pub mod Note
+pub mod Outcome
+pub mod Reading
+pub mod Reply
+pub mod Running
+pub mod Words

@@ -2,12 +2,11 @@
 use Rattle.std.proofs.Common.{◌≡◌, ℕ, ◌+◌, ◌<◌, true, cond, filter, List, [], ◌∷◌, ◌++◌, Option, None, sym, ap, subst, ◌∙◌, append_assoc, drop, get_or, length}
 use Rattle.std.specs.Prelude.{is_some}
 use Rattle.std.proofs.lemmas.List.{append-nil}
-use Rattle.odd_base.specs.declared.name.Bind.{Bind}
+use Rattle.odd_text.specs.declared.name.Bind.{Bind}
 use Rattle.odd_tree.specs.Elements.{children_of, elements_of}
 use Rattle.odd_tree.specs.declared.tree.Node.{Node, Element}
 use Rattle.odd_tree.specs.declared.tree.Tree.{Tree}
-use Rattle.odd_tree.proofs.AmongChildren.{element_shown}
-use Rattle.odd_tree.proofs.InList.{begins, nothing_stands}
+use Rattle.odd_tree.proofs.InList.{element_shown, begins, nothing_stands}
 use Rattle.odd_forms.specs.Least.{IsLeast, lesser_rule}
 use Rattle.odd_forms.proofs.Least.{least_more}
 use Rattle.odd_content.specs.Breaking.{PartFault, PartsFault}

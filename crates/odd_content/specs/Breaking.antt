@@ -1,7 +1,7 @@
 -- What breaks the form of a `content`, in it and in its parts at any depth. At most 60 levels of `sequence` and `alternate` stand in one another, and
 -- several parts of a `content` are one of them.
 use Rattle.std.specs.Prelude.{◌≡◌, ◌⊎◌, ℕ, ◌-◌, if◌then◌else◌, nat_le, count_by, is_some, Bool, List, Some}
-use Rattle.odd_base.specs.declared.name.Bind.{Bind}
+use Rattle.odd_text.specs.declared.name.Bind.{Bind}
 use Rattle.odd_tree.specs.Elements.{StandsIn, children_of, within}
 use Rattle.odd_tree.specs.declared.tree.Tree.{Tree}
 use Rattle.odd_forms.specs.Faults.{FormFault}

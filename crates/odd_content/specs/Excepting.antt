@@ -1,9 +1,9 @@
 -- The condition of `anyElement`: its words, and what they name under the declarations in force (Namespaces in XML 1.0, section 6).
 use Rattle.std.specs.Prelude.{◌≡◌, ℕ, List, ◌++◌, Some, None, codes}
-use Rattle.odd_base.specs.NameOrder.{name_cmp}
-use Rattle.odd_base.specs.Text.{text_cmp}
-use Rattle.odd_base.specs.declared.name.Bind.{Bind}
-use Rattle.odd_base.specs.declared.name.Name.{Name}
+use Rattle.odd_text.specs.NameOrder.{name_cmp}
+use Rattle.odd_text.specs.Text.{text_cmp}
+use Rattle.odd_text.specs.declared.name.Bind.{Bind}
+use Rattle.odd_text.specs.declared.name.Name.{Name}
 use Rattle.odd_tokens.specs.Characters.{IsNCName}
 use Rattle.odd_tree.specs.Elements.{StandsIn}
 use Rattle.odd_tree.specs.Names.{in_force}

@@ -1,6 +1,6 @@
 -- The content model that a `content` says (TEI Guidelines, the chapter Documentation Elements).
 use Rattle.std.specs.Prelude.{◌≡◌, ℕ, List, [], ◌∷◌, filter, Option, Some, None, if◌then◌else◌, is_some, codes, unwrap_or}
-use Rattle.odd_base.specs.declared.name.Bind.{Bind}
+use Rattle.odd_text.specs.declared.name.Bind.{Bind}
 use Rattle.odd_tokens.specs.Same.{is_same}
 use Rattle.odd_tree.specs.Elements.{children_of, given, within}
 use Rattle.odd_tree.specs.declared.tree.Tree.{Tree}

@@ -4,8 +4,8 @@ ghost use Rattle.odd_content.specs.Excepting.{HasUnbound, IsConditionOf};
 
 use crate::content::Condition;
 use crate::excepted::{Excepted, read_excepted};
-use odd_base::{Names, NoMemory, Words};
 use odd_forms::{sorted, words_given};
+use odd_text::{Names, NoMemory, Words};
 use odd_tree::{Bindings, Tree};
 use std::alloc::Global;
 

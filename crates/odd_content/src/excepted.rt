@@ -2,7 +2,7 @@ ghost use Rattle.std.specs.Prelude.{IfOk, map};
 ghost use Rattle.odd_tree.specs.Elements.{all_binds};
 ghost use Rattle.odd_content.specs.Excepting.{IsReadAs};
 
-use odd_base::{Name, NoMemory, Text, TryCopy};
+use odd_text::{Name, NoMemory, Text, TryCopy};
 use odd_tree::{Bindings, is_ncname, namespace_of};
 use std::alloc::Global;
 

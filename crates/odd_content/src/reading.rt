@@ -1,5 +1,5 @@
 ghost use Rattle.std.specs.Prelude.{◌≡◌, ◌≢◌, ◌++◌, ℕ, List, map, if◌then◌else◌, Err, IfOk, IsOk, Some};
-ghost use Rattle.odd_base.specs.declared.name.Bind.{Bind};
+ghost use Rattle.odd_text.specs.declared.name.Bind.{Bind};
 ghost use Rattle.odd_tree.specs.Elements.{all_binds};
 ghost use Rattle.odd_forms.specs.Least.{IsLeast};
 ghost use Rattle.odd_content.specs.Breaking.{ContentFault, InnerFault, IsLevel, PartFault, PartsFault, has_several as the_has_several};
@@ -10,8 +10,8 @@ ghost use Rattle.odd_tree.specs.declared.tree.Tree.{out-Tree};
 use crate::condition::read_condition;
 use crate::content::{Content, Contents};
 use crate::picking::read_pick;
-use odd_base::{NoMemory, Scope, Text, TryCopy};
 use odd_forms::{Element, LEFT_OUT, MALFORMED, child_of, fault_where, form_fault, lesser, number};
+use odd_text::{NoMemory, Scope, Text, TryCopy};
 use odd_tree::{Bindings, Node, Tree, attribute, elements, entered};
 use rng_values::Bounds;
 use std::alloc::Global;

@@ -1,3 +1,7 @@
-pub mod ComponentExamples
-pub mod OffenceOrder
-pub mod SameKey
+pub mod ItemElements
+pub mod ItemsRead
+pub mod OneDoc
+pub mod Refusing
+pub mod Repeats
+pub mod SchemaRead
+pub mod Searched

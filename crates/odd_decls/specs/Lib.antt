@@ -1,3 +1,12 @@
-pub mod First
-pub mod Library
-pub mod Odd
+pub mod Declares
+pub mod Faults
+pub mod ItemReading
+pub mod Offences
+pub mod Pending
+pub mod Reading
+pub mod Search
+pub use Rattle.odd_library.specs.First
+pub use Rattle.odd_library.specs.Library
+pub use Rattle.odd_library.specs.Odd
+pub use Rattle.odd_members.specs.Members
+pub use Rattle.odd_members.specs.Membership

@@ -1,14 +1,17 @@
-//! What an ODD file declares, and the library of components.
+//! From the tree of an ODD file to what it declares, or its first offence of form. The types of what is declared are the crates
+//! `odd_library` and `odd_members`.
 #![tactic(auto)]
 
-pub mod fault;
-pub mod library;
-pub mod odd;
-pub mod refusal;
-pub mod spec;
+mod declarations;
+mod items;
+mod pending;
+pub mod reading;
+mod references;
+mod searching;
 
-pub use fault::{Fault, earlier};
-pub use library::{ClassPart, Component, ElementPart, Library, OtherPart, Parts};
-pub use odd::{Entries, Entry, OddDoc};
-pub use refusal::OddRefusal;
-pub use spec::{Mode, Spec};
+pub use odd_library::{
+    ClassPart, Component, ElementPart, Entries, Entry, Library, Mode, OddDoc, OddRefusal,
+    OtherPart, Parts, Spec,
+};
+pub use odd_members::{ClassMarks, Membership};
+pub use reading::read_odd;

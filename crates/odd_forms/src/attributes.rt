@@ -12,7 +12,7 @@ ghost use Rattle.odd_tokens.specs.Characters.{IsNCName};
 use crate::faults::{LEFT_OUT, MALFORMED, UNKNOWN, fault_where};
 use crate::form::{AttributeForm, Demand, Kind};
 use crate::words::{is_among, words_of};
-use odd_base::{NoMemory, Text};
+use odd_text::{NoMemory, Text};
 use odd_tokens::is_space;
 use odd_tree::{Tree, attribute, is_ncname};
 use std::alloc::Global;

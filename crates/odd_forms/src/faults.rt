@@ -12,7 +12,7 @@ use crate::attributes::{attribute_fault, demand_fault};
 use crate::element::Element;
 use crate::form::{AttributeForm, Demand, Form};
 use crate::names::{is_one_of, is_passed_over, is_relax_ng, is_tei};
-use odd_base::NoMemory;
+use odd_text::NoMemory;
 use odd_tree::{Tree, attribute, elements};
 use std::alloc::Global;
 

@@ -6,7 +6,7 @@ use crate::Nodes;
 use crate::search::{reached, unmarked};
 use crate::trimming::Trimming;
 use crate::turning::turned;
-use odd_base::NoMemory;
+use odd_text::NoMemory;
 use std::alloc::Global;
 
 /// The first node that leads to itself, where there is one. The only error is NoMemory, for want of memory.

@@ -8,7 +8,7 @@ mod trimming;
 mod turning;
 
 pub use cycles::first_on_cycle;
-use odd_base::Seq;
+use odd_text::Seq;
 pub use ordering::ordered;
 pub use search::{reached, unmarked};
 pub use turning::turned;

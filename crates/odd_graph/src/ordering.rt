@@ -8,7 +8,7 @@ ghost use Rattle.odd_graph.specs.Searching.{IsFree, IsMarked};
 use crate::Nodes;
 use crate::trimming::{Side, is_marked};
 use crate::turning::turned;
-use odd_base::NoMemory;
+use odd_text::NoMemory;
 use std::alloc::Global;
 
 /// The nodes of a graph that lead to no cycle, each once, in an order in which each stands after those that its arrows lead to.

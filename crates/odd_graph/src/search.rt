@@ -4,7 +4,7 @@ ghost use Rattle.odd_graph.specs.Graph.{Leads, StandOnce};
 ghost use Rattle.odd_graph.specs.Marking.{AreClear, HasCleared, HasMarked};
 
 use crate::Nodes;
-use odd_base::NoMemory;
+use odd_text::NoMemory;
 use std::alloc::Global;
 
 /// A mark for each node of a graph, none of them set. The only error is NoMemory, for want of memory.

@@ -3,7 +3,7 @@ ghost use Rattle.odd_graph.specs.Graph.{HasArrow, Leads};
 ghost use Rattle.odd_graph.specs.Searching.{AreOfAll, ArePassed, IsFree, IsHeld, IsMarked, Trims};
 
 use crate::Nodes;
-use odd_base::NoMemory;
+use odd_text::NoMemory;
 use std::alloc::Global;
 
 /// The arrows of a graph or of the same turned round, and for each node how many of them are known to lead to none that is

@@ -3,7 +3,7 @@ ghost use Rattle.odd_graph.specs.Adding.{HasAdded};
 ghost use Rattle.odd_graph.specs.Graph.{HasArrow};
 
 use crate::Nodes;
-use odd_base::NoMemory;
+use odd_text::NoMemory;
 use std::alloc::Global;
 
 /// The graph with its arrows turned round. The only error is NoMemory, for want of memory.

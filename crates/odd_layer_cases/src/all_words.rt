@@ -1,4 +1,4 @@
-use odd_base::{NoMemory, Text, Words};
+use odd_text::{NoMemory, Text, Words};
 use std::alloc::Global;
 
 /// All words of up to so many of the symbols, by their length and then in the order of the symbols.

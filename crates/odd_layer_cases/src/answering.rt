@@ -3,9 +3,9 @@ use crate::draft::read_question;
 use crate::letters::Letters;
 use crate::patterns::told_lines;
 use crate::question::{Chain, Question};
-use odd_base::{Bytes, Words};
 use odd_case_files::{Asking, CaseFault, Over, Part, text_difference};
 use odd_patterns::Children;
+use odd_text::{Bytes, Words};
 use std::alloc::Global;
 
 /// The questions that single layers answer.

@@ -1,12 +1,11 @@
-use odd_base::{Key, Keys, Kind, NoMemory, Offence, Text, Who, Words};
 use odd_case_files::add_content;
 use odd_chain::{OddDocs, merge};
-use odd_choosing::select;
 use odd_classes::members;
 use odd_content::Content;
-use odd_decls::{ClassPart, Component, ElementPart, Library, OddDoc, OddRefusal};
 use odd_forms::TEI;
-use odd_modes::step;
+use odd_library::{ClassPart, Component, ElementPart, Library, OddDoc, OddRefusal};
+use odd_modes::{select, step};
+use odd_text::{Key, Keys, Kind, NoMemory, Offence, Text, Who, Words};
 use std::alloc::Global;
 
 // How many docs a case may have.

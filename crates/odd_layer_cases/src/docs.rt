@@ -1,10 +1,10 @@
-use odd_base::{Key, Kind, NoMemory, Text, Words};
 use odd_case_files::CaseFault;
 use odd_chain::OddDocs;
 use odd_content::{Content, Contents, Pick};
-use odd_decls::{Entries, Entry, Mode, OddDoc, Spec};
 use odd_forms::{TEI, sorted};
+use odd_library::{Entries, Entry, Mode, OddDoc, Spec};
 use odd_members::{ClassMarks, Membership};
+use odd_text::{Key, Kind, NoMemory, Text, Words};
 use rng_values::Bounds;
 use std::alloc::Global;
 

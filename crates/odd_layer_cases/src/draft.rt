@@ -1,8 +1,8 @@
 use crate::all_words::all_words;
 use crate::docs::read_docs;
 use crate::question::{Chain, Question};
-use odd_base::{Bytes, Words};
 use odd_case_files::{CaseFault, Head, Over, Part, said_answer, said_words, set_once};
+use odd_text::{Bytes, Words};
 use std::alloc::Global;
 
 // What is read of a case so far.

@@ -1,8 +1,8 @@
 use crate::postfix::{Making, add_pattern, read_pattern};
 use crate::spelled::Spelled;
-use odd_base::{NoMemory, Text, TryCopy, Words};
 use odd_case_files::CaseFault;
 use odd_patterns::{Alphabet, Pat, derive, nullable};
+use odd_text::{NoMemory, Text, TryCopy, Words};
 use std::alloc::Global;
 
 /// The lines, with what is told of the pattern that each begins with, and the asked words that it matches.

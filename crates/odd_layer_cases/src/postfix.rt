@@ -1,7 +1,7 @@
 use crate::spelled::Spelled;
-use odd_base::{NoMemory, Seq, Text};
 use odd_case_files::CaseFault;
 use odd_patterns::{Pat, choice, choice_of, group, group_of, more};
+use odd_text::{NoMemory, Seq, Text};
 use sqlite_items::Boxed;
 use std::alloc::Global;
 use std::mem;

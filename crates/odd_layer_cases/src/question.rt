@@ -1,6 +1,6 @@
-use odd_base::{Bytes, Words};
 use odd_case_files::Over;
 use odd_chain::OddDocs;
+use odd_text::{Bytes, Words};
 
 /// Docs in their order, and what must be answered of them.
 #[derive(Drop)]

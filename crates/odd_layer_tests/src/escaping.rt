@@ -1,8 +1,8 @@
 //! Texts that are escaped.
 
 use crate::making::text;
-use odd_base::Text;
 use odd_printing::{escape_text, escape_value};
+use odd_text::Text;
 use std::test::Fail;
 
 // Texts, with what is written of each as a text and as a value.

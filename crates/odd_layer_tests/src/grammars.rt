@@ -1,7 +1,7 @@
 //! The text of patterns that no library is compiled to yet: values and attributes.
 
 use crate::making::text;
-use odd_base::{Name, NoMemory, Text};
+use odd_text::{Name, NoMemory, Text};
 use rng_emit::print_rng;
 use rng_patterns::{
     AttrPart, AttrRule, Body, Define, Defines, Expr, Exprs, Grammar, NameClass, Rules,

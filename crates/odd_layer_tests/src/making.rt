@@ -2,8 +2,8 @@
 
 ghost use Rattle.std.specs.Prelude.{◌≡◌, IfOk, [], ◌∷◌, length};
 
-use odd_base::{Key, Kind, NoMemory, Text, Words};
-use odd_outside::Calls;
+use odd_base::Calls;
+use odd_text::{Key, Kind, NoMemory, Text, Words};
 use std::alloc::Global;
 
 /// The text. The only error is NoMemory, for want of memory.

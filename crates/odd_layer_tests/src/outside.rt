@@ -1,11 +1,11 @@
 //! Files and outputs in memory that fault at each call in turn.
 
 use crate::making::{calls, text};
-use odd_base::{Bytes, NoMemory};
-use odd_outside::{
+use odd_base::{
     Calls, File, Files, MemShelf, MemSink, Shelf, ShelfFault, Sink, SlurpRefusal, slurp,
     write_whole,
 };
+use odd_text::{Bytes, NoMemory};
 use std::alloc::Global;
 use std::test::Fail;
 

@@ -1,7 +1,7 @@
 //! Datatypes with facets, and lists of values.
 
 use crate::making::{many_words, text};
-use odd_base::TryCopy;
+use odd_text::TryCopy;
 use rng_values::{DataType, Facet, FacetName, Facets, Item, ListKind, ValList};
 use std::test::Fail;
 

@@ -1,7 +1,7 @@
 //! Texts, names, keys, lists and maps.
 
 use crate::making::{key, many_words, text};
-use odd_base::{Bytes, Kind, Map, Name, Text, TryCopy, Words, map};
+use odd_text::{Bytes, Kind, Map, Name, Text, TryCopy, Words, map};
 use std::cmp::Ordering;
 use std::test::Fail;
 

@@ -2,19 +2,19 @@
 use Rattle.std.proofs.Common.{◌≡◌, ℕ, List, [], ◌∷◌, Some, ◌⊎◌, inl, inr, refl, sym, ap, subst, ◌∙◌, codes}
 use Rattle.std.specs.FinMap.{find}
 use Rattle.std.proofs.lemmas.Option.{same_Some}
-use Rattle.odd_base.specs.Key.{key_cmp}
+use Rattle.odd_text.specs.Key.{key_cmp}
 use Rattle.odd_content.specs.declared.content.Content.TheVariants as content
-use Rattle.odd_decls.specs.Odd.{element_key}
-use Rattle.odd_decls.specs.declared.library.Component.TheVariants as component
-use Rattle.odd_decls.specs.declared.library.ElementPart.{ElementPart}
-use Rattle.odd_decls.specs.declared.library.Library.{Library}
+use Rattle.odd_library.specs.Odd.{element_key}
+use Rattle.odd_library.specs.declared.library.Component.TheVariants as component
+use Rattle.odd_library.specs.declared.library.ElementPart.{ElementPart}
+use Rattle.odd_library.specs.declared.library.Library.{Library}
 use Rattle.odd_forms.specs.Names.{tei, tei_namespace}
 use Rattle.odd_tree.proofs.InList.{first_or_later, nothing_stands}
 use Rattle.odd_tree.specs.Significant.{Marking, depth}
 use Rattle.odd_tree.specs.declared.tree.Tree.{Tree, out-Tree}
 use Rattle.odd_meaning.specs.Admission.{Admits, IsValidBy, IsValidWithin, name_in_documents}
 use Rattle.odd_meaning.specs.Labels.{Label}
-use Rattle.odd_tree.proofs.SameTexts.{apart}
+use Rattle.odd_tree.proofs.PrintedTrees.{apart}
 use Rattle.odd_meaning.proofs.ExampleTrees.{bare_depth, childless_depth, element, element_in, leaf, none_counts, words}
 use Rattle.odd_meaning.proofs.ValidityExamples.{holding, none_there, one_part, opened, part_in, text_with_words}
 

@@ -3,17 +3,16 @@ use Rattle.std.proofs.Common.{◌≡◌, ⊎_elim, ℕ, Bool, true, false, List,
 use Rattle.std.specs.Prelude.{IsTrue}
 use Rattle.std.proofs.lemmas.Bool.{false≢true}
 use Rattle.std.proofs.lemmas.List.Elements.{All-nil, All-cons, All-head}
-use Rattle.odd_base.specs.declared.name.Name.{Name}
+use Rattle.odd_text.specs.declared.name.Name.{Name}
 use Rattle.odd_content.specs.declared.content.Condition.{Condition}
-use Rattle.odd_tree.proofs.AmongChildren.{element_shown}
-use Rattle.odd_tree.proofs.InList.{nothing_stands, only_item, stands_first}
+use Rattle.odd_tree.proofs.InList.{element_shown, nothing_stands, only_item, stands_first}
 use Rattle.odd_tree.specs.Elements.{StandsIn, StandsWithin, children_of, inside, itself}
 use Rattle.odd_tree.specs.declared.tree.Attr.{Attr}
 use Rattle.odd_tree.specs.declared.tree.Node.{Element}
 use Rattle.odd_tree.specs.declared.tree.Tree.{Tree, out-Tree}
 use Rattle.odd_meaning.specs.Conditions.{IsMetBy, IsMetThroughout}
 use Rattle.odd_meaning.specs.Offers.{AreOffered, IsOffered, IsThere, Offer}
-use Rattle.odd_tree.proofs.SameTexts.{apart}
+use Rattle.odd_tree.proofs.PrintedTrees.{apart}
 use Rattle.odd_meaning.proofs.ExampleTrees.{attribute, element_in}
 
 -- names

@@ -8,7 +8,7 @@ use Rattle.odd_tree.specs.declared.tree.Node.{Node, Element as AnElement}
 use Rattle.odd_tree.specs.declared.tree.Tree.{Tree}
 use Rattle.rng_values.specs.declared.bounds.Bounds.{Bounds}
 use Rattle.odd_content.specs.declared.content.Content.{Content, Alternate, Element, Sequence}
-use Rattle.odd_decls.specs.declared.library.Library.{Library}
+use Rattle.odd_library.specs.declared.library.Library.{Library}
 use Rattle.odd_meaning.specs.Contents.{Admits, IsOfMacro, IsOne, IsWithin}
 use Rattle.odd_meaning.proofs.Rows.{OneOf, alternate_admits, sequence_admits}
 use Rattle.odd_meaning.specs.Labels.{Label, element}

@@ -6,7 +6,7 @@ use Rattle.odd_tree.specs.declared.tree.Node.{Node}
 use Rattle.rng_values.specs.declared.bounds.Bounds.{Bounds}
 use Rattle.odd_content.specs.declared.content.Content.{Content, Sequence, Alternate, Row_of-Content, end_of-Content, more_of-Content, items-the_row-Content, items_hidden-the_row-Content-0}
 use Rattle.odd_content.specs.declared.content.Content.TheBlock.{hidden-the_row-Content-0}
-use Rattle.odd_decls.specs.declared.library.Library.{Library}
+use Rattle.odd_library.specs.declared.library.Library.{Library}
 use Rattle.odd_meaning.specs.Contents.{AdmitsBy, ByOne, InOrder, IsWithin, Macros}
 use Rattle.odd_meaning.specs.Labels.{Label}
 

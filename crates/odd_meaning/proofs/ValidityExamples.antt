@@ -6,10 +6,10 @@ use Rattle.std.proofs.lemmas.List.Elements.{All-nil, All-head}
 use Rattle.std.proofs.lemmas.Option.{same_Some}
 use Rattle.odd_content.specs.declared.content.Content.{Content}
 use Rattle.odd_content.specs.declared.content.Content.TheVariants as content
-use Rattle.odd_decls.specs.Odd.{element_key}
-use Rattle.odd_decls.specs.declared.library.Component.TheVariants as component
-use Rattle.odd_decls.specs.declared.library.ElementPart.{ElementPart}
-use Rattle.odd_decls.specs.declared.library.Library.{Library}
+use Rattle.odd_library.specs.Odd.{element_key}
+use Rattle.odd_library.specs.declared.library.Component.TheVariants as component
+use Rattle.odd_library.specs.declared.library.ElementPart.{ElementPart}
+use Rattle.odd_library.specs.declared.library.Library.{Library}
 use Rattle.odd_forms.specs.Names.{tei_namespace}
 use Rattle.odd_tree.proofs.InList.{nothing_stands}
 use Rattle.odd_tree.specs.Significant.{IsSignificant, Marking, depth, is_element, whole}
@@ -19,9 +19,8 @@ use Rattle.odd_meaning.specs.Admission.{IsValid, IsValidBy, IsValidWithin, count
 use Rattle.odd_meaning.specs.Contents as contents
 use Rattle.odd_meaning.specs.Labels.{Label}
 use Rattle.odd_meaning.specs.Offers.{AreOffered, IsOffered}
-use Rattle.odd_tree.proofs.SameTexts.{apart}
-use Rattle.odd_meaning.proofs.ExampleTrees.{attribute, bare_depth, branch, branch_depth, childless_depth, element, element_in, leaf, leaf_alone_counts, leaf_element}
-use Rattle.odd_meaning.proofs.ExampleTrees.{none_counts, space, space_alone, space_counts, space_depth, space_is_passed, words, words_alone, words_count, words_depth}
+use Rattle.odd_tree.proofs.PrintedTrees.{apart}
+use Rattle.odd_meaning.proofs.ExampleTrees.{attribute, bare_depth, branch, branch_depth, childless_depth, element, element_in, leaf, leaf_alone_counts, leaf_element, none_counts, space, space_alone, space_counts, space_depth, space_is_passed, words, words_alone, words_count, words_depth}
 
 -- a namespace and a content, with no module and in no class
 abbrev pub part_in : List ℕ → Content → ElementPart

@@ -1,16 +1,16 @@
 -- Which documents a library admits. No pattern and no schema is spoken of.
 use Rattle.std.specs.Prelude.{◌≡◌, ℕ, zero, suc, List, [], Some}
 use Rattle.std.specs.FinMap.{find}
-use Rattle.odd_base.specs.Key.{key_cmp}
-use Rattle.odd_base.specs.declared.name.Name.{Name}
+use Rattle.odd_text.specs.Key.{key_cmp}
+use Rattle.odd_text.specs.declared.name.Name.{Name}
 use Rattle.odd_tree.specs.Elements.{StandsIn}
 use Rattle.odd_tree.specs.Significant.{IsSignificant, Marking, depth}
 use Rattle.odd_tree.specs.declared.tree.Node.{Node}
 use Rattle.odd_tree.specs.declared.tree.Tree.{Tree, out-Tree}
-use Rattle.odd_decls.specs.Odd.{element_key}
-use Rattle.odd_decls.specs.declared.library.Component.TheVariants as component
-use Rattle.odd_decls.specs.declared.library.ElementPart.{ElementPart}
-use Rattle.odd_decls.specs.declared.library.Library.{Library}
+use Rattle.odd_library.specs.Odd.{element_key}
+use Rattle.odd_library.specs.declared.library.Component.TheVariants as component
+use Rattle.odd_library.specs.declared.library.ElementPart.{ElementPart}
+use Rattle.odd_library.specs.declared.library.Library.{Library}
 use Rattle.odd_meaning.specs.Conditions.{IsMetThroughout}
 use Rattle.odd_meaning.specs.Contents as contents
 use Rattle.odd_meaning.specs.Labels.{Label, element, condition}

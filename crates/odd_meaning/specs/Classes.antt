@@ -1,19 +1,19 @@
 -- Who is a member of a class, and which macros a macro reaches (TEI Guidelines, the chapter Documentation Elements).
 use Rattle.std.specs.Prelude.{◌≡◌, ℕ, false, List, Option, Some, None, length, sum_by}
 use Rattle.std.specs.FinMap.{find}
-use Rattle.odd_base.specs.Key.{key_cmp}
-use Rattle.odd_base.specs.Text.{text_cmp}
-use Rattle.odd_base.specs.declared.key.Key.{Key}
-use Rattle.odd_base.specs.declared.key.Kind.{Kind}
-use Rattle.odd_base.specs.declared.key.Kind.TheVariants as kind
+use Rattle.odd_text.specs.Key.{key_cmp}
+use Rattle.odd_text.specs.Text.{text_cmp}
+use Rattle.odd_text.specs.declared.key.Key.{Key}
+use Rattle.odd_text.specs.declared.key.Kind.{Kind}
+use Rattle.odd_text.specs.declared.key.Kind.TheVariants as kind
 use Rattle.odd_graph.specs.Graph.{Chained}
 use Rattle.odd_forms.specs.Sorted.{IsSet}
-use Rattle.odd_decls.specs.Odd.{element_key}
-use Rattle.odd_decls.specs.declared.library.ClassPart.{ClassPart}
-use Rattle.odd_decls.specs.declared.library.Component.{Component}
-use Rattle.odd_decls.specs.declared.library.Component.TheVariants as component
-use Rattle.odd_decls.specs.declared.library.ElementPart.{ElementPart}
-use Rattle.odd_decls.specs.declared.library.Library.{Library}
+use Rattle.odd_library.specs.Odd.{element_key}
+use Rattle.odd_library.specs.declared.library.ClassPart.{ClassPart}
+use Rattle.odd_library.specs.declared.library.Component.{Component}
+use Rattle.odd_library.specs.declared.library.Component.TheVariants as component
+use Rattle.odd_library.specs.declared.library.ElementPart.{ElementPart}
+use Rattle.odd_library.specs.declared.library.Library.{Library}
 use Rattle.odd_meaning.specs.Links.{IsLinked, class_key, classes_of, macro_key, macros_of}
 
 -- an element or a class is a member of each held class among its memberships, and of each class of which such a class is a member

@@ -2,7 +2,7 @@
 use Rattle.std.specs.Prelude.{◌≡◌, ◌⊎◌, ◌≤◌, ℕ, zero, suc, false, List, [], ◌∷◌, length, Option, Some, None, IsTrue}
 use Rattle.std.specs.FinMap.{find}
 use Rattle.std.specs.List.{list_any}
-use Rattle.odd_base.specs.Key.{key_cmp}
+use Rattle.odd_text.specs.Key.{key_cmp}
 use Rattle.odd_tree.specs.Significant.{Marking, is_element}
 use Rattle.odd_tree.specs.Splits.{Counted, Then}
 use Rattle.odd_tree.specs.declared.tree.Node.{Node, Element as AnElement}
@@ -11,10 +11,10 @@ use Rattle.rng_values.specs.declared.bounds.Bounds.{Bounds}
 use Rattle.odd_content.specs.Picking.{is_picked}
 use Rattle.odd_content.specs.declared.content.Content.{Content, Empty, Text, Element, Class, Macro, Any, Sequence', Alternate', Row_of-Content, end_of-Content, more_of-Content}
 use Rattle.odd_content.specs.declared.content.Pick.{Pick}
-use Rattle.odd_decls.specs.Odd.{element_key}
-use Rattle.odd_decls.specs.declared.library.Component.TheVariants as component
-use Rattle.odd_decls.specs.declared.library.Library.{Library}
-use Rattle.odd_decls.specs.declared.library.OtherPart.{OtherPart}
+use Rattle.odd_library.specs.Odd.{element_key}
+use Rattle.odd_library.specs.declared.library.Component.TheVariants as component
+use Rattle.odd_library.specs.declared.library.Library.{Library}
+use Rattle.odd_library.specs.declared.library.OtherPart.{OtherPart}
 use Rattle.odd_meaning.specs.Classes.{IsMember}
 use Rattle.odd_meaning.specs.Labels.{Label, element, condition}
 use Rattle.odd_meaning.specs.Links.{macro_key}

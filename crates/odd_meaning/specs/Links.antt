@@ -1,16 +1,16 @@
 -- What components refer to: the classes that they are said to be members of, and what their contents name.
 use Rattle.std.specs.Prelude.{◌≡◌, ℕ, List, [], ◌∷◌, ◌++◌, filter, map, Bool, true, false, Some, IsSome}
 use Rattle.std.specs.FinMap.{find}
-use Rattle.odd_base.specs.Key.{key_cmp}
-use Rattle.odd_base.specs.declared.key.Key.{Key}
-use Rattle.odd_base.specs.declared.key.Kind.{Kind}
-use Rattle.odd_base.specs.declared.key.Kind.TheVariants as kind
+use Rattle.odd_text.specs.Key.{key_cmp}
+use Rattle.odd_text.specs.declared.key.Key.{Key}
+use Rattle.odd_text.specs.declared.key.Kind.{Kind}
+use Rattle.odd_text.specs.declared.key.Kind.TheVariants as kind
 use Rattle.odd_tree.specs.Elements.{StandsIn}
 use Rattle.odd_content.specs.declared.content.Content.{Content, Empty, Text, Element, Class, Macro, Any, Sequence', Alternate', Row_of-Content, end_of-Content, more_of-Content}
-use Rattle.odd_decls.specs.Odd.{element_key}
-use Rattle.odd_decls.specs.declared.library.Component.{Component}
-use Rattle.odd_decls.specs.declared.library.Component.TheVariants as component
-use Rattle.odd_decls.specs.declared.library.Library.{Library}
+use Rattle.odd_library.specs.Odd.{element_key}
+use Rattle.odd_library.specs.declared.library.Component.{Component}
+use Rattle.odd_library.specs.declared.library.Component.TheVariants as component
+use Rattle.odd_library.specs.declared.library.Library.{Library}
 
 abbrev pub class_key : List ℕ → Key
 class_key ident = record { kind = kind.Class; ident = ident }

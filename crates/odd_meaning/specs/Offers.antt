@@ -1,6 +1,6 @@
 -- The attributes that an element offers.
 use Rattle.std.specs.Prelude.{◌≡◌, Bool, List, All, IsTrue}
-use Rattle.odd_base.specs.declared.name.Name.{Name}
+use Rattle.odd_text.specs.declared.name.Name.{Name}
 use Rattle.odd_tree.specs.Elements.{StandsIn}
 use Rattle.odd_tree.specs.declared.tree.Attr.{Attr}
 

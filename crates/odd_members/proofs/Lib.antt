@@ -1,9 +1,3 @@
-mod AddedWords
-mod ClassesFaults
-mod Examples
-mod MarksCopied
-mod MarksPut
-pub mod MemberFaults
-mod MembersRead
+mod Marks
+pub mod MembersRead
 pub mod OneMembership
-mod WordsKept

@@ -3,10 +3,10 @@ use Rattle.std.proofs.Common.{◌≡◌, ℕ, Bool, List, Option, Some, None, re
 use Rattle.std.proofs.lemmas.Bool.{false≢true}
 use Rattle.std.proofs.lemmas.Cmp.{nat_list_cmp_total}
 use Rattle.std.specs.FinMap.{find, nat_cmp-IsAntisymmetric, slice_cmp-IsAntisymmetric}
-use Rattle.odd_base.proofs.Entries.{same_map}
-use Rattle.odd_base.specs.Text.{text_cmp}
+use Rattle.odd_text.proofs.Entries.{same_map}
+use Rattle.odd_text.specs.Text.{text_cmp}
 use Rattle.odd_tree.specs.declared.tree.Tree.{Tree}
-use Rattle.odd_forms.proofs.OneSet.{one_set}
+use Rattle.odd_forms.proofs.SetOf.{one_set}
 use Rattle.odd_members.specs.Members.{HasMarks, IsMembershipOf}
 use Rattle.odd_members.specs.declared.membership.Membership.{Membership}
 use Rattle.odd_members.specs.declared.membership.Membership.TheVariants as membership

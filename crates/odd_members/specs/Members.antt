@@ -1,7 +1,7 @@
 -- The memberships that a `classes` gives by its `memberOf`, and what these break.
 use Rattle.std.specs.Prelude.{◌≡◌, ◌↔◌, ℕ, Bool, true, false, not, List, Some, codes, unwrap_or, IsTrue}
 use Rattle.std.specs.FinMap.{find, is_sorted}
-use Rattle.odd_base.specs.Text.{text_cmp}
+use Rattle.odd_text.specs.Text.{text_cmp}
 use Rattle.odd_tokens.specs.Characters.{IsNCName}
 use Rattle.odd_tokens.specs.Same.{is_same}
 use Rattle.odd_tree.specs.Elements.{StandsIn, children_of, given}

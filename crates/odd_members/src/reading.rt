@@ -1,5 +1,6 @@
-ghost use Rattle.std.specs.Prelude.{◌≡◌, None, IfOk};
-ghost use Rattle.odd_base.specs.Text.{text_cmp};
+ghost use Rattle.std.specs.Prelude.{◌≡◌, None, IfOk, IsTrue};
+ghost use Rattle.std.specs.FinMap.{is_sorted};
+ghost use Rattle.odd_text.specs.Text.{text_cmp};
 ghost use Rattle.odd_forms.specs.Children.{ChildOfFault, GivesOne};
 ghost use Rattle.odd_forms.specs.Least.{Among, IsLeast};
 ghost use Rattle.odd_forms.specs.Sorted.{IsSet};
@@ -8,10 +9,11 @@ ghost use Rattle.odd_tree.specs.Elements.{children_of};
 ghost use Rattle.odd_members.specs.Members.{ClassesFault, HasMarks, IsAddedBy, IsMembershipOf, MembersFault, adds as the_adds, is_change as the_is_change};
 
 use crate::membership::{ClassMarks, Membership};
-use odd_base::{NoMemory, TryCopy, Words};
 use odd_forms::{Element, TWICE, fault_where, form_fault, is_child, lesser};
+use odd_text::{NoMemory, Text, TryCopy, Words};
 use odd_tree::{Tree, attribute, elements, is_ncname};
 use std::alloc::Global;
+use std::collections::BTreeMap;
 
 /// What the `classes` of a declaration give, where they break no rule, and the least rule that they break.
 #[derive(Drop)]
@@ -52,20 +54,33 @@ fn read_members(alloc: Global, classes: &Tree) -> Result<ReadMembers, NoMemory>
     ensures fault { IfOk result (λ read. IsLeast (MembersFault (children_of classes.now)) read.fault) }
     ensures marks { IfOk result (λ read. read.fault ≡ None → HasMarks (children_of classes.now) read.marks) }
 {
-    let mut marks = ClassMarks::new(alloc);
+    let mut named = BTreeMap::new(alloc);
     let mut fault = None;
     for child in elements(classes) {
         if is_child(Element::Classes, Element::MemberOf, child) {
             fault = lesser(fault, form_fault(alloc, Element::MemberOf.form(), child)?);
             if let Some(key) = attribute(&child.attrs, "key") {
                 if is_ncname(key) {
-                    fault = lesser(fault, fault_where(marks.find(key).is_some(), TWICE));
-                    marks.put(key.copy(alloc)?, adds(child))?;
+                    let earlier = named.insert(key.copy(alloc)?, adds(child))?;
+                    fault = lesser(fault, fault_where(earlier.is_some(), TWICE));
                 }
             }
         }
     }
+    let marks = marks_of(alloc, named)?;
     Ok(ReadMembers { marks, fault })
+}
+
+// The named classes as marks. They are put in rising order, each behind those before it.
+fn marks_of(alloc: Global, named: BTreeMap<Text, bool>) -> Result<ClassMarks, NoMemory>
+    requires { IsTrue (is_sorted text_cmp named.entries) }
+    ensures { IfOk result (λ marks. marks ≡ named.entries) }
+{
+    let mut marks = ClassMarks::new(alloc);
+    for (word, is_added) in named {
+        marks.put(word, is_added)?;
+    }
+    Ok(marks)
 }
 
 // What a `classes` gives that names these classes.

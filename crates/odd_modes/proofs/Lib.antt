@@ -1,6 +1,4 @@
-pub mod AfterOne
-pub mod Fronts
-pub mod Held
-pub mod HeldExamples
-pub mod OneLibrary
+pub mod HeldEntries
+pub mod ItemFaults
 pub mod SpecAt
+pub mod TextSets

@@ -1,26 +1,74 @@
--- A file's declaration for a key, item by item.
-use Rattle.std.proofs.Common.{◌≡◌, ◌↔◌, ◌⊎◌, ℕ, ◌+◌, ◌<◌, Bool, true, false, cond, if◌then◌else◌, List, [], ◌∷◌, ◌++◌, length, get_or, take, Option, Some, None, inl, inr, ⊎_elim, refl, sym, ap, subst, ◌∙◌}
-use Rattle.std.specs.Prelude.{IsSome}
-use Rattle.std.specs.Borrow.{Bor}
-use Rattle.std.specs.Ordering.{eq_by_cmp}
-use Rattle.std.specs.Option.{option_copied, option_or}
-use Rattle.std.proofs.lemmas.Cmp.{eq_by_cmp_equiv}
-use Rattle.odd_base.specs.Key.{key_cmp}
-use Rattle.odd_base.specs.KeyOrder.{key_exact, key_total}
-use Rattle.odd_base.specs.declared.key.Key.{Key}
-use Rattle.odd_tree.specs.Elements.{StandsIn}
-use Rattle.odd_tree.proofs.InList.{ends, stands_first, stands_later}
-use Rattle.odd_decls.specs.declared.odd.Entry.{Entry}
-use Rattle.odd_decls.specs.declared.odd.Entry.TheVariants as entry
-use Rattle.odd_decls.specs.declared.spec.Spec.{Spec}
-use Rattle.odd_choosing.specs.After.{spec_at, spec_in}
-use Rattle.odd_choosing.specs.Index.{IsKeyOfSpec}
-use Rattle.odd_modes.specs.Fronts.{fronted, fronted_cmp}
-use Rattle.odd_modes.specs.declared.fronted.FrontedKey.{FrontedKey}
-use Rattle.odd_modes.proofs.Fronts.{fronted_ties}
-use Rattle.odd_choosing.proofs.HeldEntries.{put_key}
+-- A file's declaration for a key, item by item, and what is held after files.
+use Rattle.std.proofs.Common.{◌≡◌, ◌↔◌, false, List, map, refl, sym, ap, subst, ◌∙◌, ◌⊎◌, ℕ, ◌+◌, ◌<◌, Bool, true, cond, if◌then◌else◌, [], ◌∷◌, ◌++◌, length, get_or, take, Option, Some, None, inl, inr, ⊎_elim}
+use Rattle.std.proofs.lemmas.Cmp.{nat_cmp_total, eq_by_cmp_equiv}
+use Rattle.std.proofs.lemmas.List.Elements.{All-head, All-tail}
+use Rattle.std.proofs.lemmas.List.Sorted.{All-permutation, IsPermutation-reverse}
 use Rattle.std.proofs.lemmas.Map.Views.{tells_apart}
-use Rattle.odd_decls.proofs.SameKey.{key_itself}
+use Rattle.std.specs.Borrow.{Bor}
+use Rattle.std.specs.Cmp.{tied_itself}
+use Rattle.std.specs.FinMap.{find}
+use Rattle.std.specs.Option.{option_copied, option_or, IfSome}
+use Rattle.std.specs.Ordering.{eq_by_cmp, is_eq, nat_cmp, ordering_then}
+use Rattle.std.specs.Prelude.{IsSome, All, reverse}
+use Rattle.std.specs.declared.cmp.Ordering.{Ordering}
+use Rattle.std.specs.declared.cmp.Ordering.TheVariants.{Less, Equal, Greater}
+use Rattle.odd_forms.specs.Sorted.{IsSet}
+use Rattle.odd_library.proofs.OffenceOrder.{key_itself}
+use Rattle.odd_library.specs.Library.{component_of}
+use Rattle.odd_library.specs.declared.library.Component.{Component}
+use Rattle.odd_library.specs.declared.library.Library.{Library}
+use Rattle.odd_library.specs.declared.odd.Entry.{Entry}
+use Rattle.odd_library.specs.declared.odd.Entry.TheVariants as entry
+use Rattle.odd_library.specs.declared.odd.OddDoc.{OddDoc}
+use Rattle.odd_library.specs.declared.spec.Mode.{Mode}
+use Rattle.odd_library.specs.declared.spec.Mode.TheVariants as mode
+use Rattle.odd_library.specs.declared.spec.Spec.{Spec}
+use Rattle.odd_text.specs.Key.{key_cmp, kind_rank}
+use Rattle.odd_text.specs.KeyOrder.{key_exact, key_total}
+use Rattle.odd_text.specs.declared.key.Key.{Key}
+use Rattle.odd_tree.proofs.InList.{map_stands, stands_map, ends, stands_first, stands_later}
+use Rattle.odd_tree.specs.Elements.{StandsIn}
+use Rattle.odd_modes.proofs.HeldEntries.{put_key}
+use Rattle.odd_modes.specs.After.{spec_at, spec_in, IsLibraryAfter, after_one, declared, held_after, held_by, kept, laid_over}
+use Rattle.odd_modes.specs.Choosing.{is_referred}
+use Rattle.odd_modes.specs.Fronts.{front_of, fronted, fronted_cmp, unfronted}
+use Rattle.odd_modes.specs.Index.{IsKeyOfSpec}
+use Rattle.odd_modes.specs.declared.fronted.FrontedKey.{FrontedKey}
+
+-- what comes after decides no tie that is not there
+no_tie : (r s : Ordering) → is_eq s ≡ false → is_eq (ordering_then r s) ≡ false
+no_tie Less s h = refl
+no_tie Equal s h = h
+no_tie Greater s h = refl
+
+-- the order of two keys after the ranks of their kinds and their fronts, where this is their own
+abbrev after_fronts : Key → Key → Ordering → Ordering
+after_fronts a b o = ordering_then (nat_cmp (kind_rank a.kind) (kind_rank b.kind)) (ordering_then (nat_cmp (front_of a.ident) (front_of b.ident)) o)
+
+untied : (a b : Key) (o : Ordering) → is_eq o ≡ false → is_eq (after_fronts a b o) ≡ false
+untied a b o h = no_tie (nat_cmp (kind_rank a.kind) (kind_rank b.kind)) _ (no_tie (nat_cmp (front_of a.ident) (front_of b.ident)) o h)
+
+pub fronted_ties : (a b : Key) → eq_by_cmp fronted_cmp (fronted a) (fronted b) ≡ eq_by_cmp key_cmp a b
+fronted_ties a b = by_order (key_cmp a b) refl
+  where
+    by_order : (o : Ordering) → key_cmp a b ≡ o → is_eq (after_fronts a b o) ≡ is_eq o
+    by_order Less e = untied a b Less refl
+    by_order Equal e =
+        let same : a ≡ b = key_exact a b e in
+        let ranks : nat_cmp (kind_rank a.kind) (kind_rank b.kind) ≡ Equal = ap (λ (k : Key). nat_cmp (kind_rank a.kind) (kind_rank k.kind)) (sym same) ∙ tied_itself nat_cmp_total (kind_rank a.kind) in
+        let fronts : nat_cmp (front_of a.ident) (front_of b.ident) ≡ Equal = ap (λ (k : Key). nat_cmp (front_of a.ident) (front_of k.ident)) (sym same) ∙ tied_itself nat_cmp_total (front_of a.ident) in
+        λ i. is_eq (ordering_then (ranks i) (ordering_then (fronts i) Equal))
+    by_order Greater e = untied a b Greater refl
+
+-- the keys of the set of the rows are the keys
+pub in_order_stands : (keys made : List Key) (rows : List FrontedKey) → IsSet fronted_cmp (StandsIn (map fronted keys)) rows → made ≡ map unfronted rows → (key : Key) → StandsIn made key ↔ StandsIn keys key
+in_order_stands keys made rows set is key = (
+  λ s.
+      let row = stands_map unfronted rows key (subst (λ ks. StandsIn ks key) is s) in
+      let from = stands_map fronted keys row.0 (set.none_else row.0 row.1) in
+      subst (StandsIn keys) (sym (row.2 ∙ ap unfronted from.2)) from.1,
+  λ s. subst (λ ks. StandsIn ks key) (sym is) (map_stands unfronted rows (fronted key) (set.each (fronted key) (map_stands fronted keys key s))),
+)
 
 last_alone : (o : Option Spec) → o ≡ option_or o None
 last_alone None = refl
@@ -126,3 +174,50 @@ spec_stands (x ∷ items) key spec e = by_rest (spec_at items key) e (spec_stand
     by_rest : (later : Option Spec) → option_or later (spec_in x key) ≡ Some spec → (later ≡ Some spec → Declares items key spec) → Declares (x ∷ items) key spec
     by_rest None h rest = declares_first x items key spec h
     by_rest (Some one) h rest = let s = rest h in (s.0, stands_later x (entry.Spec s.0 spec) items s.1, s.2)
+
+-- it holds of each spec of the file
+abbrev pub EachSpec : (Spec → Type 0) → OddDoc → Type 0
+EachSpec P doc = (at : ℕ) (spec : Spec) → StandsIn doc.entries (entry.Spec at spec) → P spec
+
+module _ (P : Spec → Type 0) (Q : Key → Component → Type 0) (made : (spec : Spec) → P spec → Q spec.key (component_of spec))
+    (over : (key : Key) (part : Component) (spec : Spec) → P spec → Q key part → Q key (laid_over part spec)) where
+  -- where a spec is over it
+  declared_holds : (m : Mode) (spec : Spec) (key : Key) (held : Option Component) → P spec → Q key (component_of spec) → IfSome held (Q key) → IfSome (declared m spec held) (Q key)
+  declared_holds mode.Add spec key held p alone h = alone
+  declared_holds mode.Replace spec key held p alone h = alone
+  declared_holds mode.Delete spec key held p alone h = tt
+  declared_holds mode.Change spec key None p alone h = tt
+  declared_holds mode.Change spec key (Some part) p alone h = over key part spec p h
+
+  -- where it is kept
+  kept_holds : (entries : List Entry) (key : Key) (held : Option Component) → IfSome held (Q key) → IfSome (kept entries key held) (Q key)
+  kept_holds entries key None h = tt
+  kept_holds entries key (Some part) h = by (is_referred entries key part)
+    where
+      by : (b : Bool) → IfSome (if b then Some part else None) (Q key)
+      by true = h
+      by false = tt
+
+  -- after a file more
+  one_holds : (doc : OddDoc) (key : Key) (held : Option Component) → EachSpec P doc → IfSome held (Q key) → IfSome (after_one doc key held) (Q key)
+  one_holds doc key held each h = by (spec_at doc.entries key) refl
+    where
+      by : (o : Option Spec) → spec_at doc.entries key ≡ o → IfSome (held_by o doc.entries key held) (Q key)
+      by None e = kept_holds doc.entries key held h
+      by (Some spec) e =
+          let s = spec_stands doc.entries key spec e in
+          let p = each s.0 spec s.1 in
+          declared_holds spec.mode spec key held p (subst (λ k. Q k (component_of spec)) s.2 (made spec p)) h
+
+  -- after all files
+  all_hold : (docs : List OddDoc) (key : Key) → All (EachSpec P) docs → IfSome (held_after docs key) (Q key)
+  all_hold [] key each = tt
+  all_hold (last ∷ earlier) key each =
+      one_holds last key (held_after earlier key) (All-head (EachSpec P) last earlier each) (all_hold earlier key (All-tail (EachSpec P) last earlier each))
+
+  -- and so in the library after them
+  pub held_from : (docs : List OddDoc) (library : Library) → IsLibraryAfter docs library → All (EachSpec P) docs
+      → (key : Key) (part : Component) → find key_cmp key library.parts ≡ Some part → Q key part
+  held_from docs library l each key part e =
+      subst (λ o. IfSome o (Q key)) (sym (l.holds key) ∙ e)
+      (all_hold (reverse docs) key (All-permutation (EachSpec P) docs (reverse docs) (IsPermutation-reverse docs) each))

@@ -5,9 +5,9 @@ use Rattle.std.specs.Int.{w64, from_be_bytes}
 use Rattle.std.specs.Ordering.{nat_cmp, ordering_then}
 use Rattle.std.specs.declared.cmp.Ordering.{Ordering}
 use Rattle.std.specs.declared.cmp.Ordering.TheVariants.{Equal}
-use Rattle.odd_base.specs.Key.{key_cmp, kind_rank}
-use Rattle.odd_base.specs.KeyOrder.{both_equal, key_exact}
-use Rattle.odd_base.specs.declared.key.Key.{Key}
+use Rattle.odd_text.specs.Key.{key_cmp, kind_rank}
+use Rattle.odd_text.specs.KeyOrder.{both_equal, key_exact}
+use Rattle.odd_text.specs.declared.key.Key.{Key}
 use Rattle.odd_modes.specs.declared.fronted.FrontedKey.{FrontedKey}
 
 -- the first eight bytes of a text as a number, the first of them the highest, and zeros after a shorter text

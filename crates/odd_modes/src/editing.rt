@@ -1,10 +1,10 @@
 ghost use Rattle.std.specs.Prelude.{◌≡◌, IfOk, unwrap_or};
-ghost use Rattle.odd_choosing.specs.After.{class_laid_over, element_laid_over, laid_over, other_laid_over};
+ghost use Rattle.odd_modes.specs.After.{class_laid_over, element_laid_over, laid_over, other_laid_over};
 
-use odd_base::{NoMemory, TryCopy};
 use odd_content::Content;
-use odd_decls::{ClassPart, Component, ElementPart, OtherPart, Spec};
+use odd_library::{ClassPart, Component, ElementPart, OtherPart, Spec};
 use odd_members::classes_over;
+use odd_text::{NoMemory, TryCopy};
 use std::alloc::Global;
 
 /// A component with a declaration that changes it laid over it: its module stays, as does the type of a class, and what

@@ -1,10 +1,10 @@
 ghost use Rattle.std.specs.Prelude.{◌≡◌, ◌↔◌, IfOk, map};
-ghost use Rattle.odd_base.specs.declared.key.Key.{Key as AKey};
+ghost use Rattle.odd_text.specs.declared.key.Key.{Key as AKey};
 ghost use Rattle.odd_tree.specs.Elements.{StandsIn};
 ghost use Rattle.odd_modes.specs.Fronts.{front_of, fronted, unfronted};
 
-use odd_base::{ExactOrd, Key, Keys, NoMemory, Seq, TryCopy};
 use odd_forms::sorted;
+use odd_text::{ExactOrd, Key, Keys, NoMemory, Seq, TryCopy};
 use std::alloc::Global;
 
 /// A key after the rank of its kind and the front of its ident, by which most comparisons are decided with no look at the texts.

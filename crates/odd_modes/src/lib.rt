@@ -1,10 +1,16 @@
-//! What one file of a chain does to the library before it: what it adds, deletes, changes and replaces.
+//! What one file of a chain does to the library before it: which components it chooses, and what it adds, deletes, changes and
+//! replaces.
 #![tactic(auto)]
 
 mod editing;
+mod faults;
 mod fronted;
+mod named;
+mod references;
+mod selecting;
 mod specs_by_key;
 mod stepping;
 
 pub use editing::edit;
+pub use selecting::select;
 pub use stepping::step;

@@ -1,13 +1,13 @@
 ghost use Rattle.std.specs.Prelude.{◌≡◌, IfOk};
 ghost use Rattle.std.specs.BTreeMap.{get};
 ghost use Rattle.std.specs.Option.{option_copied};
-ghost use Rattle.odd_base.specs.declared.key.Key.{Key as AKey};
-ghost use Rattle.odd_choosing.specs.After.{spec_at};
+ghost use Rattle.odd_text.specs.declared.key.Key.{Key as AKey};
+ghost use Rattle.odd_modes.specs.After.{spec_at};
 ghost use Rattle.odd_modes.specs.Fronts.{fronted, fronted_cmp};
 
 use crate::fronted::FrontedKey;
-use odd_base::NoMemory;
-use odd_decls::{Entry, Spec};
+use odd_library::{Entry, Spec};
+use odd_text::NoMemory;
 use std::alloc::Global;
 use std::collections::BTreeMap;
 

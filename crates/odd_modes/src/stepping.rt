@@ -1,21 +1,23 @@
 ghost use Rattle.std.specs.Prelude.{◌≡◌, ◌≢◌, ◌↔◌, ◌⊎◌, ℕ, List, [], ◌∷◌, ◌++◌, Err, Some, IfOk, IsOk, OnOk, IsTrue};
 ghost use Rattle.std.specs.FinMap.{find, is_sorted};
 ghost use Rattle.std.specs.Option.{option_copied};
-ghost use Rattle.odd_base.specs.Key.{key_cmp};
-ghost use Rattle.odd_base.specs.declared.key.Key.{Key as AKey};
-ghost use Rattle.odd_base.specs.declared.offence.Offence.{Offence as AnOffence};
+ghost use Rattle.odd_text.specs.Key.{key_cmp};
+ghost use Rattle.odd_text.specs.declared.key.Key.{Key as AKey};
+ghost use Rattle.odd_text.specs.declared.offence.Offence.{Offence as AnOffence};
 ghost use Rattle.odd_tree.specs.Elements.{StandsIn};
-ghost use Rattle.odd_decls.specs.declared.odd.OddDoc.{OddDoc as ADoc};
-ghost use Rattle.odd_choosing.specs.After.{IsLibraryAfter, after_one, declared as the_declared};
-ghost use Rattle.odd_choosing.specs.Index.{AreReferencesOf, IsKeyOfSpec, over};
-ghost use Rattle.odd_choosing.specs.Offences.{IsFirstOffence, Offends};
+ghost use Rattle.odd_library.specs.declared.odd.OddDoc.{OddDoc as ADoc};
+ghost use Rattle.odd_modes.specs.After.{IsLibraryAfter, after_one, declared as the_declared};
+ghost use Rattle.odd_modes.specs.Index.{AreReferencesOf, IsKeyOfSpec, over};
+ghost use Rattle.odd_modes.specs.Offences.{IsFirstOffence, Offends};
 
 use crate::editing::edit;
+use crate::faults::first_fault;
 use crate::fronted::{FrontedKey, in_order};
+use crate::references::References;
+use crate::selecting::chosen_keys;
 use crate::specs_by_key::specs_by_key;
-use odd_base::{Keys, NoMemory, TryCopy};
-use odd_choosing::{References, chosen_keys, first_fault};
-use odd_decls::{Component, Entry, Library, Mode, OddDoc, OddRefusal, Parts, Spec};
+use odd_library::{Component, Entry, Library, Mode, OddDoc, OddRefusal, Parts, Spec};
+use odd_text::{Keys, NoMemory, TryCopy};
 use std::alloc::Global;
 
 /// The library after a file, which is number `file` of its chain, counted from 1, over the library after the files before

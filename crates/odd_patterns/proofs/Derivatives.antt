@@ -1,8 +1,13 @@
--- What is left of words in pieces after their first symbol.
-use Rattle.std.proofs.Common.{◌≡◌, ◌↔◌, ◌⊎◌, List, [], ◌∷◌, ◌++◌, refl, sym, ap, subst, inl, inr}
+-- What is left of a pattern after a symbol, and whether the empty word is matched.
+use Rattle.std.proofs.Common.{◌≡◌, ◌↔◌, ◌⊎◌, List, [], ◌∷◌, ◌++◌, refl, sym, ap, subst, inl, inr, Bool, true, false, IsTrue}
 use Rattle.std.specs.List.{AllByRecursion}
+use denote.Hole.Carrier.{hidden}
+use Rattle.odd_patterns.proofs.Pieces.{Same, IsEmpty, same_then, both_empty, one_empty}
 use Rattle.odd_patterns.specs.Pieces.{joined, Then, Repeated}
-use Rattle.odd_patterns.proofs.Pieces.{Same, IsEmpty, same_then}
+use Rattle.odd_patterns.specs.Words.{IsLeft, Matches, SameWords}
+use Rattle.odd_patterns.specs.declared.pattern.Pat.{Pat}
+use Rattle.odd_patterns.specs.declared.pattern.Pat.TheBlock.{hidden-the_row-Pat-0}
+use Rattle.odd_patterns.specs.declared.pattern.Pat.TheVariants.{Empty, Choice, Group, More}
 
 module _ {S : Type 0} where
   -- D holds of the words that P holds of after s
@@ -89,3 +94,82 @@ module _ {S : Type 0} where
         λ m. (two w).1 (elim m [ inl x ↦ inl x | inr y ↦ inr ((one w).1 y) ]),
       )) v in
       (λ m. k.0 ((three v).0 m), λ m. (three v).1 (k.1 m)))
+
+module _ {A L S : Type 0} (takes : L → S → Bool) (s : S) where
+  -- of a choice
+  pub choice_left : (w p q d e made : Pat A L S) → w ≡ Choice p q → IsLeft takes p s d → IsLeft takes q s e → SameWords made (Choice d e) → IsLeft takes w s made
+  unfolding hidden-the_row-Pat-0 hidden
+  choice_left w p q d e made is h k one = subst (λ y. IsLeft takes y s made) (sym is) (λ v. (
+    λ m. elim ((one takes v).0 m) [ inl x ↦ inl ((h v).0 x) | inr y ↦ inr ((k v).0 y) ],
+    λ m. (one takes v).1 (elim m [ inl x ↦ inl ((h v).1 x) | inr y ↦ inr ((k v).1 y) ]),
+  ))
+
+  -- of a group whose first part matches no empty word
+  pub group_left : (w p q d rest made : Pat A L S) → w ≡ Group p q → IsLeft takes p s d → rest ≡ q → (Matches takes p [] → ⊥) → SameWords made (Group d rest) → IsLeft takes w s made
+  unfolding hidden-the_row-Pat-0 hidden
+  group_left w p q d rest made is h same n one =
+      let two = subst (λ y. SameWords made (Group d y)) same one in
+      subst (λ y. IsLeft takes y s made) (sym is) (group_stops (Matches takes p) (Matches takes q) (Matches takes d) (Matches takes made) s h n (two takes))
+
+  -- of one whose first part does
+  pub group_left_by_both : (w p q d rest b e made : Pat A L S) → w ≡ Group p q → IsLeft takes p s d → rest ≡ q → Matches takes p [] → SameWords b (Group d rest)
+      → IsLeft takes q s e → SameWords made (Choice b e) → IsLeft takes w s made
+  unfolding hidden-the_row-Pat-0 hidden
+  group_left_by_both w p q d rest b e made is h same n one k last =
+      let two = subst (λ y. SameWords b (Group d y)) same one in
+      subst (λ y. IsLeft takes y s made) (sym is)
+      (group_passes (Matches takes p) (Matches takes q) (Matches takes d) (Matches takes e) (Matches takes b) (Matches takes made) s h k n (two takes) (last takes))
+
+  -- of a repetition
+  pub more_left : (w p d part again rest made : Pat A L S) → w ≡ More p → IsLeft takes p s d → part ≡ p → SameWords again (More part) → SameWords rest (Choice Empty again)
+      → SameWords made (Group d rest) → IsLeft takes w s made
+  unfolding hidden-the_row-Pat-0 hidden
+  more_left w p d part again rest made is h same one two three =
+      let repeated = subst (λ y. SameWords again (More y)) same one in
+      subst (λ y. IsLeft takes y s made) (sym is)
+      (more_goes (Matches takes p) (Matches takes d) (Matches takes again) (Matches takes rest) (Matches takes made) s h (repeated takes) (two takes) (three takes))
+
+module _ {A L S : Type 0} (takes : L → S → Bool) where
+  -- the test tells whether the empty word is matched
+  abbrev pub Tells : Bool → Pat A L S → Type 0
+  Tells b w = IsTrue b ↔ Matches takes w []
+
+  -- a choice whose left side matches it
+  pub choice_then : (w p q left : Pat A L S) (first : Bool) → w ≡ Choice p q → left ≡ p → first ≡ true → Tells first left → Tells first w
+  unfolding hidden-the_row-Pat-0 hidden
+  choice_then w p q left first is l holds b =
+      let known = subst (Tells first) l b in
+      subst (Tells first) (sym is) (λ t. inl (known.0 t), λ m. holds)
+
+  -- one whose left side doesn't
+  pub choice_else : (w p q left right : Pat A L S) (first second : Bool) → w ≡ Choice p q → left ≡ p → right ≡ q → first ≡ false → Tells first left → Tells second right → Tells second w
+  unfolding hidden-the_row-Pat-0 hidden
+  choice_else w p q left right first second is l r fails a b =
+      let known = subst (Tells first) l a in
+      let last = subst (Tells second) r b in
+      subst (Tells second) (sym is) (λ t. inr (last.0 t), λ m. elim m [ inl x ↦ let holds = known.1 x in cc | inr y ↦ last.1 y ])
+
+  -- a group whose first part matches it
+  pub group_then : (w p q left right : Pat A L S) (first second : Bool) → w ≡ Group p q → left ≡ p → right ≡ q → first ≡ true → Tells first left → Tells second right → Tells second w
+  unfolding hidden-the_row-Pat-0 hidden
+  group_then w p q left right first second is l r holds a b =
+      let both = both_empty (Matches takes p) (Matches takes q) in
+      let known = subst (Tells first) l a in
+      let last = subst (Tells second) r b in
+      subst (Tells second) (sym is) (λ t. both.1 (known.0 holds, last.0 t), λ m. last.1 (both.0 m).1)
+
+  -- one whose first part doesn't
+  pub group_else : (w p q left : Pat A L S) (first : Bool) → w ≡ Group p q → left ≡ p → first ≡ false → Tells first left → Tells first w
+  unfolding hidden-the_row-Pat-0 hidden
+  group_else w p q left first is l fails b =
+      let both = both_empty (Matches takes p) (Matches takes q) in
+      let known = subst (Tells first) l b in
+      subst (Tells first) (sym is) (λ t. cc, λ m. known.1 (both.0 m).0)
+
+  -- a repetition
+  pub more_part : (w p part : Pat A L S) (b : Bool) → w ≡ More p → part ≡ p → Tells b part → Tells b w
+  unfolding hidden-the_row-Pat-0 hidden
+  more_part w p part b is l known =
+      let one = one_empty (Matches takes p) in
+      let h = subst (Tells b) l known in
+      subst (Tells b) (sym is) (λ t. one.1 (h.0 t), λ m. h.1 (one.0 m))

@@ -2,7 +2,7 @@ ghost use Rattle.std.specs.Prelude.{◌≡◌, refl};
 ghost use Rattle.odd_patterns.specs.Children.{admits_child, label_exact, unequal};
 
 use crate::alphabet::Alphabet;
-use odd_base::Seq;
+use odd_text::Seq;
 
 /// For each label, by its number from 0, whether it is on.
 pub type Marks = Seq<bool>;

@@ -4,7 +4,7 @@ ghost use Rattle.odd_patterns.specs.Words.{IsLeft};
 use crate::alphabet::Alphabet;
 use crate::making::{choice, group, more};
 use crate::pattern::{Pat, nullable};
-use odd_base::{NoMemory, TryCopy};
+use odd_text::{NoMemory, TryCopy};
 use std::alloc::Global;
 
 /// What is left to match after a symbol: a pattern of the words that the given one matches with the symbol before

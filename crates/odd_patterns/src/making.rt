@@ -3,7 +3,7 @@ ghost use Rattle.odd_patterns.specs.Words.{IsChoiceOf, IsGroupOf, SameWords};
 
 use crate::alphabet::Alphabet;
 use crate::pattern::Pat;
-use odd_base::{NoMemory, Seq};
+use odd_text::{NoMemory, Seq};
 use sqlite_items::Boxed;
 use std::alloc::Global;
 

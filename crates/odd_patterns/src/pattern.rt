@@ -2,7 +2,7 @@ ghost use Rattle.std.specs.Prelude.{◌≡◌, ◌↔◌, Bool, IsTrue, IfOk, []
 ghost use Rattle.odd_patterns.specs.Words.{Matches};
 
 use crate::alphabet::Alphabet;
-use odd_base::{NoMemory, TryCopy};
+use odd_text::{NoMemory, TryCopy};
 use sqlite_items::Boxed;
 use std::alloc::Global;
 

@@ -1,31 +1,30 @@
--- What is escaped is read back: as the text between tags, and as the value in double quotes.
-use Rattle.std.proofs.Common.{◌≡◌, ◌≢◌, ℕ, true, false, List, [], ◌∷◌, ◌++◌, map, sym, refl, ap, ap₂, ◌∙◌, append_assoc, append-nil, codes, IsTrue, subst}
-use Rattle.std.specs.Prelude.{None}
+-- What is escaped is read back, as a text and as a value; escaping character by character.
+use Rattle.std.proofs.Common.{◌≡◌, ◌≢◌, ℕ, true, false, List, [], ◌∷◌, ◌++◌, map, sym, refl, ap, ap₂, ◌∙◌, append_assoc, append-nil, codes, IsTrue, subst, length}
+use Rattle.std.proofs.lemmas.Grind.{flat_map-append}
 use Rattle.std.proofs.lemmas.List.Elements.{All-nil, All-cons}
 use Rattle.std.proofs.lemmas.Str.{encodes-append}
-use Rattle.std.specs.List.{list_all}
+use Rattle.std.specs.List.{list_all, flat_map}
+use Rattle.std.specs.Prelude.{None}
 use Rattle.std.specs.Str.{encode_utf8_all}
+use Rattle.odd_tokens.proofs.Ascii.{ascii_codes, ascii_ncname}
+use Rattle.odd_tokens.proofs.Characters.{none_twice}
+use Rattle.odd_tokens.specs.Characters.{is_char, IsLegal}
+use Rattle.odd_tokens.specs.Openings.{Opening}
+use Rattle.odd_tokens.specs.Tokens.{Tag, Token, start_tag, empty_tag, end_tag, IsTag, value_written, tokens_written}
+use Rattle.odd_tree.proofs.Fits.{Outside, FitAfter, inside_after, tag_opened, start_fits, empty_fits, end_fits, fit_append, all_fit, bytes_of, bytes-append}
+use Rattle.odd_tree.proofs.LastBound.{tag_with, attributes_named}
+use Rattle.odd_tree.proofs.PrintedTrees.{text_nodes}
+use Rattle.odd_tree.specs.Fitting.{is_tag, none, nothing}
+use Rattle.odd_tree.specs.Markup.{Pair, escaped_text, escaped_value}
+use Rattle.odd_tree.specs.Names.{IsBinding, NamesFit}
+use Rattle.odd_tree.specs.Spelled.{Spells}
+use Rattle.odd_tree.specs.Trees.{HasTag, IsElement, empty, full}
 use Rattle.odd_tree.specs.declared.tree.Attr.{Attr}
 use Rattle.odd_tree.specs.declared.tree.Node.{Node, Text}
 use Rattle.odd_tree.specs.declared.tree.Tree.{Tree, roll-Tree}
-use Rattle.odd_tokens.specs.Characters.{is_char, IsLegal}
-use Rattle.odd_tokens.specs.Tokens.{Tag, Token, start_tag, empty_tag, end_tag, IsTag, value_written, tokens_written}
-use Rattle.odd_tree.specs.Names.{IsBinding, NamesFit}
-use Rattle.odd_tree.specs.Fitting.{is_tag, none, nothing}
-use Rattle.odd_tree.specs.Trees.{HasTag, IsElement, empty, full}
-use Rattle.odd_tokens.specs.Openings.{Opening}
-use Rattle.odd_tree.specs.Spelled.{Spells}
+use Rattle.odd_printing.proofs.PrintedCharacters.{value_piece, text_token, text_written, text_balanced, text_fits, text_content}
+use Rattle.odd_printing.proofs.PrintedTags.{IsCharAttribute, printed_is_tag, value_is_read, value_is_written}
 use Rattle.odd_printing.specs.Escaping.{IsTextOf, IsValueOf}
-use Rattle.odd_tree.specs.Markup.{Pair, escaped_text, escaped_value}
-use Rattle.odd_tokens.proofs.Ascii.{ascii_codes, ascii_ncname}
-use Rattle.odd_tokens.proofs.Distinct.{none_twice}
-use Rattle.odd_tree.proofs.Fits.{Outside, FitAfter, inside_after, tag_opened, start_fits, empty_fits, end_fits, fit_append, all_fit}
-use Rattle.odd_printing.proofs.PrintedSpelledCharacters.{value_piece, text_token}
-use Rattle.odd_printing.proofs.PrintedSpelledTags.{IsCharAttribute, printed_is_tag, value_is_read, value_is_written}
-use Rattle.odd_printing.proofs.PrintedSpelledTexts.{text_written, text_balanced, text_fits, text_content}
-use Rattle.odd_tree.proofs.PrintedTrees.{text_nodes}
-use Rattle.odd_tree.proofs.Sizes.{bytes_of, bytes-append}
-use Rattle.odd_tree.proofs.Unprefixed.{tag_with, attributes_named}
 
 -- a file of one element, with no opening and nothing around the element
 
@@ -164,3 +163,27 @@ value_read_back value l = subst (λ (v : List ℕ). IsValueOf (escaped_value v) 
       (empty_fits true [] (valued l.0) [] (valued_is_tag l.0 l.2) (valued_names_fit l.0) at_the_start, tt) (empty (valued_has_tag l.0) refl);
   attributes = refl;
 })
+
+-- a text whose bytes are escaped, and what is left of it
+module _ (f : ℕ → List ℕ) where
+  pub record PutUpTo (old now text left : List ℕ) : Type 0 where
+    pub front : List ℕ
+    pub put : now ≡ old ++ front
+    pub parts : flat_map f text ≡ front ++ flat_map f left
+
+  pub none_put : {old text left : List ℕ} → left ≡ text → PutUpTo old old text left
+  none_put e = record { front = []; put = sym (append-nil _); parts = ap (flat_map f) (sym e) }
+
+  next_is : {old now text left : List ℕ} (piece more : List ℕ) (s : PutUpTo old now text left) → left ≡ piece ++ more → flat_map f text ≡ s.front ++ (flat_map f piece ++ flat_map f more)
+  next_is piece more s l = s.parts ∙ ap (λ x. s.front ++ x) (ap (flat_map f) l ∙ flat_map-append f piece more)
+
+  pub more_put : {old mid new text left more : List ℕ} (piece : List ℕ) → PutUpTo old mid text left → left ≡ piece ++ more → new ≡ mid ++ flat_map f piece → PutUpTo old new text more
+  more_put {old = old} {more = more} piece s l e = record {
+    front = s.front ++ flat_map f piece;
+    put = e ∙ ap (λ x. x ++ flat_map f piece) s.put ∙ append_assoc old s.front (flat_map f piece);
+    parts = next_is piece more s l ∙ sym (append_assoc s.front (flat_map f piece) (flat_map f more));
+  }
+
+  pub all_put : {old new text left : List ℕ} → PutUpTo old new text left → length left ≡ 0 → new ≡ old ++ flat_map f text
+  all_put {old = old} {left = []} s e = s.put ∙ ap (λ x. old ++ x) (sym (s.parts ∙ append-nil s.front))
+  all_put {left = b ∷ bs} s e = cc

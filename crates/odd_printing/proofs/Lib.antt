@@ -1,11 +1,5 @@
 pub mod Escaped
-pub mod Escapes
+pub mod PrintedCharacters
+pub mod PrintedElements
 pub mod PrintedSpelled
-pub mod PrintedSpelledCharacters
-pub mod PrintedSpelledElements
-pub mod PrintedSpelledLines
-pub mod PrintedSpelledNames
-pub mod PrintedSpelledTags
-pub mod PrintedSpelledTexts
-pub mod PutsFront
-pub mod SpacesFit
+pub mod PrintedTags

@@ -9,14 +9,11 @@ use Rattle.odd_tree.specs.Fitting.{is_tag, AreOpen, none, nothing, piece}
 use Rattle.odd_tokens.specs.Openings.{Setting, IsDeclaration, Opening, opening_written}
 use Rattle.odd_tree.specs.Spelled.{IsDocument, Spells}
 use Rattle.odd_tree.specs.Markup.{Pair, Markups, element, printed, file_printed}
-use Rattle.odd_tree.proofs.Sizes.{bytes_of, bytes-append}
-use Rattle.odd_printing.proofs.SpacesFit.{outer_feed_fits}
+use Rattle.odd_tree.proofs.Fits.{bytes_of, bytes-append, FitAfter, open_after, fit_append, all_fit}
+use Rattle.odd_printing.proofs.PrintedElements.{outer_feed_fits, ElementSpelled, feed, feed_before, with_lines, lines_spelled}
 use Rattle.odd_tokens.proofs.Ascii.{ascii_codes}
-use Rattle.odd_tree.proofs.Fits.{FitAfter, open_after, fit_append, all_fit}
 use Rattle.odd_tree.proofs.PrintedTrees.{IsPlainTag, ArePlain, IsNamespace, Shows}
-use Rattle.odd_printing.proofs.PrintedSpelledNames.{root_tag_spelled}
-use Rattle.odd_printing.proofs.PrintedSpelledElements.{ElementSpelled}
-use Rattle.odd_printing.proofs.PrintedSpelledLines.{feed, feed_before, with_lines, lines_spelled}
+use Rattle.odd_printing.proofs.PrintedTags.{root_tag_spelled}
 
 -- the opening is the declaration, and the line break after it is a token
 

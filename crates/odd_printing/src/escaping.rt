@@ -4,7 +4,7 @@ ghost use Rattle.odd_printing.specs.Escaping.{IsTextOf, IsValueOf};
 ghost use Rattle.odd_tree.specs.Markup.{escaped_text, escaped_value};
 
 use crate::printing::{add_escaped_text, add_escaped_value};
-use odd_base::{NoMemory, Text};
+use odd_text::{NoMemory, Text};
 use std::alloc::Global;
 
 /// The text with a reference in place of each `&`, `<`, `>` and CR (`&amp;`, `&lt;`, `&gt;`, `&#13;`), so that it may

@@ -1,12 +1,11 @@
-ghost use Rattle.std.specs.Prelude.{◌≡◌, ◌++◌, OnOk, OnErr, codes, encode_utf8};
-ghost use Rattle.odd_tree.specs.Markup.{PutsFront, escaped_value, escaped_text};
+ghost use Rattle.std.specs.Prelude.{◌≡◌, ◌++◌, OnOk, codes, encode_utf8};
+ghost use Rattle.odd_tree.specs.Markup.{escaped_value, escaped_text};
 
-use odd_base::{NoMemory, Text};
+use odd_text::{NoMemory, Text};
 
 /// Puts the XML declaration, on a line of its own.
 pub fn add_declaration(out: &mut Text) -> Result<(), NoMemory>
     ensures ok { OnOk result (out.new ≡ out.old ++ codes "<?xml version=\"1.0\" encoding=\"UTF-8\"?>\n") }
-    ensures err { OnErr result (PutsFront out.old out.new (codes "<?xml version=\"1.0\" encoding=\"UTF-8\"?>\n")) }
 {
     out.push_str("<?xml version=\"1.0\" encoding=\"UTF-8\"?>\n")
 }
@@ -14,7 +13,6 @@ pub fn add_declaration(out: &mut Text) -> Result<(), NoMemory>
 /// Begins a start tag or an empty tag.
 pub fn begin_tag(out: &mut Text, name: &str) -> Result<(), NoMemory>
     ensures ok { OnOk result (out.new ≡ out.old ++ (codes "<" ++ name.now)) }
-    ensures err { OnErr result (PutsFront out.old out.new (codes "<" ++ name.now)) }
 {
     out.push_str("<")?;
     out.push_str(name)
@@ -23,7 +21,6 @@ pub fn begin_tag(out: &mut Text, name: &str) -> Result<(), NoMemory>
 /// Puts an attribute into the tag that was begun, with its value escaped.
 pub fn add_attribute(out: &mut Text, name: &str, value: &str) -> Result<(), NoMemory>
     ensures ok { OnOk result (out.new ≡ out.old ++ (codes " " ++ name.now ++ codes "=\"" ++ escaped_value value.now ++ codes "\"")) }
-    ensures err { OnErr result (PutsFront out.old out.new (codes " " ++ name.now ++ codes "=\"" ++ escaped_value value.now ++ codes "\"")) }
 {
     out.push_str(" ")?;
     out.push_str(name)?;
@@ -35,7 +32,6 @@ pub fn add_attribute(out: &mut Text, name: &str, value: &str) -> Result<(), NoMe
 /// Ends a start tag.
 pub fn end_start_tag(out: &mut Text) -> Result<(), NoMemory>
     ensures ok { OnOk result (out.new ≡ out.old ++ codes ">\n") }
-    ensures err { OnErr result (PutsFront out.old out.new (codes ">\n")) }
 {
     out.push_str(">\n")
 }
@@ -43,7 +39,6 @@ pub fn end_start_tag(out: &mut Text) -> Result<(), NoMemory>
 /// Ends an empty tag.
 pub fn end_empty_tag(out: &mut Text) -> Result<(), NoMemory>
     ensures ok { OnOk result (out.new ≡ out.old ++ codes "/>\n") }
-    ensures err { OnErr result (PutsFront out.old out.new (codes "/>\n")) }
 {
     out.push_str("/>\n")
 }
@@ -51,7 +46,6 @@ pub fn end_empty_tag(out: &mut Text) -> Result<(), NoMemory>
 /// Puts an end tag.
 pub fn add_end_tag(out: &mut Text, name: &str) -> Result<(), NoMemory>
     ensures ok { OnOk result (out.new ≡ out.old ++ (codes "</" ++ name.now ++ codes ">\n")) }
-    ensures err { OnErr result (PutsFront out.old out.new (codes "</" ++ name.now ++ codes ">\n")) }
 {
     out.push_str("</")?;
     out.push_str(name)?;
@@ -61,7 +55,6 @@ pub fn add_end_tag(out: &mut Text, name: &str) -> Result<(), NoMemory>
 /// Puts the value of an attribute, with a reference in place of each character that a parser would change or take for markup.
 pub fn add_escaped_value(out: &mut Text, value: &str) -> Result<(), NoMemory>
     ensures ok { OnOk result (out.new ≡ out.old ++ escaped_value value.now) }
-    ensures err { OnErr result (PutsFront out.old out.new (escaped_value value.now)) }
 {
     for c in value.chars() {
         add_value_character(out, c)?;
@@ -72,7 +65,6 @@ pub fn add_escaped_value(out: &mut Text, value: &str) -> Result<(), NoMemory>
 /// Puts the text of an element, with a reference in place of each character that a parser would change or take for markup.
 pub fn add_escaped_text(out: &mut Text, text: &str) -> Result<(), NoMemory>
     ensures ok { OnOk result (out.new ≡ out.old ++ escaped_text text.now) }
-    ensures err { OnErr result (PutsFront out.old out.new (escaped_text text.now)) }
 {
     for c in text.chars() {
         add_text_character(out, c)?;
@@ -83,7 +75,6 @@ pub fn add_escaped_text(out: &mut Text, text: &str) -> Result<(), NoMemory>
 // A quote would end the value, and a parser turns a tab or a line feed into a space.
 fn add_value_character(out: &mut Text, c: char) -> Result<(), NoMemory>
     ensures ok { OnOk result (out.new ≡ out.old ++ escaped_value (encode_utf8 c)) }
-    ensures err { OnErr result (PutsFront out.old out.new (escaped_value (encode_utf8 c))) }
 {
     match c {
         '"' => out.push_str("&quot;"),
@@ -96,7 +87,6 @@ fn add_value_character(out: &mut Text, c: char) -> Result<(), NoMemory>
 // A parser turns a carriage return into a line feed, and `>` is escaped for the sake of `]]>`.
 fn add_text_character(out: &mut Text, c: char) -> Result<(), NoMemory>
     ensures ok { OnOk result (out.new ≡ out.old ++ escaped_text (encode_utf8 c)) }
-    ensures err { OnErr result (PutsFront out.old out.new (escaped_text (encode_utf8 c))) }
 {
     match c {
         '&' => out.push_str("&amp;"),

@@ -10,7 +10,7 @@ use Rattle.odd_reader.specs.Reading.{HasRead, IsLongestFront, place_of}
 use Rattle.odd_tree.specs.Spelled.{IsNotXml}
 use Rattle.odd_reader.specs.declared.reader.Reader.{Reader}
 use Rattle.odd_reader.proofs.Places.{parts_of}
-use Rattle.odd_tree.proofs.Sizes.{size_of_one_more}
+use Rattle.odd_tree.proofs.Fits.{size_of_one_more}
 use Rattle.odd_reader.proofs.Taken.{cut_place}
 
 -- which front it is

@@ -12,13 +12,11 @@ use Rattle.odd_tokens.specs.Same.{is_same}
 use Rattle.odd_tokens.specs.Openings.{Setting, setting_written, IsSetting, Declaration, declaration_written, IsDeclaration, Opening, opening_written, IsOpening}
 use Rattle.odd_tokens.specs.Tokens.{Tag, Token, character, instruction, start_tag, IsToken, token_written, tokens_written, size_of}
 use Rattle.odd_reader.specs.Reading.{is_fresh}
-use Rattle.odd_tree.proofs.Sizes.{size_of_append}
+use Rattle.odd_tree.proofs.Fits.{size_of_append}
 use Rattle.odd_tokens.proofs.Ascii.{lowered}
-use Rattle.odd_tokens.proofs.Fronts.{Stops, same_front, all_weaker}
-use Rattle.odd_tokens.proofs.NamesLexed.{at_space, ncname_chars, space_ends}
-use Rattle.odd_tokens.proofs.AttributesLexed.{at_quote}
-use Rattle.odd_tokens.proofs.TextsLexed.{same_at}
-use Rattle.odd_tokens.proofs.Lexing.{kind_of, kind-written, set_off_stops}
+use Rattle.odd_tokens.proofs.Characters.{Stops, same_front, all_weaker}
+use Rattle.odd_tokens.proofs.AttributesLexed.{at_space, ncname_chars, space_ends, at_quote}
+use Rattle.odd_tokens.proofs.Lexing.{same_at, kind_of, kind-written, set_off_stops}
 
 -- tokens that fit are tokens
 tokens_each : (ts : List Token) → ((before after : List Token) (t : Token) → ts ≡ before ++ t ∷ after → IsToken t) → All IsToken ts

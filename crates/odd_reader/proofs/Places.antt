@@ -12,7 +12,7 @@ use Rattle.odd_reader.specs.Reading.{is_fresh}
 use Rattle.odd_tree.specs.Spelled.{Begins, IsWholeOpening, NoneFits, NoneTooDeep, FaultPlace, DepthPlace, deepest}
 use Rattle.odd_tokens.proofs.Lexing.{one_token, something_written}
 use Rattle.odd_reader.proofs.Openings.{OpensNone, fitting_tokens, shorter}
-use Rattle.odd_tree.proofs.Sizes.{bytes_of}
+use Rattle.odd_tree.proofs.Fits.{bytes_of}
 
 -- characters, and bytes behind them: one goes on where the other ends
 

@@ -2,7 +2,7 @@
 use Rattle.std.proofs.Common.{◌≡◌, ◌≢◌, ℕ, ◌+◌, Bool, true, false, not, List, [], ◌∷◌, ◌++◌, sym, refl, ap, subst, ◌∙◌, append_assoc, map, Some}
 use Rattle.std.proofs.lemmas.Bool.{and_from, not_from_true, or_right}
 use Rattle.std.specs.List.{list_all}
-use Rattle.odd_base.specs.declared.name.Bind.{Bind}
+use Rattle.odd_text.specs.declared.name.Bind.{Bind}
 use Rattle.odd_tree.specs.declared.tree.Tree.{Tree, out-Tree, roll-Tree, roll-out-Tree}
 use Rattle.odd_tree.specs.declared.tree.Node.{Node}
 use Rattle.odd_tree.specs.Fitting.{is_tag, is_start_or_empty}
@@ -10,7 +10,7 @@ use Rattle.odd_tree.specs.Names.{binds_of}
 use Rattle.odd_tokens.specs.Tokens.{Tag, Token, start_tag, empty_tag, end_tag, token_written, tokens_written, size_of}
 use Rattle.odd_tree.specs.Spelled.{IsDocument}
 use Rattle.odd_tree.specs.Trees.{HasTag, IsElement, empty, full, IsContent, nothing, piece, child}
-use Rattle.odd_tokens.proofs.Fronts.{Stops, same_front}
+use Rattle.odd_tokens.proofs.Characters.{Stops, same_front}
 
 -- trees of one tag at one place, with the same children
 
@@ -132,10 +132,6 @@ mutual
 
 pub one_element : (around : List Bind) (at : ℕ) (es fs xs ys : List Token) (t u : Tree) → IsElement around at es t → IsElement around at fs u → es ++ xs ≡ fs ++ ys → (es ≡ fs) × (t ≡ u)
 one_element around at es fs xs ys t u i j e = let f = read_element around at es fs xs ys t u i j e in (f.0, f.1)
-
-pub one_content : (around : List Bind) (at : ℕ) (es fs xs ys : List Token) (ms ns : List Node) → IsContent around at es ms → IsContent around at fs ns
-    → ends_here xs ≡ true → ends_here ys ≡ true → es ++ xs ≡ fs ++ ys → (es ≡ fs) × (ms ≡ ns)
-one_content around at es fs xs ys ms ns i j a b e = let f = read_content around at es fs xs ys ms ns i j a b e in (f.0, f.1)
 
 -- documents
 

@@ -1,14 +1,24 @@
--- A file is refused at a place: there is its fault, or its first level too many.
-use Rattle.std.proofs.Common.{◌≡◌, ⊎_elim, ℕ, ◌+◌, ◌<◌, ◌≤◌, true, List, [], ◌∷◌, ◌++◌, length, inr, refl, sym, ap, ◌∙◌, subst, subst₂, append_assoc, append-nil, arith}
+-- A file spells one tree, or is refused at one place: its fault, or its first level too many.
+use Rattle.std.proofs.Common.{◌≡◌, ℕ, List, [], sym, subst₂, ⊎_elim, ◌+◌, ◌<◌, ◌≤◌, true, ◌∷◌, ◌++◌, length, inr, refl, ap, ◌∙◌, subst, append_assoc, append-nil, arith}
 use Rattle.std.specs.Str.{encode_utf8_all}
 use Rattle.odd_tokens.specs.Openings.{opening_written}
-use Rattle.odd_tokens.specs.Tokens.{Tag, Token, start_tag, token_written, size_of}
+use Rattle.odd_tokens.specs.Tokens.{Token, size_of, Tag, start_tag, token_written}
+use Rattle.odd_tree.proofs.Fits.{bytes_of}
 use Rattle.odd_tree.specs.Fitting.{IsBalanced, AreOpen, none, more, Fits, is_start_or_empty}
-use Rattle.odd_tree.specs.Spelled.{Begins, IsDocument, Spells, GivesTree, IsWholeOpening, NoneFits, NoneTooDeep, DepthPlace, IsNotXml, deepest}
+use Rattle.odd_tree.specs.Spelled.{IsDocument, Spells, NoneFits, Begins, GivesTree, IsWholeOpening, NoneTooDeep, DepthPlace, IsNotXml, deepest}
 use Rattle.odd_tree.specs.declared.tree.Tree.{Tree}
-use Rattle.odd_reader.proofs.Places.{Longer, begin_alike, fault_comes_later, first_deep, first_of_bytes, nothing_opens, same_end, whole_opening}
-use Rattle.odd_tree.proofs.Sizes.{bytes_of}
-use Rattle.odd_reader.proofs.Spelling.{none_at_end}
+use Rattle.odd_reader.proofs.Places.{nothing_opens, same_end, some_bytes, whole_opening, Longer, begin_alike, fault_comes_later, first_deep, first_of_bytes}
+use Rattle.odd_reader.proofs.Readings.{one_document}
+
+-- no token begins where nothing is left
+pub none_at_end : (ts : List Token) → NoneFits ts []
+none_at_end ts t more_bytes f e = some_bytes t more_bytes f.token (sym e)
+
+pub one_tree : (bytes : List ℕ) (t u : Tree) → Spells bytes t → Spells bytes u → t ≡ u
+one_tree bytes t u a b =
+    let same = same_end a.whole b.whole (whole_opening a.whole (λ f. nothing_opens a.whole.opening.mark)) (none_at_end a.whole.tokens) in
+    one_document (size_of (opening_written a.whole.opening)) a.whole.tokens t u a.document
+    (subst₂ (λ (n : ℕ) (ts : List Token). IsDocument n ts u) same.2 same.0 b.document)
 
 module _ {bytes left : List ℕ} (b : Begins bytes left) (w : IsWholeOpening bytes b.opening) (shallow : NoneTooDeep b.tokens) (n : NoneFits b.tokens left) where
   -- no tag that fits opens a level too many

@@ -2,7 +2,7 @@
 use Rattle.std.proofs.Common.{◌≡◌, true, ℕ, ◌+◌, ◌≤◌, List, [], ◌∷◌, ◌++◌, length, refl, sym, ap, ◌∙◌, append_assoc, append-nil, subst, subst₂, arith}
 use Rattle.std.specs.Str.{encode_utf8_all}
 use Rattle.std.proofs.lemmas.Str.{encodes-append, length-le-encodes}
-use Rattle.odd_base.specs.declared.name.Bind.{Bind}
+use Rattle.odd_text.specs.declared.name.Bind.{Bind}
 use Rattle.odd_tree.specs.declared.tree.Node.{Node, Element, Text}
 use Rattle.odd_tree.specs.declared.tree.Tree.{Tree}
 use Rattle.odd_tree.specs.Fitting.{is_tag, is_start_or_end, is_start_or_empty}
@@ -10,7 +10,7 @@ use Rattle.odd_tokens.specs.Tokens.{Token, character, token_written, size_of}
 use Rattle.odd_tree.specs.Trees.{IsElement, IsContent, nothing, piece, child, token_read, with_text}
 use Rattle.odd_tree.proofs.PrintedTrees.{text_nodes}
 use Rattle.odd_reader.proofs.Readings.{element_begins}
-use Rattle.odd_tree.proofs.Sizes.{size, size_append, size_cons}
+use Rattle.odd_tree.proofs.Fits.{size, size_append, size_cons}
 use Rattle.odd_reader.proofs.StandsTexts.{NoTags, run_read, next_same}
 use Rattle.std.proofs.lemmas.Bool.{or_right}
 

@@ -2,13 +2,13 @@
 use Rattle.std.proofs.Common.{◌≡◌, false, ℕ, ◌+◌, List, [], ◌∷◌, ◌++◌, length, length-append, add-one, Option, Some, None, refl, sym, ap, ◌∙◌, append_assoc, append-nil, subst, arith}
 use Rattle.std.specs.Str.{encode_utf8_all}
 use Rattle.std.proofs.lemmas.Bool.{or_parts}
-use Rattle.odd_base.specs.declared.name.Bind.{Bind}
+use Rattle.odd_text.specs.declared.name.Bind.{Bind}
 use Rattle.odd_reader.specs.declared.builder.Last.{Last}
 use Rattle.odd_reader.specs.declared.builder.Last.TheVariants as last
-use Rattle.odd_elements.specs.declared.element.OpenElement.{OpenElement}
+use Rattle.odd_reader.specs.declared.element.OpenElement.{OpenElement}
 use Rattle.odd_tree.specs.declared.tree.Node.{Node, Element}
 use Rattle.odd_tree.specs.declared.tree.Tree.{Tree}
-use Rattle.odd_elements.specs.Resolving.{around, tree_of}
+use Rattle.odd_reader.specs.Resolving.{around, tree_of}
 use Rattle.odd_tree.specs.Fitting.{is_tag, is_start_or_end, is_start_or_empty, IsBalanced, AreOpen, none, open_binds, innermost}
 use Rattle.odd_tokens.specs.Making.{name_made}
 use Rattle.odd_tree.specs.Names.{binds_of}
@@ -17,9 +17,8 @@ use Rattle.odd_tokens.specs.Tokens.{QName, Tag, Token, start_tag, end_tag, token
 use Rattle.odd_tree.specs.Trees as trees
 use Rattle.odd_tree.specs.Fitting as fitting
 use Rattle.odd_tree.specs.Trees.{IsElement, IsContent}
-use Rattle.odd_tree.proofs.Fits.{balanced_append, open_after, opened, binds_opened, innermost_opened}
+use Rattle.odd_tree.proofs.Fits.{balanced_append, open_after, opened, binds_opened, innermost_opened, size, size_append, size_cons}
 use Rattle.odd_tree.proofs.PrintedTrees.{text_nodes}
-use Rattle.odd_tree.proofs.Sizes.{size, size_append, size_cons}
 use Rattle.odd_reader.proofs.StandsContent.{Done, Part, nothing_done, run_done, element_done, content_whole}
 use Rattle.odd_reader.proofs.StandsTags.{IsOpen, has_tag, still_open}
 use Rattle.odd_reader.proofs.StandsTexts.{NoTags, no_tags_at, no_tags_snoc, no_tags_balanced, last_from, last_snoc, after_token, added, run_read, read_snoc}

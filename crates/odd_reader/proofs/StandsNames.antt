@@ -8,19 +8,19 @@ use Rattle.std.specs.Cmp.Lexicographic.{same_text, other_text}
 use Rattle.std.proofs.lemmas.Bool.{cases_Bool, and_parts, and_from, not-true, not_from_false, or_cases, or_right, both_ways}
 use Rattle.std.proofs.lemmas.List.Elements.{All-nil, All-cons, All-head, All-tail}
 use Rattle.std.proofs.lemmas.Str.{encodes_same}
-use Rattle.odd_base.specs.declared.name.Bind.{Bind}
-use Rattle.odd_base.specs.declared.name.Name.{Name}
+use Rattle.odd_text.specs.declared.name.Bind.{Bind}
+use Rattle.odd_text.specs.declared.name.Name.{Name}
 use Rattle.odd_tree.specs.declared.tree.Attr.{Attr}
 use Rattle.odd_tokens.specs.declared.token.WrittenAttr.{WrittenAttr}
-use Rattle.odd_elements.specs.Resolving.{prefix_declared, binds_made, plain_made, may_bind, element_named, attribute_named, attributes_named}
+use Rattle.odd_reader.specs.Resolving.{prefix_declared, binds_made, plain_made, may_bind, element_named, attribute_named, attributes_named}
 use Rattle.odd_tokens.specs.Making.{name_made, attribute_made}
 use Rattle.odd_tokens.specs.Same.{is_same}
 use Rattle.odd_tokens.specs.Values.{value_read}
 use Rattle.odd_tree.specs.Names.{declared_prefix, binds_of, plain_attributes, element_name, attribute_name, attribute_read, IsBinding, xml_namespace, xmlns_namespace}
 use Rattle.odd_tokens.specs.Tokens.{QName, Attribute}
 use Rattle.odd_tokens.proofs.Ascii.{ascii_codes}
-use Rattle.odd_tree.proofs.SameTexts.{same_from}
-use Rattle.odd_tree.proofs.Unprefixed.{not_same}
+use Rattle.odd_tree.proofs.PrintedTrees.{same_from}
+use Rattle.odd_tree.proofs.LastBound.{not_same}
 
 -- two encoded texts are one where the texts are
 pub encoded_same : (a b : List ℕ) → is_same (encode_utf8_all a) (encode_utf8_all b) ≡ is_same a b

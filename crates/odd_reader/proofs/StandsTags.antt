@@ -1,17 +1,17 @@
 -- A tag is resolved exactly where its names fit.
 use Rattle.std.proofs.Common.{◌≡◌, Bool, true, false, if◌then◌else◌, ℕ, List, [], ◌++◌, map, Option, Some, None, refl, sym, ap, ap₂, ◌∙◌, subst}
 use Rattle.std.specs.List.{list_all}
-use Rattle.odd_base.specs.declared.name.Bind.{Bind}
-use Rattle.odd_base.specs.declared.name.Name.{Name}
+use Rattle.odd_text.specs.declared.name.Bind.{Bind}
+use Rattle.odd_text.specs.declared.name.Name.{Name}
 use Rattle.odd_tree.specs.declared.tree.Attr.{Attr}
-use Rattle.odd_elements.specs.declared.element.OpenElement.{OpenElement}
+use Rattle.odd_reader.specs.declared.element.OpenElement.{OpenElement}
 use Rattle.odd_tokens.specs.declared.token.WrittenTag.{WrittenTag}
-use Rattle.odd_elements.specs.Resolving.{around, binds_made, plain_made, may_bind, element_named, attributes_named, some_twice, is_same_name, resolved, tree_of}
+use Rattle.odd_reader.specs.Resolving.{around, binds_made, plain_made, may_bind, element_named, attributes_named, some_twice, is_same_name, resolved, tree_of}
 use Rattle.odd_tokens.specs.Making.{name_made, attribute_made, tag_made}
 use Rattle.odd_tree.specs.Names.{binds_of, plain_attributes, element_name, attribute_read, NamesFit}
 use Rattle.odd_tokens.specs.Tokens.{Tag, NoneTwice}
 use Rattle.odd_tree.specs.Trees.{HasTag}
-use Rattle.odd_reader.proofs.StandsDistinct.{names_once, once_names}
+use Rattle.odd_reader.proofs.TwoAlike.{names_once, once_names}
 use Rattle.odd_reader.proofs.StandsNames.{binds_are, plain_are, element_is, attributes_are, all_named, bindings_from, all_may_bind, AreNamed, some_name, each_named}
 
 -- the open element is of the tag, which begins at the byte

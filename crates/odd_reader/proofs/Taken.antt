@@ -15,20 +15,19 @@ use Rattle.odd_tokens.specs.Whole.{IsRead, IsDeclared, IsWhole}
 use Rattle.odd_tokens.specs.declared.token.Token.{Token as Made}
 use Rattle.odd_tokens.specs.declared.token.Token.TheVariants as made
 use Rattle.odd_tokens.proofs.Characters.{char_scalar}
-use Rattle.odd_tokens.proofs.Lexes.{lexed_token}
+use Rattle.odd_tokens.proofs.LexedSteps.{lexed_token}
 use Rattle.odd_tokens.proofs.Unfinished.{one_made, whole_legal, whole_some}
 use Rattle.odd_reader.specs.Building.{Kept, Built, begun, build}
 use Rattle.odd_reader.specs.Reading.{HasBuilt, nothing, more, is_fresh, HasTaken, place_of}
 use Rattle.odd_tree.specs.Spelled.{Begins, GivesTree, NoneFits, NoneTooDeep, DepthPlace, IsNotXml, IsWholeOpening}
-use Rattle.odd_elements.specs.declared.misfit.Misfit.{Misfit}
-use Rattle.odd_elements.specs.declared.misfit.Misfit.TheVariants as misfit
+use Rattle.odd_reader.specs.declared.misfit.Misfit.{Misfit}
+use Rattle.odd_reader.specs.declared.misfit.Misfit.TheVariants as misfit
 use Rattle.odd_tree.specs.declared.tree.Tree.{Tree}
-use Rattle.odd_reader.proofs.Depth.{none_deep, one_depth_open, shallow_after}
-use Rattle.odd_tree.proofs.Fits.{FitAfter, all_fit, fit_append, written-append}
+use Rattle.odd_reader.proofs.StandsOpen.{none_deep, one_depth_open, shallow_after}
+use Rattle.odd_tree.proofs.Fits.{FitAfter, all_fit, fit_append, written-append, size_of_append}
 use Rattle.odd_reader.proofs.Openings.{none_open}
 use Rattle.odd_reader.proofs.Places.{GoesOn as Longer, characters_part, nothing_begins, parts_of, whole_opening}
 use Rattle.odd_reader.proofs.Refusing.{depth_at, fault_at}
-use Rattle.odd_tree.proofs.Sizes.{size_of_append}
 use Rattle.odd_reader.proofs.Stands.{Stands, nothing_stands, taken_stands, taken_shallow, too_deep_fits, fit_taken, stands_open, stands_closed, document_stands}
 
 -- what the builder took fits, and opens no level too many

@@ -3,12 +3,12 @@ use Rattle.std.specs.Prelude.{string_bytes, ◌≡◌, ◌⊎◌, ℕ, Bool, tru
 use Rattle.odd_tokens.specs.Characters.{is_space}
 use Rattle.odd_tree.specs.Spelled.{deepest}
 use Rattle.odd_reader.specs.declared.builder.Builder.{Builder}
-use Rattle.odd_elements.specs.Resolving.{is_written_same, resolved, some_twice, tree_of, with_children}
+use Rattle.odd_reader.specs.Resolving.{is_written_same, resolved, some_twice, tree_of, with_children}
 use Rattle.odd_reader.specs.declared.builder.Last.{Last}
 use Rattle.odd_reader.specs.declared.builder.Last.TheVariants as last
-use Rattle.odd_elements.specs.declared.misfit.Misfit.{Misfit}
-use Rattle.odd_elements.specs.declared.misfit.Misfit.TheVariants as misfit
-use Rattle.odd_elements.specs.declared.element.OpenElement.{OpenElement}
+use Rattle.odd_reader.specs.declared.misfit.Misfit.{Misfit}
+use Rattle.odd_reader.specs.declared.misfit.Misfit.TheVariants as misfit
+use Rattle.odd_reader.specs.declared.element.OpenElement.{OpenElement}
 use Rattle.odd_tokens.specs.declared.token.Token.{Token}
 use Rattle.odd_tokens.specs.declared.token.Token.TheVariants as token
 use Rattle.odd_tokens.specs.declared.token.WrittenName.{WrittenName}

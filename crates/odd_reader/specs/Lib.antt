@@ -1,2 +1,13 @@
 pub mod Building
 pub mod Reading
+pub mod Resolving
+pub use Rattle.odd_printing.specs.Escaping
+pub use Rattle.odd_tree.specs.Elements
+pub use Rattle.odd_tree.specs.Fitting
+pub use Rattle.odd_tree.specs.Formed
+pub use Rattle.odd_tree.specs.Markup
+pub use Rattle.odd_tree.specs.Names
+pub use Rattle.odd_tree.specs.Significant
+pub use Rattle.odd_tree.specs.Spelled
+pub use Rattle.odd_tree.specs.Splits
+pub use Rattle.odd_tree.specs.Trees

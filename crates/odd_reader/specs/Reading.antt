@@ -10,8 +10,8 @@ use Rattle.odd_tokens.specs.declared.lexer.Fault.{Fault}
 use Rattle.odd_tokens.specs.declared.lexer.Fault.TheVariants as fault
 use Rattle.odd_tokens.specs.declared.token.Token.{Token as Made}
 use Rattle.odd_reader.specs.Building.{Kept, build, begun, kept_of}
-use Rattle.odd_elements.specs.declared.misfit.Misfit.{Misfit}
-use Rattle.odd_elements.specs.declared.misfit.Misfit.TheVariants as misfit
+use Rattle.odd_reader.specs.declared.misfit.Misfit.{Misfit}
+use Rattle.odd_reader.specs.declared.misfit.Misfit.TheVariants as misfit
 use Rattle.odd_reader.specs.declared.reader.ReadRefusal.{ReadRefusal}
 use Rattle.odd_reader.specs.declared.reader.ReadRefusal.TheVariants as refusal
 use Rattle.odd_reader.specs.declared.reader.Reader.{Reader}

@@ -2,10 +2,12 @@ ghost use Rattle.std.specs.Prelude.{◌≡◌, ◌++◌, None, Some, Ok, IfOk, O
 ghost use Rattle.odd_reader.specs.Building.{Follows, begun, build, character as a_character, character_text as text_of_character, element_closed, element_opened, ends_innermost as ends_the_innermost, inside as an_inside, is_root_closed as has_closed_root, kept_of, last_after as what_is_last_after, text_ended, then_closed, then_other};
 ghost use Rattle.odd_tree.specs.Spelled.{deepest};
 
-use odd_base::{NoMemory, Text};
-use odd_elements::{
-    Around, Misfit, OpenElement, XmlNamespace, add_child, is_written_twice, tree_of,
-};
+use crate::around::Around;
+use crate::element::{OpenElement, add_child, tree_of};
+use crate::misfit::Misfit;
+use crate::twice::is_written_twice;
+use crate::xml::XmlNamespace;
+use odd_text::{NoMemory, Text};
 use odd_tokens::{TextTable, Token, WrittenName, WrittenTag, is_space};
 use odd_tree::{Node, Tree};
 use std::alloc::{AllocError, Global};

@@ -6,8 +6,8 @@ ghost use Rattle.odd_reader.specs.Reading.{HasRead, IsLongestFront, place_of, re
 ghost use Rattle.odd_tree.specs.Spelled.{DepthPlace, GivesTree, IsNotXml};
 
 use crate::builder::Builder;
-use odd_base::NoMemory;
-use odd_elements::Misfit;
+use crate::misfit::Misfit;
+use odd_text::NoMemory;
 use odd_tokens::{Fault, Lexer};
 use odd_tree::Tree;
 use std::alloc::Global;

@@ -1,12 +1,12 @@
 //! Libraries that no file gives, and the copies of what they hold.
 
 use compile_core::{CompileRefusal, compile};
-use odd_base::{Kind, NoMemory, Text, TryCopy, Who, Words};
 use odd_classes::check_library;
 use odd_content::Content;
-use odd_decls::{ClassPart, Component, ElementPart, Library, Mode, OtherPart, Spec};
 use odd_layer_tests::making::{key, many_words, text};
+use odd_library::{ClassPart, Component, ElementPart, Library, Mode, OtherPart, Spec};
 use odd_members::Membership;
+use odd_text::{Kind, NoMemory, Text, TryCopy, Who, Words};
 use rng_emit::print_rng;
 use std::alloc::Global;
 use std::test::Fail;

@@ -1,25 +1,25 @@
--- Of which parts a tag is made that is not finished, by the state of the lexer.
-use Rattle.std.proofs.Common.{◌≡◌, ◌≢◌, ℕ, Bool, true, false, ◌||◌, ◌==◌, List, [], ◌∷◌, ◌++◌, map, All, IsTrue, codes}
+-- Of which parts a tag is made that is not finished, by the state of the lexer, and the token of a finished one.
+use Rattle.std.proofs.Common.{◌≡◌, ◌≢◌, ℕ, Bool, true, false, ◌||◌, ◌==◌, List, [], ◌∷◌, ◌++◌, map, All, IsTrue, codes, sym, ap, ◌∙◌, append_assoc}
 use Rattle.std.specs.Prelude.{Some, None}
 use Rattle.std.specs.Str.{encode_utf8_all}
+use Rattle.odd_tokens.proofs.InReference.{InReference}
+use Rattle.odd_tokens.proofs.InTagNames.{IsNamed, ends_in_return}
+use Rattle.odd_tokens.proofs.LexedSteps.{IsIdle, IsRead, IsDeclared, IsLexedTag}
 use Rattle.odd_tokens.specs.Characters.{is_white}
 use Rattle.odd_tokens.specs.Lexing.{Lexed, Taken}
-use Rattle.odd_tokens.specs.Making.{name_made, attribute_made}
+use Rattle.odd_tokens.specs.Making.{name_made, attribute_made, tag_made}
+use Rattle.odd_tokens.specs.Tokens.{QName, Piece, itself, reference, Attribute, IsQName, IsPieceIn, IsAttribute, name_written, value_written, attributes_written, Tag, start_tag, empty_tag, tag_written}
 use Rattle.odd_tokens.specs.Values.{value_read}
-use Rattle.odd_tokens.specs.Tokens.{QName, Piece, itself, reference, Attribute, IsQName, IsPieceIn, IsAttribute, name_written, value_written, attributes_written}
-use Rattle.odd_tokens.specs.declared.lexer.Named.TheVariants as named
 use Rattle.odd_tokens.specs.declared.lexer.NamePart.{NamePart}
+use Rattle.odd_tokens.specs.declared.lexer.Named.TheVariants as named
 use Rattle.odd_tokens.specs.declared.lexer.Place.TheVariants as place
 use Rattle.odd_tokens.specs.declared.lexer.ReferencePart.{ReferencePart}
 use Rattle.odd_tokens.specs.declared.lexer.State.{State}
 use Rattle.odd_tokens.specs.declared.lexer.State.TheVariants as state
 use Rattle.odd_tokens.specs.declared.token.Token.{Token}
+use Rattle.odd_tokens.specs.declared.token.Token.TheVariants as token
 use Rattle.odd_tokens.specs.declared.token.WrittenName.{WrittenName}
 use Rattle.odd_tokens.specs.declared.token.WrittenTag.{WrittenTag}
-use Rattle.odd_tokens.proofs.InReference.{InReference}
-use Rattle.odd_tokens.proofs.InTagNames.{IsNamed}
-use Rattle.odd_tokens.proofs.InTagValues.{ends_in_return}
-use Rattle.odd_tokens.proofs.Lexes.{IsIdle, IsRead, IsDeclared}
 
 -- what stands before the attributes of a tag, or of a declaration
 abbrev pub head_written : Bool → QName → List ℕ
@@ -168,3 +168,48 @@ abbrev pub Goes : (declares : Bool) → (at : ℕ) → (read : List ℕ) → Tak
 Goes declares at read None = Unit {0}
 Goes declares at read (Some (m, None)) = InTag declares at read m
 Goes declares at read (Some (m, Some made)) = IsIdle m × (m.opening ≡ false) × TagEnded declares at read made
+
+-- the tag that the parts make
+record IsTagOf (at : ℕ) (read : List ℕ) (made : WrittenTag) : Type 0 where
+  pub tag : Tag
+  pub is_lexed : IsLexedTag tag
+  pub is_written : read ≡ codes "<" ++ tag_written tag
+  pub is_made : made ≡ tag_made at tag
+
+tag_of : (at : ℕ) (front space : List ℕ) (made : WrittenTag) → IsFront false at front made → is_white space ≡ true → IsTagOf at (front ++ space) made
+tag_of at front space made f w = record {
+  tag = record { name = f.name; attributes = f.attributes; space = space };
+  is_lexed = record { named = f.is_head.0; attributed = f.attributed; ended = w };
+  is_written = ap (λ z. z ++ space) f.is_read;
+  is_made = λ j. record { at = f.placed j; name = f.is_head.1 j; attrs = f.is_made j };
+}
+
+start_read : (at : ℕ) (read : List ℕ) (made : WrittenTag) → IsTagOf at read made → IsRead at (read ++ codes ">") (token.Start made)
+start_read at read made t = record {
+  token = start_tag t.tag;
+  is_lexed = t.is_lexed;
+  is_written = ap (λ z. z ++ codes ">") (sym t.is_written);
+  is_made = ap token.Start t.is_made;
+}
+
+pub start_ends : (declares : Bool) (at : ℕ) (front space : List ℕ) (made : WrittenTag) → declares ≡ false → IsFront declares at front made → is_white space ≡ true
+    → TagEnded declares at ((front ++ space) ++ codes ">") (token.Start made)
+start_ends true at front space made e f w = cc
+start_ends false at front space made e f w = start_read at (front ++ space) made (tag_of at front space made f w)
+
+empty_read : (at : ℕ) (read whole : List ℕ) (made : WrittenTag) → whole ≡ read ++ codes "/>" → IsTagOf at read made → IsRead at whole (token.Empty made)
+empty_read at read whole made e t = record {
+  token = empty_tag t.tag;
+  is_lexed = t.is_lexed;
+  is_written = ap (λ z. z ++ codes "/>") (sym t.is_written) ∙ sym e;
+  is_made = ap token.Empty t.is_made;
+}
+
+pub empty_ends : (declares : Bool) (at : ℕ) (read : List ℕ) (made : WrittenTag) → declares ≡ false → IsAfter declares at read made (IsEnding 0x2F)
+    → TagEnded declares at (read ++ codes ">") (token.Empty made)
+empty_ends true at read made e a = cc
+empty_ends false at read made e a =
+    let i = a.is_part in
+    empty_read at (a.front ++ i.space) (read ++ codes ">") made
+    (ap (λ z. z ++ codes ">") (a.is_read ∙ ap (λ z. a.front ++ z) i.is_read) ∙ simp append_assoc)
+    (tag_of at a.front i.space made a.is_front i.spaced)

@@ -11,13 +11,11 @@ use Rattle.odd_tokens.specs.declared.lexer.State.{State}
 use Rattle.odd_tokens.specs.declared.lexer.State.TheVariants as state
 use Rattle.odd_tokens.specs.declared.token.Token.{Token}
 use Rattle.odd_tokens.specs.declared.token.Token.TheVariants as token
-use Rattle.odd_tokens.proofs.Lexes.{IsIdle, IsRead, IsWhole}
+use Rattle.odd_tokens.proofs.LexedSteps.{IsIdle, IsRead, IsWhole}
 use Rattle.odd_tokens.proofs.InReference.{reference_begins, reference_kept, at_character}
 use Rattle.odd_tokens.proofs.InTag.{in_tag_goes_on, in_tag_ends, in_tag_unfinished}
-use Rattle.odd_tokens.proofs.InTokenSteps.{less_steps, exclamation_steps, comment_dash_steps, comment_steps, cdata_open_steps, cdata_steps}
-use Rattle.odd_tokens.proofs.InTokenMoreSteps.{target_steps, target_question_steps, instruction_steps, end_space_steps, end_name_steps, content_steps}
-use Rattle.odd_tokens.proofs.InTokenStates.{InPlain, Follows}
-pub use Rattle.odd_tokens.proofs.InTokenStates.{InToken}
+use Rattle.odd_tokens.proofs.InTokenSteps.{less_steps, exclamation_steps, comment_dash_steps, comment_steps, cdata_open_steps, cdata_steps, target_steps, target_question_steps, instruction_steps, end_space_steps, end_name_steps, content_steps, InPlain, Follows}
+pub use Rattle.odd_tokens.proofs.InTokenSteps.{InToken}
 
 -- a character after an unfinished token
 

@@ -8,10 +8,9 @@ use Rattle.odd_tokens.specs.Characters.{is_char}
 use Rattle.odd_tokens.specs.Lexing.{brackets_before}
 use Rattle.odd_tokens.specs.Tokens.{cdata}
 use Rattle.odd_tokens.specs.declared.token.Token.TheVariants as token
-use Rattle.odd_tokens.proofs.Lexes.{IsRead}
-use Rattle.odd_tokens.proofs.InTokenTexts.{NotAtEnd, Unended, other_last, nothing_last, none_yet, goes_on}
+use Rattle.odd_tokens.proofs.LexedSteps.{IsRead}
+use Rattle.odd_tokens.proofs.InTokenTexts.{NotAtEnd, Unended, other_last, nothing_last, none_yet, goes_on, lines_seen, one_read, ends_in_return, seen_push, return_push, seen_lines, piece_kept, piece_encoded}
 use Rattle.std.proofs.lemmas.List.{same_from_push}
-use Rattle.odd_tokens.proofs.InTokenLines.{lines_seen, one_read, ends_in_return, seen_push, return_push, seen_lines, piece_kept, piece_encoded}
 
 -- the opening mark
 

@@ -12,9 +12,9 @@ use Rattle.odd_tokens.specs.Lexing.{is_empty}
 use Rattle.odd_tokens.specs.Same.{is_same}
 use Rattle.odd_tokens.specs.Tokens.{LacksPart, instruction, is_xml, is_set_off}
 use Rattle.odd_tokens.specs.declared.token.Token.TheVariants as token
-use Rattle.odd_tokens.proofs.Lexes.{IsRead}
+use Rattle.odd_tokens.proofs.LexedSteps.{IsRead}
 use Rattle.odd_tokens.proofs.InTokenTexts.{NotAtEnd, Unended, other_last, nothing_last, none_yet, goes_on, lacks_front}
-use Rattle.odd_tokens.proofs.OneMore.{ncname_more, encoded_more, some_encoded, not_empty}
+use Rattle.odd_tokens.proofs.Characters.{ncname_more, encoded_more, some_encoded, not_empty}
 
 -- the target
 

@@ -11,14 +11,11 @@ use Rattle.odd_tokens.specs.declared.lexer.ReferencePart.TheVariants as ref
 use Rattle.odd_tokens.specs.declared.lexer.State.TheVariants as state
 use Rattle.odd_tokens.specs.declared.token.Token.{Token}
 use Rattle.odd_tokens.specs.declared.token.Token.TheVariants as token
-use Rattle.odd_tokens.proofs.Lexes.{IsIdle, IsLexed, Lexes}
-use Rattle.odd_tokens.proofs.Lexes.Lexes.{last, more}
-use Rattle.odd_tokens.proofs.LexedComments.{comment_yields}
-use Rattle.odd_tokens.proofs.LexedInstructions.{instruction_read}
+use Rattle.odd_tokens.proofs.LexedSteps.{IsIdle, IsLexed, Lexes, Yields, stepped}
+use Rattle.odd_tokens.proofs.LexedSteps.Lexes.{last, more}
+use Rattle.odd_tokens.proofs.LexedComments.{comment_yields, instruction_read, cdata_yields}
 use Rattle.odd_tokens.proofs.LexedReferences.{reference_continues}
-use Rattle.odd_tokens.proofs.LexedSteps.{Yields, stepped}
 use Rattle.odd_tokens.proofs.LexedTags.{after_less, start_yields, empty_yields, end_yields}
-use Rattle.odd_tokens.proofs.LexedTexts.{cdata_yields}
 
 -- the token is taken, and nothing is unfinished after it
 abbrev pub Takes : Lexed → ℕ → List ℕ → Token → Type 0

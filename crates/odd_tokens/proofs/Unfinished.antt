@@ -19,9 +19,9 @@ use Rattle.odd_tokens.specs.declared.lexer.State.TheVariants as state
 use Rattle.odd_tokens.specs.declared.token.Token.{Token}
 use Rattle.odd_tokens.specs.declared.token.Token.TheVariants as token
 use Rattle.odd_tokens.proofs.InToken.{InToken, token_begins, token_alone, token_goes_on, token_ends, token_unfinished}
-use Rattle.odd_tokens.proofs.Lexed.{token_lexed, declaration_lexed, mark_lexed}
-use Rattle.odd_tokens.proofs.Lexes.{Lexes}
-use Rattle.odd_tokens.proofs.Lexes.Lexes.{last, more}
+use Rattle.odd_tokens.proofs.LexedDeclaration.{token_lexed, declaration_lexed, mark_lexed}
+use Rattle.odd_tokens.proofs.LexedSteps.{Lexes}
+use Rattle.odd_tokens.proofs.LexedSteps.Lexes.{last, more}
 
 -- what is taken is taken in one way
 one_taken : (x : Taken) (m n : Lexed) (g h : Option Token) → x ≡ Some (m, g) → x ≡ Some (n, h) → (m ≡ n) × (g ≡ h)

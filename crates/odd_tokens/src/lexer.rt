@@ -8,7 +8,7 @@ use crate::declaration::is_declaration;
 use crate::names::{is_name_char, is_name_start};
 use crate::table::TextTable;
 use crate::token::{Token, WrittenAttr, WrittenAttrs, WrittenName, WrittenTag};
-use odd_base::{NoMemory, Text};
+use odd_text::{NoMemory, Text};
 use std::alloc::{AllocError, Global};
 use std::mem;
 

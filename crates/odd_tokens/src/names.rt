@@ -2,7 +2,7 @@ ghost use Rattle.std.specs.Prelude.{◌≡◌, ◌↔◌, IsTrue};
 ghost use Rattle.odd_tokens.specs.Characters.{IsNCName, is_name_char as a_name_char, is_name_start as a_name_start};
 
 use crate::character::is_in;
-use odd_base::Text;
+use odd_text::Text;
 
 // The characters that begin an NCName, as ranges from the first to the last of each.
 const STARTS: [(char, char); 15] = [

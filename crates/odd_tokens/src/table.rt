@@ -1,6 +1,6 @@
 ghost use Rattle.std.specs.Prelude.{◌≡◌, IfOk};
 
-use odd_base::{NoMemory, Text, TryCopy};
+use odd_text::{NoMemory, Text, TryCopy};
 use std::alloc::Global;
 use std::collections::BTreeSet;
 

@@ -1,4 +1,4 @@
-use odd_base::{Seq, Text};
+use odd_text::{Seq, Text};
 
 /// A name as it is written: its prefix, which is empty where there is none, and its local part.
 #[derive(Debug, Drop, PartialEq, Eq, PartialOrd, Ord)]

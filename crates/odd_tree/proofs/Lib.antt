@@ -1,11 +1,4 @@
-pub mod AmongChildren
-pub mod Attributes
 pub mod Fits
-pub mod FormedExamples
 pub mod InList
 pub mod LastBound
-pub mod Levels
 pub mod PrintedTrees
-pub mod SameTexts
-pub mod Sizes
-pub mod Unprefixed

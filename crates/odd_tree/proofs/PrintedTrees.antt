@@ -1,12 +1,16 @@
--- A printed tree whose text is read back, and the tree that it spells.
+-- A printed tree whose text is read back, and texts that are one.
+use Rattle.std.proofs.Common.{true, false, sym}
+use Rattle.std.proofs.lemmas.Bool.{true_from_ne_false}
+use Rattle.std.specs.Cmp.Lexicographic.{other_text}
 use Rattle.std.specs.Prelude.{◌≡◌, ◌≢◌, ℕ, List, [], ◌∷◌, map, All, codes}
-use Rattle.odd_tree.specs.declared.tree.Attr.{Attr}
-use Rattle.odd_tree.specs.declared.tree.Tree.{Tree, out-Tree}
-use Rattle.odd_tree.specs.declared.tree.Node.{Node, Element, Text}
 use Rattle.odd_tokens.specs.Characters.{IsNCName, IsLegal}
+use Rattle.odd_tokens.specs.Same.{is_same}
 use Rattle.odd_tokens.specs.Tokens.{NoneTwice}
-use Rattle.odd_tree.specs.Names.{xml_namespace, xmlns_namespace}
 use Rattle.odd_tree.specs.Markup.{Pair, Markup, element, line, Markups, none, more}
+use Rattle.odd_tree.specs.Names.{xml_namespace, xmlns_namespace}
+use Rattle.odd_tree.specs.declared.tree.Attr.{Attr}
+use Rattle.odd_tree.specs.declared.tree.Node.{Node, Element, Text}
+use Rattle.odd_tree.specs.declared.tree.Tree.{Tree, out-Tree}
 
 -- an attribute without a prefix that is no declaration
 pub record IsPlainAttribute (a : Pair) : Type 0 where
@@ -60,3 +64,11 @@ abbrev mutual
   pub AreLines : List ℕ → Markups → List Node → Type 0
   AreLines ns none nodes = nodes ≡ []
   AreLines ns (more m rest) nodes = (t : Tree) × (later : List Node) × (nodes ≡ Element t ∷ line_break ∷ later) × Shows ns m t × AreLines ns rest later
+
+-- one text is the same as itself
+pub same_from : (a b : List ℕ) → a ≡ b → is_same a b ≡ true
+same_from a b e = true_from_ne_false _ (λ h. other_text a b (sym h) e)
+
+-- texts that are told apart differ
+pub apart : {R : Type 0} (a b : List ℕ) → is_same a b ≡ false → a ≡ b → R
+apart a b h e = absurd (other_text a b (sym h) e)

@@ -1,7 +1,7 @@
 -- Which token fits after which (XML 1.0, sections 2.1, 2.4, 2.8, 3 and 3.1).
 use Rattle.std.specs.Prelude.{◌≡◌, ℕ, Bool, true, false, List, [], ◌∷◌, ◌++◌, IsTrue, ◌||◌}
 use Rattle.std.specs.List.{list_any}
-use Rattle.odd_base.specs.declared.name.Bind.{Bind}
+use Rattle.odd_text.specs.declared.name.Bind.{Bind}
 use Rattle.odd_tokens.specs.Characters.{is_space}
 use Rattle.odd_tokens.specs.Tokens.{QName, Tag, Token, character, comment, instruction, start_tag, empty_tag, end_tag, IsToken}
 use Rattle.odd_tree.specs.Names.{binds_of, NamesFit}

@@ -1,6 +1,6 @@
 -- What holds of each tree that a file spells (XML 1.0, sections 2.2, 2.4 and 3.1; Namespaces in XML 1.0, sections 3 and 6.3).
 use Rattle.std.specs.Prelude.{◌≡◌, ◌≢◌, ◌≤◌, ◌⊎◌, ℕ, suc, List, [], ◌∷◌, map, All}
-use Rattle.odd_base.specs.declared.name.Bind.{Bind}
+use Rattle.odd_text.specs.declared.name.Bind.{Bind}
 use Rattle.odd_tree.specs.declared.tree.Attr.{Attr}
 use Rattle.odd_tree.specs.declared.tree.Tree.{Tree, out-Tree}
 use Rattle.odd_tree.specs.declared.tree.Node.{Node, Element, Text}

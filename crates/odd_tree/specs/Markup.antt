@@ -1,6 +1,6 @@
 -- The printed text of a tree: the declaration's line, then a line for each tag, and an element that holds a text on one line. An element
 -- without children is an empty tag.
-use Rattle.std.specs.Prelude.{◌≡◌, ℕ, List, [], ◌∷◌, ◌++◌, ◌==◌, if◌then◌else◌, codes}
+use Rattle.std.specs.Prelude.{ℕ, List, [], ◌∷◌, ◌++◌, ◌==◌, if◌then◌else◌, codes}
 use Rattle.std.specs.List.{flat_map}
 
 -- an attribute, or a namespace declaration: its name as written and its value
@@ -49,10 +49,3 @@ abbrev mutual
 -- the declaration's line, and then the tree
 abbrev pub file_printed : Markup → List ℕ
 file_printed m = codes "<?xml version=\"1.0\" encoding=\"UTF-8\"?>\n" ++ printed m
-
--- what printing leaves after want of memory: the old text, and after it a front of what was to be put
-pub record PutsFront (old new whole : List ℕ) : Type 0 where
-  pub front : List ℕ
-  pub rest : List ℕ
-  pub put : new ≡ old ++ front
-  pub parts : whole ≡ front ++ rest

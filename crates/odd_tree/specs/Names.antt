@@ -2,8 +2,8 @@
 use Rattle.std.specs.Prelude.{◌≡◌, ◌≢◌, ◌↔◌, ℕ, ◌&&◌, if◌then◌else◌, List, [], ◌∷◌, ◌++◌, map, filter, Option, Some, None, IsSome, All, codes, unwrap_or, is_none}
 use Rattle.std.specs.Option.{option_map}
 use Rattle.std.specs.Str.{encode_utf8_all}
-use Rattle.odd_base.specs.declared.name.Bind.{Bind}
-use Rattle.odd_base.specs.declared.name.Name.{Name}
+use Rattle.odd_text.specs.declared.name.Bind.{Bind}
+use Rattle.odd_text.specs.declared.name.Name.{Name}
 use Rattle.odd_tokens.specs.Same.{is_same}
 use Rattle.odd_tokens.specs.Values.{value_read}
 use Rattle.odd_tree.specs.declared.tree.Attr.{Attr}

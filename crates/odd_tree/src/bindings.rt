@@ -2,7 +2,7 @@ ghost use Rattle.std.specs.Prelude.{◌≡◌, IfOk};
 ghost use Rattle.std.specs.Option.{option_copied};
 ghost use Rattle.odd_tree.specs.Names.{last_bound};
 
-use odd_base::{NoMemory, Scope, Text, TryCopy};
+use odd_text::{NoMemory, Scope, Text, TryCopy};
 use std::alloc::Global;
 use std::collections::BTreeMap;
 use std::marker::Model;
@@ -17,8 +17,8 @@ pub struct Bindings {
 impl Model for Bindings {
     ghost use Rattle.std.specs.Prelude.{◌≡◌, ℕ, List};
     ghost use Rattle.std.specs.BTreeMap.{get};
-    ghost use Rattle.odd_base.specs.Text.{text_cmp};
-    ghost use Rattle.odd_base.specs.declared.name.Bind.{Bind as ABind};
+    ghost use Rattle.odd_text.specs.Text.{text_cmp};
+    ghost use Rattle.odd_text.specs.declared.name.Bind.{Bind as ABind};
     ghost use Rattle.odd_tree.specs.Names.{last_bound};
 
     ghost Value = { List ABind };

@@ -4,7 +4,7 @@ ghost use Rattle.std.specs.Option.{option_copied};
 ghost use Rattle.odd_tree.specs.Elements.{attribute_value, children_of, elements_of, is_named as the_is_named};
 
 use crate::tree::{Attr, Attrs, Node, Tree};
-use odd_base::Text;
+use odd_text::Text;
 use std::marker::Model;
 
 // Whether an attribute has this local name, and no namespace.

@@ -5,7 +5,7 @@ ghost use Rattle.odd_tree.specs.Elements.{all_binds};
 
 use crate::bindings::Bindings;
 use crate::xml::XML;
-use odd_base::{NoMemory, Text, TryCopy};
+use odd_text::{NoMemory, Text, TryCopy};
 use std::alloc::Global;
 
 /// The declarations in force in an element with these of its own, under those around it, level by level.

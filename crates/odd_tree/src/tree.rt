@@ -1,4 +1,4 @@
-use odd_base::{Name, Scope, Seq, Text};
+use odd_text::{Name, Scope, Seq, Text};
 
 /// An attribute: its name, and its value after references and white space were treated.
 #[derive(Debug, Drop)]

@@ -1,26 +1,55 @@
 -- The text of a plain grammar denotes the grammar.
-use Rattle.std.proofs.Common.{◌≡◌, ℕ, List, [], ◌∷◌, Some, Result, Ok, Err, refl, sym, subst, ◌∙◌}
-use Rattle.std.specs.Prelude.{All, IfOk, codes, unwrap_or}
-use Rattle.odd_base.specs.declared.memory.NoMemory.{NoMemory}
+use Rattle.std.proofs.Common.{◌≡◌, ℕ, true, List, [], ◌∷◌, map, sym, ap, ◌∙◌, Some, Result, Ok, Err, refl, subst}
+use Rattle.std.proofs.lemmas.Bool.{and_parts}
+use Rattle.std.proofs.lemmas.Cmp.{nat_list_cmp_total}
 use Rattle.std.proofs.lemmas.List.Elements.{All-cons}
 use Rattle.std.proofs.lemmas.Option.{same_Some}
+use Rattle.std.specs.Cmp.{tied_itself}
+use Rattle.std.specs.FinMap.{is_sorted}
+use Rattle.std.specs.FinMap.Entries.{below_all}
+use Rattle.std.specs.Ordering.{is_lt}
+use Rattle.std.specs.Prelude.{IsTrue, All, IfOk, codes, unwrap_or}
+use Rattle.std.specs.declared.cmp.Ordering.TheVariants.{Equal}
+use Rattle.odd_printing.proofs.PrintedSpelled.{printed_spells}
+use Rattle.odd_text.specs.Text.{text_cmp}
+use Rattle.odd_text.specs.declared.memory.NoMemory.{NoMemory}
+use Rattle.odd_tokens.proofs.Characters.{Distinct, Lacks, none_twice}
+use Rattle.odd_tokens.specs.Tokens.{NoneTwice}
+use Rattle.odd_tree.proofs.PrintedTrees.{Shows}
 use Rattle.odd_tree.specs.Elements.{given}
 use Rattle.odd_tree.specs.Markup.{Pair, element}
 use Rattle.odd_tree.specs.declared.tree.Tree.{Tree}
-use Rattle.odd_printing.proofs.PrintedSpelled.{printed_spells}
-use Rattle.odd_tree.proofs.PrintedTrees.{Shows}
 use Rattle.rng_patterns.proofs.OneGrammar.{one_denoted}
-use Rattle.rng_patterns.specs.Denoting.{Denotes, DenotesOnly, StandsFor, parts_of}
+use Rattle.rng_patterns.specs.Denoting.{entry_of, Denotes, DenotesOnly, StandsFor, parts_of}
+use Rattle.rng_patterns.specs.Linked.{names_of}
 use Rattle.rng_patterns.specs.Names.{datatype_library, relax_ng_namespace}
+use Rattle.rng_patterns.specs.declared.grammar.Define.{Define}
 use Rattle.rng_patterns.specs.declared.grammar.Grammar.{Grammar}
+use Rattle.rng_emit.proofs.Shapes.{grammar_parts, grammar_plain, grammar_tag, relax_ng_bound}
+use Rattle.rng_emit.proofs.Shown.{AreShown, IsShown, is_part, shown, value_in, Allows, no_attribute, start_shown}
+use Rattle.rng_emit.proofs.ShownBodies.{defines_shown}
 use Rattle.rng_emit.specs.Grammar.{all_of, grammar_text}
 use Rattle.rng_emit.specs.Plain.{IsPlain}
-use Rattle.rng_emit.proofs.Markable.{grammar_parts, grammar_plain}
-use Rattle.rng_emit.proofs.PlainTags.{grammar_tag, relax_ng_bound}
-use Rattle.rng_emit.proofs.Rising.{rising_once}
-use Rattle.rng_emit.proofs.Shown.{AreShown, IsShown, is_part, shown, value_in}
-use Rattle.rng_emit.proofs.ShownBodies.{defines_shown}
-use Rattle.rng_emit.proofs.ShownPatterns.{Allows, no_attribute, start_shown}
+
+-- no name is below itself
+not_below : (name other : List ℕ) → IsTrue (is_lt (text_cmp name other)) → other ≡ name → ⊥
+not_below name other h e =
+    let same : text_cmp name name ≡ Equal = tied_itself nat_list_cmp_total name in
+    let less : is_lt (text_cmp name name) ≡ true = ap (λ n. is_lt (text_cmp name n)) (sym e) ∙ h in
+    cc
+
+-- so a name below all others is none of them
+below_lacks : (name : List ℕ) (ds : List Define) → below_all text_cmp name (map entry_of ds) ≡ true → Lacks name (names_of ds)
+below_lacks name [] h = tt
+below_lacks name (d ∷ ds) h = (not_below name d.name (and_parts _ _ h).0, below_lacks name ds (and_parts _ _ h).1)
+
+-- and no name stands twice
+rising_distinct : (ds : List Define) → IsTrue (is_sorted text_cmp (map entry_of ds)) → Distinct (names_of ds)
+rising_distinct [] h = tt
+rising_distinct (d ∷ ds) h = (below_lacks d.name ds (and_parts _ _ h).0, rising_distinct ds (and_parts _ _ h).1)
+
+pub rising_once : (ds : List Define) → IsTrue (is_sorted text_cmp (map entry_of ds)) → NoneTwice (names_of ds)
+rising_once ds h = none_twice (names_of ds) (rising_distinct ds h)
 
 -- the attribute of the root
 abbrev root_attributes : List Pair

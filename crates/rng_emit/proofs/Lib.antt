@@ -1,10 +1,4 @@
 pub mod Denoted
-pub mod Examples
-pub mod Markable
-pub mod PlainTags
-pub mod Rising
 pub mod Shapes
 pub mod Shown
 pub mod ShownBodies
-pub mod ShownNames
-pub mod ShownPatterns

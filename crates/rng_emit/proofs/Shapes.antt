@@ -1,13 +1,33 @@
--- What the parts of a grammar print to, part by part.
-use Rattle.std.proofs.Common.{◌≡◌, ℕ, Bool, ◌+◌, ◌<◌, false, List, [], ◌∷◌, ◌++◌, length, get_or, take, map, codes, refl, sym, ap, subst, ◌∙◌, append_assoc, rules}
-use Rattle.std.specs.Prelude.{IsTrue}
+-- What the parts of a plain grammar print to: tags whose names and values are of XML.
+use Rattle.std.proofs.Common.{◌≡◌, ℕ, Bool, ◌+◌, ◌<◌, false, List, [], ◌∷◌, ◌++◌, length, get_or, take, map, codes, refl, sym, ap, subst, ◌∙◌, append_assoc, rules, ◌≢◌}
 use Rattle.std.proofs.lemmas.Bool.{false≢true}
 use Rattle.std.proofs.lemmas.List.{append-nil, map_more}
+use Rattle.std.proofs.lemmas.List.Elements.{All-nil, All-cons, All-head, All-tail}
+use Rattle.std.specs.Prelude.{IsTrue, All}
+use Rattle.odd_text.specs.declared.name.Name.{Name}
+use Rattle.odd_tokens.proofs.Ascii.{ascii_name, ascii_ncname, is_ascii_name, ascii_legal, ncname_legal}
+use Rattle.odd_tokens.proofs.Characters.{none_twice}
+use Rattle.odd_tokens.specs.Characters.{IsLegal, IsNCName}
+use Rattle.odd_tokens.specs.Same.{is_same}
+use Rattle.odd_tree.proofs.PrintedTrees.{IsNamespace, IsPlainAttribute, IsPlainTag, ArePlain, IsPlain}
 use Rattle.odd_tree.specs.Markup.{Pair, Markup, element, printed, all_printed, attributes_printed}
+use Rattle.odd_tree.specs.Names.{xml_namespace, xmlns_namespace}
+use Rattle.rng_patterns.specs.Names.{datatype_library, relax_ng_namespace}
+use Rattle.rng_patterns.specs.declared.grammar.AttrPart.{AttrPart}
+use Rattle.rng_patterns.specs.declared.grammar.AttrPart.TheVariants as attributes
+use Rattle.rng_patterns.specs.declared.grammar.Body.{Body}
+use Rattle.rng_patterns.specs.declared.grammar.Body.TheVariants as body
+use Rattle.rng_patterns.specs.declared.grammar.Define.{Define}
 use Rattle.rng_patterns.specs.declared.grammar.Expr as E
-use Rattle.rng_patterns.specs.declared.grammar.Expr.TheVariants as expr
 use Rattle.rng_patterns.specs.declared.grammar.Expr.{Expr}
-use Rattle.rng_emit.specs.Grammar.{all_of, except_markup, named, pattern_markup, plain}
+use Rattle.rng_patterns.specs.declared.grammar.Expr.TheVariants as expr
+use Rattle.rng_patterns.specs.declared.grammar.Grammar.{Grammar}
+use Rattle.rng_patterns.specs.declared.grammar.NameClass.{NameClass}
+use Rattle.rng_patterns.specs.declared.grammar.NameClass.TheVariants as class
+use Rattle.rng_patterns.specs.declared.grammar.NsPart.{NsPart}
+use Rattle.rng_emit.specs.Grammar.{all_of, except_markup, named, pattern_markup, plain, attributes_markup, body_markup, class_markup, define_markup, name_markup, name_pairs, part_markup, parts_markup, space_markup}
+use Rattle.rng_emit.specs.Plain.{IsPlainName, ArePlainAttributes, ArePlainPatterns, IsPlainBody, IsPlainClass, IsPlainDefine, IsPlainPart, IsPlainPattern}
+use Rattle.rng_emit.specs.Plain as is
 
 -- the element of each pattern
 pub empty_is : pattern_markup expr.Empty ≡ plain (codes "empty") []
@@ -140,3 +160,136 @@ printed_more f xs items i x o before after same within is e g =
     both o before after (map f (take i xs)) (f x ∷ []) e (alone before after (f x) g)
     ∙ ap (λ y. o ++ all_printed (all_of (map f (take i xs) ++ f y ∷ []))) (is ∙ ap (λ ys. get_or ys i x) same)
     ∙ ap (λ ms. o ++ all_printed (all_of ms)) (sym (map_more f xs i x inside))
+
+-- a name of ASCII is an NCName
+pub is_name : (name : List ℕ) → IsTrue (is_ascii_name name) → IsNCName name
+is_name name h = (name, ascii_name name h, ascii_ncname name h)
+
+-- the tags: with no attribute, with one, and with a name and a namespace
+
+pub bare_tag : (tag : List ℕ) → IsTrue (is_ascii_name tag) → IsPlainTag tag []
+bare_tag tag h = record { named = is_name tag h; attributed = All-nil IsPlainAttribute; once = none_twice [] tt }
+
+pub one_tag : (tag name value : List ℕ) → IsTrue (is_ascii_name tag) → IsTrue (is_ascii_name name) → name ≢ codes "xmlns" → IsLegal value → IsPlainTag tag ((name, value) ∷ [])
+one_tag tag name value h k apart legal = record {
+  named = is_name tag h;
+  attributed = All-cons IsPlainAttribute (name, value) [] (record { named = is_name name k; apart = apart; legal = legal }) (All-nil IsPlainAttribute);
+  once = none_twice (name ∷ []) (tt, tt);
+}
+
+pub element_tag : (name : Name) → IsPlainName name → IsPlainTag (codes "element") ((codes "name", name.local) ∷ (codes "ns", name.ns) ∷ [])
+element_tag name n = record {
+  named = is_name (codes "element") refl;
+  attributed =
+      All-cons IsPlainAttribute (codes "name", name.local) ((codes "ns", name.ns) ∷ [])
+      (record { named = is_name (codes "name") refl; apart = λ e. cc; legal = ncname_legal name.local n.named })
+      (All-cons IsPlainAttribute (codes "ns", name.ns) [] (record { named = is_name (codes "ns") refl; apart = λ e. cc; legal = n.legal }) (All-nil IsPlainAttribute));
+  once = none_twice (codes "name" ∷ codes "ns" ∷ []) (((λ e. cc), tt), (tt, tt));
+}
+
+pub space_tag : (ns : List ℕ) → IsLegal ns → IsPlainTag (codes "nsName") ((codes "ns", ns) ∷ [])
+space_tag ns legal = one_tag (codes "nsName") (codes "ns") ns refl refl (λ e. cc) legal
+
+-- the tag of the root, and its namespace
+pub grammar_tag : IsPlainTag (codes "grammar") ((codes "datatypeLibrary", datatype_library) ∷ [])
+grammar_tag = one_tag (codes "grammar") (codes "datatypeLibrary") datatype_library refl refl (λ e. cc) (ascii_legal datatype_library refl)
+
+pub relax_ng_bound : IsNamespace relax_ng_namespace
+relax_ng_bound = record {
+  legal = ascii_legal relax_ng_namespace refl;
+  xml = λ e. false≢true (ap (λ ns. is_same ns xml_namespace) e);
+  reserved = λ e. false≢true (ap (λ ns. is_same ns xmlns_namespace) e);
+}
+
+-- lists of elements
+
+both_plain : (ms ns : List Markup) → ArePlain (all_of ms) → ArePlain (all_of ns) → ArePlain (all_of (ms ++ ns))
+both_plain [] ns p q = q
+both_plain (m ∷ ms) ns p q = (p.0, both_plain ms ns p.1 q)
+
+all_plain : {A : Type 0} (P : A → Type 0) (f : A → Markup) → ((x : A) → P x → IsPlain (f x)) → (xs : List A) → All P xs → ArePlain (all_of (map f xs))
+all_plain P f h [] a = tt
+all_plain P f h (x ∷ xs) a = (h x (All-head P x xs a), all_plain P f h xs (All-tail P x xs a))
+
+-- a pattern, by what it is printed to
+by_print : (p : Expr) (m : Markup) → pattern_markup p ≡ m → IsPlain m → IsPlain (pattern_markup p)
+by_print p m e h = subst IsPlain (sym e) h
+
+-- by what a plain pattern is made of
+mutual
+  pattern_plain : (p : Expr) → IsPlainPattern p → IsPlain (pattern_markup p)
+  pattern_plain p is.empty = by_print p _ empty_is (bare_tag (codes "empty") refl, tt)
+  pattern_plain p is.not_allowed = by_print p _ not_allowed_is (bare_tag (codes "notAllowed") refl, tt)
+  pattern_plain p is.text = by_print p _ text_is (bare_tag (codes "text") refl, tt)
+  pattern_plain p (is.reference {name = name} n) = by_print p _ (ref_is name) (one_tag (codes "ref") (codes "name") name refl refl (λ e. cc) (ncname_legal name n), tt)
+  pattern_plain p (is.group first second more a e) =
+      by_print p _ (ap pattern_markup e ∙ group_is (first ∷ second ∷ more)) (bare_tag (codes "group") refl, patterns_plain (first ∷ second ∷ more) a)
+  pattern_plain p (is.choice first second more a e) =
+      by_print p _ (ap pattern_markup e ∙ choice_is (first ∷ second ∷ more)) (bare_tag (codes "choice") refl, patterns_plain (first ∷ second ∷ more) a)
+  pattern_plain p (is.optional part a e) = by_print p _ (ap pattern_markup e ∙ optional_is part) (bare_tag (codes "optional") refl, (pattern_plain part a, tt))
+  pattern_plain p (is.zero_or_more part a e) = by_print p _ (ap pattern_markup e ∙ zero_or_more_is part) (bare_tag (codes "zeroOrMore") refl, (pattern_plain part a, tt))
+  pattern_plain p (is.one_or_more part a e) = by_print p _ (ap pattern_markup e ∙ one_or_more_is part) (bare_tag (codes "oneOrMore") refl, (pattern_plain part a, tt))
+
+  patterns_plain : (ps : List Expr) → ArePlainPatterns ps → ArePlain (all_of (map pattern_markup ps))
+  patterns_plain ps is.none = tt
+  patterns_plain ps (is.more {p = p} {ps = rest} a later) = (pattern_plain p a, patterns_plain rest later)
+
+-- names
+
+name_plain : (n : Name) → IsPlainName n → IsPlain (name_markup n)
+name_plain n p = (one_tag (codes "name") (codes "ns") n.ns refl refl (λ e. cc) p.legal, ncname_legal n.local p.named)
+
+except_plain : (ms : List Markup) → ArePlain (all_of ms) → ArePlain (all_of (except_markup ms))
+except_plain [] p = tt
+except_plain (m ∷ ms) p = ((bare_tag (codes "except") refl, p), tt)
+
+part_plain : (part : NsPart) → IsPlainPart part → IsPlain (part_markup part)
+part_plain part p = (space_tag part.ns p.legal, except_plain (map name_markup part.but) (all_plain IsPlainName name_markup name_plain part.but p.but))
+
+parts_plain : (parts : List NsPart) → All IsPlainPart parts → IsPlain (parts_markup parts)
+parts_plain [] p = (bare_tag (codes "choice") refl, tt)
+parts_plain (part ∷ []) p = part_plain part (All-head IsPlainPart part [] p)
+parts_plain (part ∷ other ∷ parts) p = (bare_tag (codes "choice") refl, all_plain IsPlainPart part_markup part_plain (part ∷ other ∷ parts) p)
+
+class_plain : (names : NameClass) → IsPlainClass names → ArePlain (all_of (class_markup names))
+class_plain (class.One name) p = tt
+class_plain (class.AnyBut spaces names) p =
+    let ms = map space_markup spaces ++ map name_markup names in (
+      (
+        bare_tag (codes "anyName") refl,
+        except_plain ms (both_plain (map space_markup spaces) (map name_markup names)
+            (all_plain IsLegal space_markup (λ ns legal. (space_tag ns legal, tt)) spaces p.0) (all_plain IsPlainName name_markup name_plain names p.1)),
+      ),
+      tt,
+    )
+class_plain (class.Within parts) p = (parts_plain parts p.1, tt)
+
+tag_plain : (names : NameClass) → IsPlainClass names → IsPlainTag (codes "element") (name_pairs names)
+tag_plain (class.One name) p = element_tag name p
+tag_plain (class.AnyBut spaces names) p = bare_tag (codes "element") refl
+tag_plain (class.Within parts) p = bare_tag (codes "element") refl
+
+-- defines
+
+attributes_plain : (attrs : AttrPart) → ArePlainAttributes attrs → ArePlain (all_of (attributes_markup attrs))
+attributes_plain attributes.AnyAttributes p = ((bare_tag (codes "zeroOrMore") refl, ((bare_tag (codes "attribute") refl, ((bare_tag (codes "anyName") refl, tt), tt)), tt)), tt)
+attributes_plain (attributes.Listed rules) p = subst (λ rs. ArePlain (all_of (attributes_markup (attributes.Listed rs)))) (sym p) tt
+
+body_plain : (b : Body) → IsPlainBody b → IsPlain (body_markup b)
+body_plain (body.Element names attrs content) p = (
+  tag_plain names p.0,
+  both_plain (class_markup names ++ attributes_markup attrs) (pattern_markup content ∷ [])
+      (both_plain (class_markup names) (attributes_markup attrs) (class_plain names p.0) (attributes_plain attrs p.1)) (pattern_plain content p.2, tt),
+)
+body_plain (body.Part p) q = pattern_plain p q
+
+define_plain : (d : Define) → IsPlainDefine d → IsPlain (define_markup d)
+define_plain d p = (one_tag (codes "define") (codes "name") d.name refl refl (λ e. cc) (ncname_legal d.name p.named), (body_plain d.body p.body, tt))
+
+-- the start and the defines
+abbrev pub grammar_parts : Grammar → List Markup
+grammar_parts g = plain (codes "start") (pattern_markup g.start ∷ []) ∷ map define_markup g.defines
+
+-- the elements inside the root
+pub grammar_plain : (g : Grammar) → is.IsPlain g → ArePlain (all_of (grammar_parts g))
+grammar_plain g p = ((bare_tag (codes "start") refl, (pattern_plain g.start p.start, tt)), all_plain IsPlainDefine define_markup define_plain g.defines p.defines)

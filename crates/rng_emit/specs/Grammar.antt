@@ -1,6 +1,6 @@
 -- The text of a grammar as a RELAX NG schema in XML syntax.
 use Rattle.std.specs.Prelude.{ℕ, List, [], ◌∷◌, ◌++◌, map, codes}
-use Rattle.odd_base.specs.declared.name.Name.{Name}
+use Rattle.odd_text.specs.declared.name.Name.{Name}
 use Rattle.odd_tree.specs.Markup.{Markup, Markups, Pair, element, line, none, more, file_printed}
 use Rattle.rng_values.specs.declared.data_type.DataType.TheVariants as kind
 use Rattle.rng_values.specs.declared.data_type.DataType.{DataType}

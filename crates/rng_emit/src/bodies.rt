@@ -7,8 +7,8 @@ ghost use Rattle.rng_emit.specs.Grammar.{all_of, any_attributes, attribute_marku
 use crate::names::{add_names, begin_element};
 use crate::patterns::add_pattern;
 use crate::tags::{add_empty_tag, add_start_tag, begin_tag_with};
-use odd_base::{Name, NoMemory, Text};
 use odd_printing::{add_attribute, add_end_tag, end_start_tag};
+use odd_text::{Name, NoMemory, Text};
 use rng_patterns::{AttrPart, AttrRule, Body, Define, Defines, Expr, NameClass, Rules};
 
 /// Puts the defines of a grammar.

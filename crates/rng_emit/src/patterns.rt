@@ -4,8 +4,8 @@ ghost use Rattle.rng_emit.specs.Grammar.{all_of, named, pattern_markup, plain};
 
 use crate::tags::{add_empty_tag, add_start_tag, begin_tag_with};
 use crate::values::{add_data, add_value};
-use odd_base::{NoMemory, Text};
 use odd_printing::{add_end_tag, end_empty_tag};
+use odd_text::{NoMemory, Text};
 use rng_patterns::{Expr, Exprs};
 
 /// Puts a pattern as the element of its name.

@@ -7,8 +7,8 @@ ghost use Rattle.rng_emit.specs.Plain.{IsPlain};
 use crate::bodies::add_defines;
 use crate::patterns::add_pattern;
 use crate::tags::{add_start_tag, begin_tag_with};
-use odd_base::{NoMemory, Text};
 use odd_printing::{add_attribute, add_declaration, add_end_tag, end_start_tag};
+use odd_text::{NoMemory, Text};
 use rng_patterns::{Expr, Grammar};
 use std::alloc::Global;
 

@@ -2,10 +2,10 @@ ghost use Rattle.std.specs.Prelude.{◌≡◌, ℕ, List, [], ◌∷◌, ◌++�
 ghost use Rattle.odd_tree.specs.Markup.{Pair, attributes_printed, line, printed};
 ghost use Rattle.rng_emit.specs.Grammar.{plain};
 
-use odd_base::{NoMemory, Text};
 use odd_printing::{
     add_attribute, add_end_tag, add_escaped_text, begin_tag, end_empty_tag, end_start_tag,
 };
+use odd_text::{NoMemory, Text};
 
 /// Puts an element without attributes and without anything in it.
 pub fn add_empty_tag(out: &mut Text, name: &str) -> Result<(), NoMemory>

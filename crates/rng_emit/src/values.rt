@@ -3,8 +3,8 @@ ghost use Rattle.odd_tree.specs.Markup.{all_printed, element, line, printed};
 ghost use Rattle.rng_emit.specs.Grammar.{all_of, facet_name, param_markup, type_name};
 
 use crate::tags::{begin_tag_with, end_line};
-use odd_base::{NoMemory, Text};
 use odd_printing::{add_end_tag, begin_tag, end_empty_tag, end_start_tag};
+use odd_text::{NoMemory, Text};
 use rng_values::{DataType, Facet, FacetName, Facets};
 
 /// The name of a datatype of XML Schema. ID and IDREF are written as NCName.

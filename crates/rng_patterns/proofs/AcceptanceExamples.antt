@@ -2,14 +2,14 @@
 use Rattle.std.proofs.Common.{◌≡◌, false, true, ◌||◌, [], ◌∷◌, inl, inr, refl, sym, ap, subst, codes, rules}
 use Rattle.std.specs.Prelude.{filter, not}
 use Rattle.std.proofs.lemmas.List.Elements.{All-nil}
-use Rattle.odd_base.specs.declared.name.Name.{Name}
+use Rattle.odd_text.specs.declared.name.Name.{Name}
 use Rattle.odd_tree.proofs.InList.{first_or_later, only_item}
 use Rattle.odd_tree.specs.Significant.{IsSignificant, beside_elements, depth, is_blank, is_element, whole}
 use Rattle.odd_tree.specs.declared.tree.Node as N
 use Rattle.odd_tree.specs.declared.tree.Node.{Element}
 use Rattle.odd_tree.specs.declared.tree.Tree as T
 use Rattle.odd_tree.specs.declared.tree.Tree.{Tree}
-use Rattle.rng_patterns.proofs.Told.{ref_shown, told}
+use Rattle.rng_patterns.proofs.OnePattern.{ref_shown, told}
 use Rattle.rng_patterns.specs.Acceptance.{Accepts, IsAcceptedBy, IsAcceptedWithin, IsInClass}
 use Rattle.rng_patterns.specs.Patterns as patterns
 use Rattle.rng_patterns.specs.Patterns.{IsDefined, IsMatched}
@@ -25,7 +25,7 @@ use Rattle.rng_patterns.specs.declared.grammar.Grammar.{Grammar}
 use Rattle.rng_patterns.specs.declared.grammar.NameClass.TheVariants as class
 use Rattle.rng_patterns.specs.declared.grammar.NameClass.{NameClass}
 use Rattle.rng_patterns.proofs.ClassExamples.{in_none}
-use Rattle.odd_tree.proofs.SameTexts.{apart}
+use Rattle.odd_tree.proofs.PrintedTrees.{apart}
 use Rattle.rng_patterns.proofs.Examples.{b, define, plain, ref_a, ref_b, same_element}
 
 -- acceptance: an `a` holds one `b` at least

@@ -1,14 +1,14 @@
 -- What an element of a schema may have: attributes, texts, elements of other namespaces, name classes. Small cases on both sides.
 use Rattle.std.proofs.Common.{◌≡◌, ℕ, List, [], ◌∷◌, codes, refl, sym, subst, rules}
 use Rattle.std.proofs.lemmas.List.Elements.{All-cons, All-head, All-nil}
-use Rattle.odd_base.specs.declared.name.Name.{Name}
+use Rattle.odd_text.specs.declared.name.Name.{Name}
 use Rattle.odd_tree.proofs.InList.{nothing_stands, stands_first}
 use Rattle.odd_tree.specs.Elements.{StandsIn}
 use Rattle.odd_tree.specs.declared.tree.Attr.{Attr}
 use Rattle.odd_tree.specs.declared.tree.Node as N
 use Rattle.odd_tree.specs.declared.tree.Node.{Node, Element, Text}
 use Rattle.odd_tree.specs.declared.tree.Tree.{Tree, roll-Tree}
-use Rattle.odd_tree.proofs.SameTexts.{apart}
+use Rattle.odd_tree.proofs.PrintedTrees.{apart}
 use Rattle.odd_tokens.proofs.Ascii.{is_name}
 use Rattle.rng_patterns.proofs.NoSchemaExamples.{attribute}
 use Rattle.rng_patterns.proofs.OnePattern.{two_names}

@@ -1,12 +1,11 @@
 -- What references and choices match: small cases on both sides.
 use Rattle.std.proofs.Common.{◌≡◌, ℕ, false, List, [], ◌∷◌, inl, inr, refl, sym, ap, subst, ◌∙◌, codes}
-use Rattle.odd_tree.proofs.AmongChildren.{element_shown}
-use Rattle.odd_tree.proofs.InList.{first_or_later, only_item}
+use Rattle.odd_tree.proofs.InList.{element_shown, first_or_later, only_item}
 use Rattle.odd_tree.specs.Significant.{Marking}
 use Rattle.odd_tree.specs.declared.tree.Node.{Node, Element}
 use Rattle.odd_tree.specs.declared.tree.Tree.{Tree, out-Tree, roll-Tree}
 use Rattle.odd_tokens.specs.Same.{is_same}
-use Rattle.rng_patterns.proofs.Told.{ref_shown, choice_shown, told}
+use Rattle.rng_patterns.proofs.OnePattern.{ref_shown, choice_shown, told}
 use Rattle.rng_patterns.specs.Patterns as patterns
 use Rattle.rng_patterns.specs.Patterns.{IsDefined, IsMatched}
 use Rattle.rng_patterns.specs.declared.grammar.AttrPart.TheVariants as attributes
@@ -17,7 +16,7 @@ use Rattle.rng_patterns.specs.declared.grammar.Expr.TheVariants as expr
 use Rattle.rng_patterns.specs.declared.grammar.Expr.{Expr, out-Expr}
 use Rattle.rng_patterns.specs.declared.grammar.Grammar.{Grammar}
 use Rattle.rng_patterns.specs.declared.grammar.NameClass.TheVariants as class
-use Rattle.odd_tree.proofs.SameTexts.{apart}
+use Rattle.odd_tree.proofs.PrintedTrees.{apart}
 
 -- trees and grammars
 

@@ -4,12 +4,9 @@ pub mod ElementExamples
 pub mod Examples
 pub mod LinkedExamples
 pub mod NoSchemaExamples
-pub mod NodeExamples
-pub mod OneElement
 pub mod OneGrammar
 pub mod OnePattern
 pub mod RepeatExamples
 pub mod RuleExamples
 pub mod SchemaExamples
 pub mod SchemaTrees
-pub mod Told

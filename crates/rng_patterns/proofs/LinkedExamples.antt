@@ -1,13 +1,13 @@
 -- References of a schema: one without a define, and defines that lead back to themselves.
 use Rattle.std.proofs.Common.{◌≡◌, ℕ, List, [], ◌∷◌, map, None, refl, sym, ap, subst, ◌∙◌, codes}
 use Rattle.std.specs.FinMap.{find}
-use Rattle.odd_base.specs.Text.{text_cmp}
+use Rattle.odd_text.specs.Text.{text_cmp}
 use Rattle.odd_tree.proofs.InList.{nothing_stands, only_item, stands_first}
-use Rattle.odd_reader.proofs.Spelling.{one_tree}
+use Rattle.odd_reader.proofs.Refusing.{one_tree}
 use Rattle.odd_tree.specs.Elements.{StandsIn}
 use Rattle.odd_tree.specs.Spelled.{Spells}
 use Rattle.odd_tree.specs.declared.tree.Tree.{Tree}
-use Rattle.odd_tokens.proofs.Distinct.{none_twice}
+use Rattle.odd_tokens.proofs.Characters.{none_twice}
 use Rattle.rng_patterns.proofs.OneGrammar.{Says, one_order, said, said_once}
 use Rattle.rng_patterns.proofs.SchemaExamples.{not_given, only_ref}
 use Rattle.rng_patterns.proofs.SchemaTrees.{bare_part, define, define_is, element, element_body, element_is, one_pattern, parts_are, ref, ref_is, rng, start, start_is}

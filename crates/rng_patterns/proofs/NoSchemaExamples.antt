@@ -5,7 +5,7 @@ use Rattle.odd_tree.proofs.InList.{first_or_later, only_item}
 use Rattle.odd_tree.specs.Elements.{StandsIn}
 use Rattle.odd_tree.specs.declared.tree.Attr.{Attr}
 use Rattle.odd_tree.specs.declared.tree.Tree.{Tree, out-Tree}
-use Rattle.odd_tree.proofs.SameTexts.{apart}
+use Rattle.odd_tree.proofs.PrintedTrees.{apart}
 use Rattle.odd_tokens.proofs.Ascii.{is_name}
 use Rattle.rng_patterns.proofs.SchemaTrees.{element, empty, parts_are, rng, start}
 use Rattle.rng_patterns.specs.Denoting as denoting

@@ -1,22 +1,148 @@
--- A tree stands for one grammar, and bytes denote one.
-use Rattle.std.proofs.Common.{◌≡◌, ℕ, List, [], ◌∷◌, ◌++◌, map, codes, unwrap_or, refl, sym, ap, subst, ◌∙◌}
+-- An element of a schema, a tree and bytes stand for one thing.
+use Rattle.std.proofs.Common.{◌≡◌, ℕ, List, [], ◌∷◌, codes, unwrap_or, refl, sym, ap, subst, ◌∙◌, rules, ◌++◌, map}
 use Rattle.std.proofs.lemmas.Cmp.{nat_list_cmp_total}
-use Rattle.std.specs.Prelude.{IsTrue}
 use Rattle.std.specs.FinMap.{find, is_sorted, slice_cmp-IsAntisymmetric, nat_cmp-IsAntisymmetric}
-use Rattle.odd_base.specs.Text.{text_cmp}
-use Rattle.odd_base.proofs.Entries.{same_map}
-use Rattle.odd_reader.proofs.Spelling.{one_tree}
+use Rattle.std.specs.Prelude.{IsTrue}
+use Rattle.odd_reader.proofs.Refusing.{one_tree}
+use Rattle.odd_text.proofs.Entries.{same_map}
+use Rattle.odd_text.specs.Text.{text_cmp}
+use Rattle.odd_text.specs.declared.name.Name.{Name}
 use Rattle.odd_tree.specs.Elements.{given}
+use Rattle.odd_tree.specs.declared.tree.Node.{Node, Node-F, out-Node, Text}
+use Rattle.odd_tree.specs.declared.tree.Node as N
+use Rattle.odd_tree.specs.declared.tree.Node.TheOpen as shown
 use Rattle.odd_tree.specs.declared.tree.Tree.{Tree}
-use Rattle.rng_patterns.specs.Denoting.{AreDefines, Denotes, IsBody, IsDefine, IsPattern, IsStart, StandsFor, entry_of, parts_of}
+use Rattle.rng_patterns.proofs.OnePattern.{no_pattern, one_given, one_together, first_pattern, pattern_inside, two_names, one_pattern}
+use Rattle.rng_patterns.specs.Denoting.{AreExcepted, AreOnePattern, AreSpaceParts, HasAttributes, HasExcept, HasNames, IsAnyAttributes, IsElementOf, IsNameClass, IsNameOf, IsPattern, IsSpacePart, parts_of, AreDefines, Denotes, IsBody, IsDefine, IsStart, StandsFor, entry_of}
 use Rattle.rng_patterns.specs.Denoting as denoting
+use Rattle.rng_patterns.specs.declared.grammar.AttrPart.{AttrPart}
 use Rattle.rng_patterns.specs.declared.grammar.Body.{Body}
 use Rattle.rng_patterns.specs.declared.grammar.Body.TheVariants as body
 use Rattle.rng_patterns.specs.declared.grammar.Define.{Define}
 use Rattle.rng_patterns.specs.declared.grammar.Expr.{Expr}
 use Rattle.rng_patterns.specs.declared.grammar.Grammar.{Grammar}
-use Rattle.rng_patterns.proofs.OnePattern.{one_given, one_pattern, one_together, two_names}
-use Rattle.rng_patterns.proofs.OneElement.{no_element, one_element}
+use Rattle.rng_patterns.specs.declared.grammar.NameClass.{NameClass}
+use Rattle.rng_patterns.specs.declared.grammar.NameClass.TheVariants as class
+use Rattle.rng_patterns.specs.declared.grammar.NsPart.{NsPart}
+
+-- the text of a node
+abbrev shown_text : Node-F Node Tree → List ℕ
+shown_text (shown.Element t) = []
+shown_text (shown.Text text) = text
+
+-- a text shows itself
+text_is_shown : (text : List ℕ) → shown_text (out-Node (Text text)) ≡ text
+text_is_shown text = search (rules, N.the_lemmas)
+
+-- one child alone that is a text has one text
+same_text : (a b : List ℕ) → Text a ∷ [] ≡ Text b ∷ [] → a ≡ b
+same_text a b e = let child : Text a ≡ Text b = cc in sym (text_is_shown a) ∙ ap (λ n. shown_text (out-Node n)) child ∙ text_is_shown b
+
+module _ (default : List ℕ) where
+  -- a `name` is one name
+  one_name_of : (t : Tree) (n m : Name) → IsNameOf default t n → IsNameOf default t m → n ≡ m
+  one_name_of t n m h k =
+      let spaces : n.ns ≡ m.ns = h.space ∙ sym k.space in
+      let locals : n.local ≡ m.local = same_text n.local m.local (sym h.written ∙ k.written) in
+      λ i. record { ns = spaces i; local = locals i }
+
+  -- what an `except` leaves out
+  record IsSameExcept (spaces others : List (List ℕ)) (names more : List Name) : Type 0 where
+    same_spaces : spaces ≡ others
+    same_names : names ≡ more
+
+  -- what stands in an `except` leaves out one thing
+  one_excepted : (ts : List Tree) (s r : List (List ℕ)) (n m : List Name) → AreExcepted default ts s n → AreExcepted default ts r m → IsSameExcept s r n m
+  one_excepted ts s r n m denoting.none denoting.none = record { same_spaces = refl; same_names = refl }
+  one_excepted ts s r n m (denoting.space h hs) (denoting.space k ks) =
+      let rest = one_excepted _ _ _ _ _ hs ks in
+      record { same_spaces = λ i. (h.is ∙ sym k.is) i ∷ rest.same_spaces i; same_names = rest.same_names }
+  one_excepted ts s r n m (denoting.space h hs) (denoting.name k ks) = two_names _ _ _ _ _ refl h.is_leaf.is_part.is_named k.is_named
+  one_excepted ts s r n m (denoting.name h hs) (denoting.space k ks) = two_names _ _ _ _ _ refl h.is_named k.is_leaf.is_part.is_named
+  one_excepted ts s r n m (denoting.name h hs) (denoting.name k ks) =
+      let rest = one_excepted _ _ _ _ _ hs ks in
+      record { same_spaces = rest.same_spaces; same_names = λ i. one_name_of _ _ _ h k i ∷ rest.same_names i }
+
+  -- and so does one `except`, or none
+  one_except : (ts : List Tree) (s r : List (List ℕ)) (n m : List Name) → HasExcept default ts s n → HasExcept default ts r m → IsSameExcept s r n m
+  one_except ts s r n m denoting.none denoting.none = record { same_spaces = refl; same_names = refl }
+  one_except ts s r n m (denoting.one h e hs) (denoting.one k f ks) = one_excepted _ s r n m (subst (λ us. AreExcepted default us s n) (sym e ∙ f) hs) ks
+
+module _ (default : List ℕ) where
+  -- a `nsName` is one part
+  one_part : (t : Tree) (p q : NsPart) → IsSpacePart default t p → IsSpacePart default t q → p ≡ q
+  one_part t p q h k =
+      let spaces : p.ns ≡ q.ns = h.space ∙ sym k.space in
+      let same = one_except p.ns (parts_of t) [] [] p.but q.but h.but (subst (λ ns. HasExcept ns (parts_of t) [] q.but) (sym spaces) k.but) in
+      λ i. record { ns = spaces i; but = same.same_names i }
+
+  -- several are one list of parts
+  one_parts : (ts : List Tree) (ps qs : List NsPart) → AreSpaceParts default ts ps → AreSpaceParts default ts qs → ps ≡ qs
+  one_parts ts ps qs denoting.none denoting.none = refl
+  one_parts ts ps qs (denoting.more h hs) (denoting.more k ks) = λ i. one_part _ _ _ h k i ∷ one_parts _ _ _ hs ks i
+
+  -- an element is one name class
+  one_class : (t : Tree) (n m : NameClass) → IsNameClass default t n → IsNameClass default t m → n ≡ m
+  one_class t n m (denoting.any h but) (denoting.any k other) = let same = one_except default _ _ _ _ _ but other in λ i. class.AnyBut (same.same_spaces i) (same.same_names i)
+  one_class t n m (denoting.any h but) (denoting.space k) = two_names _ _ _ _ _ refl h.is_named k.is_part.is_named
+  one_class t n m (denoting.any h but) (denoting.spaces k ks) = two_names _ _ _ _ _ refl h.is_named k.is_named
+  one_class t n m (denoting.space h) (denoting.any k other) = two_names _ _ _ _ _ refl h.is_part.is_named k.is_named
+  one_class t n m (denoting.space h) (denoting.space k) = λ i. class.Within (one_part t _ _ h k i ∷ [])
+  one_class t n m (denoting.space h) (denoting.spaces k ks) = two_names _ _ _ _ _ refl h.is_part.is_named k.is_named
+  one_class t n m (denoting.spaces h hs) (denoting.any k other) = two_names _ _ _ _ _ refl h.is_named k.is_named
+  one_class t n m (denoting.spaces h hs) (denoting.space k) = two_names _ _ _ _ _ refl h.is_named k.is_part.is_named
+  one_class t n m (denoting.spaces h hs) (denoting.spaces k ks) = ap class.Within (one_parts _ _ _ hs ks)
+
+  -- the names of an element, and what is left
+  record IsSameNames (n m : NameClass) (ts us : List Tree) : Type 0 where
+    same_class : n ≡ m
+    same_rest : ts ≡ us
+
+  -- an element has one name class by its `name` or its first part
+  one_names : (t : Tree) (n m : NameClass) (ts us : List Tree) → HasNames default t n ts → HasNames default t m us → IsSameNames n m ts us
+  one_names t n m ts us (denoting.by_name h) (denoting.by_name k) =
+      let same = one_given t _ _ h k in
+      record { same_class = λ i. class.One (record { ns = unwrap_or (given t (codes "ns")) default; local = same i }); same_rest = refl }
+  one_names t n m ts us (denoting.by_name h) (denoting.by_part no_name no_space e k) = let f = sym h.is_given ∙ no_name in cc
+  one_names t n m ts us (denoting.by_part no_name no_space e h) (denoting.by_name k) = let f = sym no_name ∙ k.is_given in cc
+  one_names t n m ts us (denoting.by_part {part = part} no_name no_space e h) (denoting.by_part {part = other} no_more no_other f k) =
+      let both = sym e ∙ f in
+      let first : part ≡ other = cc in
+      let rest : ts ≡ us = cc in
+      record { same_class = one_class other n m (subst (λ u. IsNameClass default u n) first h) k; same_rest = rest }
+
+-- an attribute is no pattern of content, and so what stands for any attributes is none
+no_content : (t : Tree) (p : Expr) → IsAnyAttributes t → IsPattern t p → ⊥
+no_content t p h k =
+    let inside = pattern_inside t h.attribute [] p h.alone k in
+    no_pattern h.attribute inside.0 (codes "attribute") h.is_attribute.is_named.named (λ parts. refl) inside.1
+
+-- the attributes of an element, and what is left
+record IsSameAttributes (a b : AttrPart) (ts us : List Tree) : Type 0 where
+  same_attributes : a ≡ b
+  same_inside : ts ≡ us
+
+-- before a content stands one pattern of attributes
+one_attributes : (all ts us : List Tree) (a b : AttrPart) (p q : Expr) → HasAttributes all a ts → HasAttributes all b us → AreOnePattern ts p → AreOnePattern us q → IsSameAttributes a b ts us
+one_attributes all ts us a b p q denoting.none denoting.none f g = record { same_attributes = refl; same_inside = refl }
+one_attributes all ts us a b p q denoting.none (denoting.any k) f g = let first = first_pattern _ _ _ _ refl f.are in absurd (no_content _ first.0 k first.1)
+one_attributes all ts us a b p q (denoting.any h) denoting.none f g = let first = first_pattern _ _ _ _ refl g.are in absurd (no_content _ first.0 h first.1)
+one_attributes all ts us a b p q (denoting.any h) (denoting.any k) f g = record { same_attributes = refl; same_inside = refl }
+
+-- an `element` is one body
+pub one_element : (default : List ℕ) (t : Tree) (b c : Body) → IsElementOf default t b → IsElementOf default t c → b ≡ c
+one_element default t b c h k =
+    let names = one_names default t h.names k.names h.after_names k.after_names h.has_names k.has_names in
+    let left : HasAttributes k.after_names h.attrs h.inside = subst (λ ts. HasAttributes ts h.attrs h.inside) names.same_rest h.has_attributes in
+    let attributes = one_attributes k.after_names h.inside k.inside h.attrs k.attrs h.content k.content left k.has_attributes h.holds k.holds in
+    let contents : h.content ≡ k.content = one_together k.inside h.content k.content (subst (λ ts. AreOnePattern ts h.content) attributes.same_inside h.holds) k.holds in
+    h.body_is ∙ (λ i. body.Element (names.same_class i) (attributes.same_attributes i) (contents i)) ∙ sym k.body_is
+
+-- an `element` is no pattern of content
+pub no_element : {R : Type 0} (default : List ℕ) (t : Tree) (b : Body) (p : Expr) → IsElementOf default t b → AreOnePattern (t ∷ []) p → R
+no_element default t b p h k =
+    let first = first_pattern (t ∷ []) t [] (k.first ∷ k.more) refl k.are in
+    absurd (no_pattern t first.0 (codes "element") h.is_part.is_named.named (λ parts. refl) first.1)
 
 -- what a `define` holds is one body
 one_body : (default : List ℕ) (ts : List Tree) (b c : Body) → IsBody default ts b → IsBody default ts c → b ≡ c

@@ -4,7 +4,7 @@ use Rattle.odd_tokens.specs.Same.{is_same}
 use Rattle.odd_tree.specs.declared.tree.Node.{Node, Element}
 use Rattle.odd_tree.specs.declared.tree.Tree.{Tree}
 use Rattle.rng_patterns.proofs.Examples.{Matches, a, a_matched, b, b_matched, b_not_a, by_name, one_alone, other_name, ref_a, ref_b, sample, two_not_a}
-use Rattle.rng_patterns.proofs.Told.{group_shown, one_or_more_shown, optional_shown, told, zero_or_more_shown}
+use Rattle.rng_patterns.proofs.OnePattern.{group_shown, one_or_more_shown, optional_shown, told, zero_or_more_shown}
 use Rattle.rng_patterns.specs.Patterns as patterns
 use Rattle.rng_patterns.specs.Patterns.{AreMatched, IsRepeated}
 use Rattle.rng_patterns.specs.declared.grammar.Expr.TheOpen as shape

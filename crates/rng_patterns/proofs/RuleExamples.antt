@@ -3,14 +3,14 @@ use Rattle.std.proofs.Common.{ℕ, Bool, true, false, ◌≡◌, ◌||◌, List,
 use Rattle.std.specs.Prelude.{IsTrue}
 use Rattle.std.proofs.lemmas.Bool.{false≢true}
 use Rattle.std.proofs.lemmas.List.Elements.{All-nil, All-cons, All-head}
-use Rattle.odd_base.specs.declared.name.Name.{Name}
+use Rattle.odd_text.specs.declared.name.Name.{Name}
 use Rattle.odd_tree.proofs.InList.{nothing_stands, only_item, stands_first, stands_later}
 use Rattle.odd_tree.specs.Significant.{Marking, is_element}
 use Rattle.odd_tree.specs.declared.tree.Attr.{Attr}
 use Rattle.odd_tree.specs.declared.tree.Node as N
 use Rattle.odd_tree.specs.declared.tree.Node.{Node, Text}
-use Rattle.odd_tree.proofs.SameTexts.{apart}
-use Rattle.rng_patterns.proofs.Told.{told}
+use Rattle.odd_tree.proofs.PrintedTrees.{apart}
+use Rattle.rng_patterns.proofs.OnePattern.{told}
 use Rattle.rng_patterns.specs.Acceptance.{AreMatched, AreRuled, HasRule, IsThere}
 use Rattle.rng_patterns.specs.Patterns as patterns
 use Rattle.rng_patterns.specs.Patterns.{IsMatched}

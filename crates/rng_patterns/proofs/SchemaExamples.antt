@@ -3,13 +3,13 @@ use Rattle.std.proofs.Common.{◌≡◌, ℕ, Bool, true, false, cond, List, [],
 use Rattle.std.specs.FinMap.{find, slice_cmp-IsAntisymmetric, nat_cmp-IsAntisymmetric}
 use Rattle.std.specs.Ordering.{eq_by_cmp}
 use Rattle.std.proofs.lemmas.Map.Views.{tells_apart}
-use Rattle.odd_base.specs.Text.{text_cmp}
+use Rattle.odd_text.specs.Text.{text_cmp}
 use Rattle.odd_tree.proofs.InList.{first_or_later, nothing_stands, only_item, stands_first, stands_later}
 use Rattle.odd_tree.specs.Elements.{StandsIn}
 use Rattle.odd_tree.specs.declared.tree.Tree.{Tree}
-use Rattle.odd_tokens.proofs.Distinct.{none_twice}
-use Rattle.odd_tree.proofs.SameTexts.{apart}
-use Rattle.rng_patterns.proofs.Told.{empty_shown, group_shown, optional_shown, ref_shown, refers, text_shown}
+use Rattle.odd_tokens.proofs.Characters.{none_twice}
+use Rattle.odd_tree.proofs.PrintedTrees.{apart}
+use Rattle.rng_patterns.proofs.OnePattern.{empty_shown, group_shown, optional_shown, ref_shown, refers, text_shown}
 use Rattle.rng_patterns.specs.Denoting as denoting
 use Rattle.rng_patterns.specs.Denoting.{IsPattern, StandsFor, entry_of}
 use Rattle.rng_patterns.specs.Linked as linked

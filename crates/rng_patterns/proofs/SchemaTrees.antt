@@ -3,8 +3,7 @@ use Rattle.std.proofs.Common.{◌≡◌, ℕ, Bool, true, ◌||◌, cond, List, 
 use Rattle.std.specs.List.{list_all}
 use Rattle.std.proofs.lemmas.Bool.{and_parts}
 use Rattle.std.proofs.lemmas.List.Elements.{All-cons, All-nil}
-use Rattle.odd_tree.proofs.AmongChildren.{element_shown}
-use Rattle.odd_tree.proofs.InList.{stands_first}
+use Rattle.odd_tree.proofs.InList.{element_shown, stands_first}
 use Rattle.odd_tree.specs.Elements.{StandsIn, elements_of}
 use Rattle.odd_tree.specs.Significant.{is_blank, is_element}
 use Rattle.odd_tree.specs.declared.tree.Attr.{Attr}

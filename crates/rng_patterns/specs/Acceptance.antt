@@ -1,6 +1,6 @@
 -- Which documents a grammar accepts (ISO/IEC 19757-2, section 9). No library is spoken of.
 use Rattle.std.specs.Prelude.{◌≡◌, ℕ, zero, suc, List, [], ◌∷◌, IsTrue, All}
-use Rattle.odd_base.specs.declared.name.Name.{Name}
+use Rattle.odd_text.specs.declared.name.Name.{Name}
 use Rattle.odd_tree.specs.Elements.{StandsIn}
 use Rattle.odd_tree.specs.Significant.{IsSignificant, Marking, depth}
 use Rattle.odd_tree.specs.declared.tree.Attr.{Attr}

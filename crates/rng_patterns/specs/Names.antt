@@ -1,6 +1,6 @@
 -- The namespace of RELAX NG, and the datatype library of XML Schema.
 use Rattle.std.specs.Prelude.{ℕ, List, codes}
-use Rattle.odd_base.specs.declared.name.Name.{Name}
+use Rattle.odd_text.specs.declared.name.Name.{Name}
 
 abbrev pub relax_ng_namespace : List ℕ
 relax_ng_namespace = codes "http://relaxng.org/ns/structure/1.0"

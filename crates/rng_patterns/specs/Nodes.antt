@@ -1,7 +1,7 @@
 -- How many nodes a grammar has after linking, when each reference to a define that holds no `element` stands for what that define has.
 use Rattle.std.specs.Prelude.{ℕ, zero, suc, ◌+◌, List, map, length, sum, sum_by, Option, Some, None}
 use Rattle.std.specs.FinMap.{find}
-use Rattle.odd_base.specs.Text.{text_cmp}
+use Rattle.odd_text.specs.Text.{text_cmp}
 use Rattle.rng_patterns.specs.Denoting.{entry_of}
 use Rattle.rng_patterns.specs.declared.grammar.AttrPart.TheVariants as attributes
 use Rattle.rng_patterns.specs.declared.grammar.AttrPart.{AttrPart}

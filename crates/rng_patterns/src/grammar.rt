@@ -1,6 +1,6 @@
 ghost use Rattle.std.specs.Prelude.{◌≡◌, IfOk};
 
-use odd_base::{Name, Names, NoMemory, Seq, Text, TryCopy, Words};
+use odd_text::{Name, Names, NoMemory, Seq, Text, TryCopy, Words};
 use rng_values::{DataType, Facets};
 use sqlite_items::Boxed;
 use std::alloc::Global;

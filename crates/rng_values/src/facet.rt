@@ -1,4 +1,4 @@
-use odd_base::{NoMemory, Seq, Text, TryCopy};
+use odd_text::{NoMemory, Seq, Text, TryCopy};
 use std::alloc::Global;
 
 /// The name of a facet of XML Schema, Part 2 (section 4.3), in the order of the names.

@@ -1,6 +1,6 @@
 use crate::data_type::DataType;
 use crate::facet::Facets;
-use odd_base::{NoMemory, Text, TryCopy};
+use odd_text::{NoMemory, Text, TryCopy};
 use std::alloc::Global;
 
 /// What one value is tested by: the datatype of a key, or a datatype of XML Schema with facets.

@@ -1,4 +1,4 @@
-use odd_base::{NoMemory, TryCopy, Words};
+use odd_text::{NoMemory, TryCopy, Words};
 use std::alloc::Global;
 
 /// Whether a list of values admits no others, suggests its values where others may stand too, or only shows examples.

@@ -1,6 +1,6 @@
 use Rattle.std.proofs.Common.{◌≡◌, ◌++◌, OnOk, sym, ap, subst, ◌∙◌}
 use Rattle.compile_contents.specs.Conditions.{conditions_in}
-use Rattle.compile_contents.proofs.ContentParts.{alternate_conditions, sequence_conditions}
+use Rattle.compile_contents.proofs.Collected.{alternate_conditions, sequence_conditions}
 use Rattle.compile_contents.proofs.conditions.+add_conditions.Goals as goal
 
 pub add_conditions-returns-in-Sequence : goal.add_conditions-returns-in-Sequence

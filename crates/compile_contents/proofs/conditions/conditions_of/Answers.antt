@@ -1,9 +1,11 @@
-use Rattle.std.proofs.Common.{◌≡◌, ◌≤◌, length, ap, sym, subst, ◌∙◌}
+use Rattle.std.proofs.Common.{◌≤◌, length, ap, subst, ◌∙◌}
 use Rattle.std.specs.Prelude.{flat_map}
 use Rattle.std.proofs.lemmas.List.{take_all}
 use Rattle.std.proofs.lemmas.Result.{IfOk-weaker}
+use Rattle.odd_tree.specs.Elements.{StandsIn}
 use Rattle.odd_forms.specs.Sorted.{IsSet}
-use Rattle.compile_contents.specs.Conditions.{IsConditionOf, condition_cmp}
+use Rattle.odd_content.specs.ConditionOrder.{condition_cmp}
+use Rattle.compile_contents.specs.Conditions.{IsConditionOf}
 use Rattle.compile_contents.proofs.Collected.{conditions_at, conditions_set}
 use Rattle.compile_contents.proofs.conditions.conditions_of.Goals as goal
 
@@ -12,6 +14,5 @@ returns-clause-set c =
     let library = c.args.library.now in
     let done = subst (λ entries. length entries ≤ c.loop-entry.entry-index) c.entries-entry-items.ensures.all c.loop-entry-test.false in
     let all = c.loop-entry.invariant ∙ ap (flat_map conditions_at) (take_all c.loop-entry.entry-index library.parts done) in
-    let whole = conditions_set library c.loop-entry.held c.in_ok-ordered.ordered all c.in_ok-ordered.ensures in
-    IfOk-weaker c.unordered.result (λ made. made ≡ c.in_ok-ordered.ordered) (IsSet condition_cmp (IsConditionOf library))
-    (λ made e. subst (λ cs. IsSet condition_cmp (IsConditionOf library) cs) (sym e) whole) c.unordered.ensures
+    IfOk-weaker c.sorted.result (IsSet condition_cmp (StandsIn c.loop-entry.held)) (IsSet condition_cmp (IsConditionOf library))
+    (λ made is. conditions_set library c.loop-entry.held made all is) c.sorted.ensures

@@ -1,7 +1,7 @@
 use Rattle.std.proofs.Common.{◌≡◌, IfOk, sym, ap, subst, ◌∙◌}
 use Rattle.compile_contents.specs.Contents.{content_pattern, listed_in}
 use Rattle.compile_contents.specs.Repeating.{choice_pattern, group_pattern, repeated}
-use Rattle.compile_contents.proofs.ContentParts.{alternate_pattern, sequence_pattern}
+use Rattle.compile_contents.proofs.Collected.{alternate_pattern, sequence_pattern}
 use Rattle.compile_contents.proofs.contents.+content_pattern.Goals as goal
 
 pub content_pattern-returns-in_ok-patterns-in-Sequence : goal.content_pattern-returns-in_ok-patterns-in-Sequence

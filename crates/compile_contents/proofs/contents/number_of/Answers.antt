@@ -3,9 +3,8 @@ use Rattle.std.specs.Prelude.{count_by}
 use Rattle.std.specs.Ordering.{is_lt}
 use Rattle.std.proofs.lemmas.List.Sorted.{IsPartitionPoint-from_clause}
 use Rattle.odd_forms.specs.Sorted.{AreRising}
-use Rattle.compile_contents.specs.ConditionOrder.{condition_total}
-use Rattle.compile_contents.specs.Conditions.{condition_cmp}
-use Rattle.compile_contents.proofs.Ranks.{partition_counted, rising_parted}
+use Rattle.odd_content.specs.ConditionOrder.{condition_cmp, condition_total}
+use Rattle.compile_contents.proofs.Collected.{partition_counted, rising_parted}
 use Rattle.compile_contents.proofs.contents.number_of.Goals as goal
 
 pub returns : goal.returns

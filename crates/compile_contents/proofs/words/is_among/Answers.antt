@@ -1,5 +1,5 @@
 use Rattle.std.proofs.Common.{◌∙◌}
-use Rattle.compile_contents.proofs.WordSearch.{search_told}
+use Rattle.compile_contents.proofs.Collected.{search_told}
 use Rattle.compile_contents.proofs.words.is_among.Goals as goal
 
 pub returns : goal.returns

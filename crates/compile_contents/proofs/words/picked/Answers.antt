@@ -1,6 +1,6 @@
 use Rattle.std.proofs.Common.{◌≡◌, ◌∙◌, IfOk, filter, ap, sym, subst}
 use Rattle.odd_content.specs.Picking.{is_picked}
-use Rattle.compile_contents.proofs.Wanted.{all_picked}
+use Rattle.compile_contents.proofs.Collected.{all_picked}
 use Rattle.compile_contents.proofs.words.picked.Goals as goal
 
 pub returns-in-All : goal.returns-in-All

@@ -2,7 +2,7 @@ use Rattle.std.proofs.Common.{◌∙◌, ℕ, List, ◌∷◌, ◌++◌, [], ap,
 use Rattle.std.specs.List.{list_any}
 use Rattle.odd_tokens.specs.Same.{is_same}
 use Rattle.compile_contents.specs.Wanted.{is_wanted}
-use Rattle.compile_contents.proofs.Wanted.{one_kept, one_left_out, wanted_told}
+use Rattle.compile_contents.proofs.Collected.{one_kept, one_left_out, wanted_told}
 use Rattle.compile_contents.proofs.words.those_among.Goals as goal
 use Rattle.compile_contents.proofs.words.those_among.Goals.{then-is_among-wanted+in_ok-copy+in_ok-push, else-is_among-wanted}
 

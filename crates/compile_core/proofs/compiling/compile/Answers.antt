@@ -1,17 +1,15 @@
 use Rattle.std.proofs.Common.{◌≡◌, refl, sym, subst, ◌∙◌}
 use Rattle.std.proofs.lemmas.Bool.{false≢true}
 use Rattle.std.proofs.lemmas.Result.{err_from_is_err_and}
-use Rattle.std.specs.Option.{option_copied}
 use Rattle.rng_patterns.specs.declared.grammar.Grammar.{Grammar}
 use Rattle.compile_defines.specs.Blocks.{grammar_with}
 use Rattle.compile_defines.specs.Compiled.{IsGrammarOf}
 use Rattle.compile_contents.specs.Contents.{listed_in}
-use Rattle.compile_core.specs.Schema.{IsLeast, IsTooLarge}
-use Rattle.compile_core.proofs.BlocksSet.{made}
+use Rattle.compile_core.specs.Schema.{IsTooLarge}
+use Rattle.compile_core.proofs.Blocks.{made}
 use Rattle.compile_laws.proofs.Correct.{accepts_admitted}
 use Rattle.compile_core.proofs.Plain.{plain}
-use Rattle.compile_core.proofs.TooLarge.{large_schema}
-use Rattle.compile_core.proofs.TooManyMembers.{too_many}
+use Rattle.compile_core.proofs.TooLarge.{large_schema, too_many}
 use Rattle.compile_core.proofs.compiling.compile.Goals as goal
 
 pub returns-clause-grammar : goal.returns-clause-grammar
@@ -22,7 +20,7 @@ returns-clause-grammar c =
 
 pub returns-clause-plain : goal.returns-clause-plain
 returns-clause-plain c = λ f.
-    let holds = subst (λ o. IsLeast c.args.library.now c.args.start.now (option_copied o)) c.in_default.is c.in_ok-word.ensures in
+    let holds = c.in_default.ensures in
     plain c.args.library.now c.args.start.now _ f c.requires holds (returns-clause-grammar c)
 
 pub returns-clause-accepts : goal.returns-clause-accepts
@@ -30,7 +28,7 @@ returns-clause-accepts c = λ f t. accepts_admitted c.args.library.now c.args.st
 
 pub returns-clause-within : goal.returns-clause-within
 returns-clause-within c =
-    let holds = subst (λ o. IsLeast c.args.library.now c.args.start.now (option_copied o)) c.in_default.is c.in_ok-word.ensures in
+    let holds = c.in_default.ensures in
     let made : Grammar = grammar_with c.args.library.now c.args.start.now c.in_ok-conditions.conditions (listed_in c.in_ok-members.members) c.in_ok-before.before in
     let same : record { start = c.in_ok-start.start; defines = c.in_ok-defines.defines } ≡ made = λ i. record { start = c.in_ok-start.ensures i; defines = c.in_ok-defines.ensures i } in
     let large = c.in_ok-is_too_large.ensures c.in_ok-conditions.conditions (c.in_ok-conditions.ensures.rising refl) holds c.in_ok-members.ensures.members c.in_ok-conditions.ensures.set c.in_ok-before.ensures in
@@ -38,7 +36,7 @@ returns-clause-within c =
 
 pub returns-in_err-members-clause-too_large : goal.returns-in_err-members-clause-too_large
 returns-in_err-members-clause-too_large c = λ e.
-    let holds = subst (λ o. IsLeast c.args.library.now c.args.start.now (option_copied o)) c.in_default.is c.in_ok-word.ensures in
+    let holds = c.in_default.ensures in
     let given = err_from_is_err_and c.from_residual-in_err-members.result c.from_residual-in_err-members.ensures.1 in
     too_many c.args.library.now c.args.start.now c.in_ok-conditions.conditions c.in_ok-before.before (c.in_ok-conditions.ensures.rising refl) c.requires c.in_ok-conditions.ensures.set
     c.in_ok-before.ensures holds (c.in_err-members.ensures.more (cc (given.1, given.2, e)))
@@ -48,7 +46,7 @@ returns-then-branch-clause-too_large c = λ e.
     let library = c.args.library.now in
     let start = c.args.start.now in
     let up = c.in_ok-conditions.ensures.rising refl in
-    let holds = subst (λ o. IsLeast library start (option_copied o)) c.in_default.is c.in_ok-word.ensures in
+    let holds = c.in_default.ensures in
     let set = c.in_ok-conditions.ensures.set in
     let are = c.in_ok-members.ensures.members in
     let large = c.in_ok-is_too_large.ensures c.in_ok-conditions.conditions up holds are set c.in_ok-before.ensures in

@@ -5,9 +5,9 @@ use Rattle.std.specs.Option.{option_copied}
 use Rattle.odd_tree.proofs.InList.{nothing_stands}
 use Rattle.compile_contents.specs.Contents.{holds_element}
 use Rattle.compile_core.specs.Schema.{IsLeast}
-use Rattle.compile_core.proofs.Missing.{held_more, missing_more}
+use Rattle.compile_core.proofs.OneGrammarOf.{held_more, missing_more}
 use Rattle.compile_core.proofs.compiling.least_missing.Goals as goal
-use Rattle.compile_core.proofs.compiling.least_missing.Goals.{then-not-branch, else-not-branch}
+use Rattle.compile_core.proofs.compiling.least_missing.Goals.{then-not-holds_element, else-not-holds_element}
 
 pub loop-word-init : goal.loop-word-init
 loop-word-init c = λ w a missing. nothing_stands w a
@@ -21,16 +21,16 @@ loop-word-preserved c =
     let within : i < length words = subst (λ xs. i < length xs) c.as_slice-word-items.ensures c.loop-word-test.true in
     let this : word ≡ get_or words i word = c.word-item.is ∙ ap (λ xs. get_or xs i word) c.as_slice-word-items.ensures in
     let more : take (i + 1) words ≡ take i words ++ word ∷ [] = take_more words i word within ∙ ap (λ x. take i words ++ x ∷ []) (sym this) in
-    let asked : c.in_ok-holds_element.field-0 ≡ holds_element library word = c.in_ok-holds_element.ensures in
-    let step : IsLeast library (take i words ++ word ∷ []) (option_copied c.if-not-branch.least) =
-    elim c.if-not-branch.branch [
-      | then-not-branch w ↦
-          let missing : holds_element library word ≡ false = sym asked ∙ w.if-not-branch.true in
+    let asked : c.holds_element.result ≡ holds_element library word = c.holds_element.ensures in
+    let step : IsLeast library (take i words ++ word ∷ []) (option_copied c.if-not-holds_element.least) =
+    elim c.if-not-holds_element.branch [
+      | then-not-holds_element w ↦
+          let missing : holds_element library word ≡ false = sym asked ∙ w.if-not-holds_element.true in
           subst (IsLeast library (take i words ++ word ∷ [])) (sym w.lesser-least.ensures ∙ ap option_copied (sym w.least-is))
           (missing_more library (take i words) word _ c.loop-word.invariant missing)
-      | else-not-branch w ↦
-          let held : holds_element library word ≡ true = sym asked ∙ w.if-not-branch.false in
+      | else-not-holds_element w ↦
+          let held : holds_element library word ≡ true = sym asked ∙ w.if-not-holds_element.false in
           subst (IsLeast library (take i words ++ word ∷ [])) (ap option_copied (sym w.least-is))
           (held_more library (take i words) word _ c.loop-word.invariant (λ missing. false≢true (sym missing ∙ held)))
     ] in
-    subst (λ ws. IsLeast library ws (option_copied c.if-not-branch.least)) (sym more) step
+    subst (λ ws. IsLeast library ws (option_copied c.if-not-holds_element.least)) (sym more) step

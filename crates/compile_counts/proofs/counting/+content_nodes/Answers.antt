@@ -4,16 +4,15 @@ use Rattle.std.proofs.lemmas.List.{take_all}
 use Rattle.std.proofs.lemmas.List.Elements.{All-get_or}
 use Rattle.odd_content.specs.declared.content.Condition.{Condition}
 use Rattle.odd_content.specs.declared.content.Content.{Content}
-use Rattle.odd_decls.specs.declared.library.Library.{Library}
+use Rattle.odd_library.specs.declared.library.Library.{Library}
 use Rattle.odd_tree.proofs.InList.{stands_first}
 use Rattle.rng_patterns.specs.declared.grammar.Expr.{Expr}
 use Rattle.compile_contents.specs.Contents.{content_pattern, listed_in}
 use Rattle.compile_counts.specs.Counted.{counted}
 use Rattle.compile_counts.specs.Weights.{AreWeighed, IsMeasure, weight_in}
-use Rattle.compile_contents.proofs.ContentParts.{alternate_pattern, sequence_pattern}
-use Rattle.compile_counts.proofs.Counts.{counted_step}
-use Rattle.compile_counts.proofs.GroupCounts.{choice_of_each, group_of_each}
-use Rattle.compile_counts.proofs.Weighed.{alternate_weighed, sequence_weighed}
+use Rattle.compile_contents.proofs.Collected.{alternate_pattern, sequence_pattern}
+use Rattle.compile_counts.proofs.Sums.{counted_step, choice_of_each, group_of_each}
+use Rattle.compile_counts.proofs.DefineCounts.{alternate_weighed, sequence_weighed}
 use Rattle.compile_counts.proofs.counting.+content_nodes.Goals as goal
 use Rattle.compile_counts.proofs.counting.+content_nodes.Goals.{joined_nodes-After-grouped_nodes}
 

@@ -1,7 +1,7 @@
 use Rattle.std.proofs.Common.{◌≡◌, ℕ, List, take}
 use Rattle.std.specs.Prelude.{All, sum_by}
 use Rattle.odd_content.specs.declared.content.Condition.{Condition}
-use Rattle.odd_decls.specs.declared.library.Library.{Library}
+use Rattle.odd_library.specs.declared.library.Library.{Library}
 use Rattle.rng_patterns.specs.declared.grammar.Expr.{Expr}
 use Rattle.compile_contents.specs.Contents.{content_pattern, listed_in}
 use Rattle.compile_counts.specs.Counted.{counted}

@@ -5,9 +5,7 @@ use Rattle.rng_emit.specs.Nodes.{elements_in}
 use Rattle.compile_defines.specs.Blocks.{entry_defines}
 use Rattle.compile_contents.specs.Contents.{content_pattern, define_name, listed_in, macro_name}
 use Rattle.compile_counts.specs.Counted.{counted}
-use Rattle.compile_counts.proofs.DefineCounts.{define_counted, element_counted}
-use Rattle.compile_counts.proofs.PatternCounts.{elements_measured, pattern_elements}
-use Rattle.compile_counts.proofs.Weighed.{unweighed}
+use Rattle.compile_counts.proofs.DefineCounts.{define_counted, element_counted, elements_measured, pattern_elements, unweighed}
 use Rattle.compile_counts.proofs.counting.component_nodes.Goals as goal
 
 pub returns-in_ok-content_nodes-in-Element-Element : goal.returns-in_ok-content_nodes-in-Element-Element

@@ -1,15 +1,14 @@
 use Rattle.std.proofs.Common.{◌∙◌, ◌≤◌, length, ap, sym, subst}
 use Rattle.std.specs.Prelude.{sum_by}
 use Rattle.std.proofs.lemmas.List.{take_all}
-use Rattle.odd_base.specs.declared.key.Key.{Key}
-use Rattle.odd_decls.specs.declared.library.Component.{Component}
+use Rattle.odd_text.specs.declared.key.Key.{Key}
+use Rattle.odd_library.specs.declared.library.Component.{Component}
 use Rattle.rng_emit.specs.Grammar.{define_markup}
 use Rattle.rng_emit.specs.Nodes.{elements_in}
 use Rattle.compile_defines.specs.Blocks.{class_defines, element_defines, entry_defines, macro_defines}
 use Rattle.compile_contents.specs.Contents.{listed_in}
 use Rattle.compile_counts.specs.Counted.{counted}
-use Rattle.compile_counts.proofs.Counts.{counted_step}
-use Rattle.compile_counts.proofs.Sums.{three_of_each}
+use Rattle.compile_counts.proofs.Sums.{counted_step, three_of_each}
 use Rattle.compile_counts.proofs.counting.components_nodes.Goals as goal
 
 pub loop-key-preserved : goal.loop-key-preserved

@@ -3,7 +3,7 @@ use Rattle.std.proofs.lemmas.List.Elements.{All-get_or}
 use Rattle.rng_emit.specs.Grammar.{define_markup}
 use Rattle.rng_emit.specs.Nodes.{elements_in}
 use Rattle.compile_defines.specs.Blocks.{IsConditionDefine}
-use Rattle.compile_counts.proofs.Counts.{counted_step}
+use Rattle.compile_counts.proofs.Sums.{counted_step}
 use Rattle.compile_counts.proofs.counting.conditions_nodes.Goals as goal
 
 pub loop-define-preserved : goal.loop-define-preserved

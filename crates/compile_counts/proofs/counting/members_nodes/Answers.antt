@@ -1,6 +1,6 @@
 use Rattle.std.proofs.Common.{◌∙◌, length, sym, ap}
 use Rattle.compile_contents.specs.Contents.{listed_in}
-use Rattle.compile_counts.proofs.MemberCounts.{picked_counted}
+use Rattle.compile_counts.proofs.Sums.{picked_counted}
 use Rattle.compile_counts.proofs.counting.members_nodes.Goals as goal
 
 pub returns-in_ok-picked-in-Include : goal.returns-in_ok-picked-in-Include

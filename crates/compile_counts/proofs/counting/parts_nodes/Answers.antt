@@ -2,7 +2,7 @@ use Rattle.std.proofs.Common.{◌∙◌}
 use Rattle.rng_patterns.specs.declared.grammar.NsPart.{NsPart}
 use Rattle.rng_emit.specs.Grammar.{part_markup}
 use Rattle.rng_emit.specs.Nodes.{elements_in}
-use Rattle.compile_counts.proofs.Counts.{counted_step}
+use Rattle.compile_counts.proofs.Sums.{counted_step}
 use Rattle.compile_counts.proofs.DefineCounts.{part_counted}
 use Rattle.compile_counts.proofs.counting.parts_nodes.Goals as goal
 

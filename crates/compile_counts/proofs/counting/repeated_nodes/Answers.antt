@@ -1,7 +1,7 @@
 use Rattle.std.proofs.Common.{◌∙◌, ◌+◌, ◌-◌, sym, ap}
 use Rattle.compile_counts.specs.Counted.{counted, grouped_nodes}
 use Rattle.compile_contents.specs.Repeating.{repeated_within}
-use Rattle.compile_counts.proofs.RepeatedCounts.{bounded, once_or_more, unbounded}
+use Rattle.compile_counts.proofs.Sums.{bounded, once_or_more, unbounded}
 use Rattle.compile_counts.proofs.counting.repeated_nodes.Goals as goal
 
 pub returns-in-None : goal.returns-in-None

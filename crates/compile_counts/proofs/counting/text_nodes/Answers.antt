@@ -2,9 +2,8 @@ use Rattle.std.proofs.Common.{◌∙◌, sym, ap}
 use Rattle.compile_defines.specs.Blocks.{component_defines}
 use Rattle.compile_contents.specs.Contents.{listed_in, references_pattern}
 use Rattle.compile_counts.specs.Counted.{counted}
-use Rattle.compile_counts.proofs.Counts.{counted_more, counted_sum}
-use Rattle.compile_counts.proofs.DefineCounts.{references_counted, text_parts}
-use Rattle.compile_counts.proofs.PatternCounts.{pattern_elements}
+use Rattle.compile_counts.proofs.Sums.{counted_more, counted_sum}
+use Rattle.compile_counts.proofs.DefineCounts.{references_counted, text_parts, pattern_elements}
 use Rattle.compile_counts.proofs.counting.text_nodes.Goals as goal
 
 pub returns : goal.returns

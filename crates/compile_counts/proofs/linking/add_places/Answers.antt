@@ -1,6 +1,6 @@
 use Rattle.std.proofs.Common.{[], List, ℕ, sym, subst}
-use Rattle.odd_base.specs.Map.{SetsOnly}
-use Rattle.odd_base.specs.Text.{text_cmp}
+use Rattle.odd_text.specs.Map.{SetsOnly}
+use Rattle.odd_text.specs.Text.{text_cmp}
 use Rattle.odd_tree.specs.Elements.{StandsIn}
 use Rattle.compile_counts.specs.Linking.{AreWeightsOf}
 use Rattle.compile_counts.proofs.MacroAdded.{place_put}

@@ -1,11 +1,11 @@
 use Rattle.std.proofs.Common.{◌∙◌, ◌+◌, ◌<◌, ◌≤◌, [], ◌∷◌, ◌++◌, List, ℕ, drop, get_or, length, sym, ap, subst, take}
 use Rattle.std.proofs.lemmas.List.{take-append-drop, take_all}
-use Rattle.odd_base.specs.Map.{SetsOnly}
-use Rattle.odd_base.specs.Text.{text_cmp}
+use Rattle.odd_text.specs.Map.{SetsOnly}
+use Rattle.odd_text.specs.Text.{text_cmp}
 use Rattle.odd_tree.specs.Elements.{StandsIn}
 use Rattle.odd_tree.proofs.InList.{ends}
-use Rattle.compile_counts.proofs.ClassWeights.{AreClassWeights, class_put, classes_weighed}
-use Rattle.compile_counts.proofs.LinkedParts.{references_counted}
+use Rattle.compile_counts.proofs.MacroAdded.{AreClassWeights, class_put, classes_weighed}
+use Rattle.compile_counts.proofs.LinkedWeights.{references_counted}
 use Rattle.compile_contents.proofs.Standing.{stands_left}
 use Rattle.compile_counts.proofs.linking.class_weights.Goals as goal
 

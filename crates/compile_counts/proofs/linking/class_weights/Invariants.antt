@@ -1,5 +1,5 @@
 use Rattle.std.proofs.Common.{take}
-use Rattle.compile_counts.proofs.ClassWeights.{AreClassWeights}
+use Rattle.compile_counts.proofs.MacroAdded.{AreClassWeights}
 use Rattle.compile_counts.proofs.linking.class_weights.Given as goal
 
 abbrev pub invariant-loop-class : goal.invariant-loop-class

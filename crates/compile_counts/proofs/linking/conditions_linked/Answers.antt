@@ -6,7 +6,7 @@ use Rattle.rng_patterns.specs.Nodes.{element_nodes}
 use Rattle.compile_defines.specs.Blocks.{IsConditionDefine}
 use Rattle.compile_counts.specs.Counted.{counted}
 use Rattle.compile_counts.proofs.ConditionNodes.{condition_nodes}
-use Rattle.compile_counts.proofs.Counts.{counted_step}
+use Rattle.compile_counts.proofs.Sums.{counted_step}
 use Rattle.compile_counts.proofs.linking.conditions_linked.Goals as goal
 use Rattle.compile_counts.proofs.linking.conditions_linked.Goals.{in-Element, in-Part}
 

@@ -1,15 +1,14 @@
 use Rattle.std.proofs.Common.{◌∙◌, sym, ap, subst}
 use Rattle.std.specs.Prelude.{sum_by}
 use Rattle.std.proofs.lemmas.Result.{IfOk-weaker}
-use Rattle.odd_decls.specs.Library.{content_of}
+use Rattle.odd_library.specs.Library.{content_of}
 use Rattle.odd_tree.specs.Elements.{StandsIn}
 use Rattle.rng_patterns.specs.Nodes.{element_nodes, nodes}
 use Rattle.compile_defines.specs.Blocks.{element_defines}
 use Rattle.compile_contents.specs.Conditions.{conditions_of}
 use Rattle.compile_contents.specs.Contents.{listed_in}
 use Rattle.compile_counts.specs.Counted.{counted}
-use Rattle.compile_counts.proofs.LinkedWeights.{element_sum, weighed}
-use Rattle.compile_counts.proofs.NodeMeasure.{nodes_measure}
+use Rattle.compile_counts.proofs.LinkedWeights.{element_sum, weighed, nodes_measure}
 use Rattle.compile_counts.proofs.linking.element_linked.Goals as goal
 
 pub returns-in-Element-Element : goal.returns-in-Element-Element

@@ -1,15 +1,14 @@
 use Rattle.std.proofs.Common.{◌∙◌, ◌<◌, ◌≤◌, length, get_or, sym, ap, subst}
 use Rattle.std.specs.Prelude.{sum_by}
 use Rattle.std.proofs.lemmas.List.{take_all}
-use Rattle.odd_base.specs.declared.key.Key.{Key}
-use Rattle.odd_decls.specs.declared.library.Component.{Component}
+use Rattle.odd_text.specs.declared.key.Key.{Key}
+use Rattle.odd_library.specs.declared.library.Component.{Component}
 use Rattle.odd_tree.proofs.InList.{standing}
 use Rattle.rng_patterns.specs.Nodes.{element_nodes}
 use Rattle.compile_defines.specs.Blocks.{element_defines}
 use Rattle.compile_contents.specs.Contents.{listed_in}
 use Rattle.compile_counts.specs.Counted.{counted}
-use Rattle.compile_counts.proofs.Counts.{counted_step}
-use Rattle.compile_counts.proofs.Sums.{sum_by-flat_map}
+use Rattle.compile_counts.proofs.Sums.{counted_step, sum_by-flat_map}
 use Rattle.compile_counts.proofs.linking.elements_linked.Goals as goal
 
 pub loop-key-preserved : goal.loop-key-preserved

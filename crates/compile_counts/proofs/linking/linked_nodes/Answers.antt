@@ -1,8 +1,8 @@
 use Rattle.std.proofs.Common.{◌∙◌, sym, ap}
 use Rattle.compile_contents.specs.Contents.{listed_in}
 use Rattle.compile_counts.specs.Counted.{counted}
-use Rattle.compile_counts.proofs.Counts.{counted_sum}
-use Rattle.compile_counts.proofs.LinkedParts.{linked_parts, references_counted, word_once}
+use Rattle.compile_counts.proofs.Sums.{counted_sum}
+use Rattle.compile_counts.proofs.LinkedWeights.{linked_parts, references_counted, word_once}
 use Rattle.compile_counts.proofs.linking.linked_nodes.Goals as goal
 
 pub returns : goal.returns

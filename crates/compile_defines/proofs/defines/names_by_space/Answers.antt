@@ -2,7 +2,7 @@ use Rattle.std.proofs.Common.{rules, ap, ◌∙◌}
 use Rattle.std.proofs.lemmas.List.Sorted.{answers_always}
 use Rattle.std.specs.List.{filter}
 use Rattle.odd_tokens.specs.Same.{is_same}
-use Rattle.compile_defines.proofs.Spaces.{is_below, below_ranks, same_names}
+use Rattle.compile_defines.proofs.BySpace.{is_below, below_ranks, same_names}
 use Rattle.compile_defines.proofs.defines.names_by_space.Goals as goal
 
 pub returns-clause-rising : goal.returns-clause-rising

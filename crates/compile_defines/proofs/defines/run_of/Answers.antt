@@ -4,8 +4,8 @@ use Rattle.std.proofs.lemmas.List.Sorted.{IsPartitionPoint-from_clause, searchab
 use Rattle.std.specs.List.{filter}
 use Rattle.std.specs.Cmp.Lexicographic.{texts_ties}
 use Rattle.std.specs.Ordering.{is_le, is_lt}
-use Rattle.odd_base.specs.Text.{text_cmp}
-use Rattle.odd_base.specs.declared.name.Name.{Name}
+use Rattle.odd_text.specs.Text.{text_cmp}
+use Rattle.odd_text.specs.declared.name.Name.{Name}
 use Rattle.compile_defines.proofs.BySpace.{at_most_parted, ends_rise, equal_between, less_parted}
 use Rattle.compile_defines.proofs.defines.run_of.Goals as goal
 

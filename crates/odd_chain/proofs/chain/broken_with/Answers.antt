@@ -1,5 +1,5 @@
 use Rattle.std.proofs.Common.{Err, ap}
-use Rattle.odd_chain.proofs.OneMore.{broken_more}
+use Rattle.odd_chain.proofs.Merged.{broken_more}
 use Rattle.odd_chain.proofs.chain.broken_with.Goals as goal
 
 pub returns-in-Ok : goal.returns-in-Ok

@@ -1,7 +1,6 @@
 use Rattle.std.proofs.Common.{[], ◌∷◌, ◌++◌, Err, ap, sym, subst}
 use Rattle.odd_chain.specs.Files.{AreDeclared}
-use Rattle.odd_chain.proofs.Declared.{declared_read, one_declared_more}
-use Rattle.odd_chain.proofs.OneMore.{broken_last, pending_last}
+use Rattle.odd_chain.proofs.Merged.{declared_read, one_declared_more, broken_last, pending_last}
 use Rattle.odd_chain.proofs.chain.whole_with.Goals as goal
 
 pub returns-in_ok-push-in-Ok : goal.returns-in_ok-push-in-Ok

@@ -1,6 +1,6 @@
 use Rattle.std.proofs.Common.{◌≡◌, ap, subst, sym}
-use Rattle.odd_base.specs.declared.offence.Offence.{Offence}
-use Rattle.odd_base.specs.declared.offence.Who.TheVariants as who
+use Rattle.odd_text.specs.declared.offence.Offence.{Offence}
+use Rattle.odd_text.specs.declared.offence.Who.TheVariants as who
 use Rattle.odd_meaning.specs.Rules.{Breaks, IsFirstBreak}
 use Rattle.odd_chain.proofs.merging.check.Goals as goal
 

@@ -1,6 +1,6 @@
 use Rattle.std.proofs.Common.{◌+◌, take, refl, sym, subst, arith}
 use Rattle.std.proofs.lemmas.Result.{err_from_is_err_and}
-use Rattle.odd_choosing.specs.Offences.{IsFirstOffence, Offends}
+use Rattle.odd_modes.specs.Offences.{IsFirstOffence, Offends}
 use Rattle.odd_chain.specs.Offences.{OffendsIn}
 use Rattle.odd_chain.specs.Order.{IsFirst}
 use Rattle.odd_chain.specs.Reading.{IsFirstOfLibrary}

@@ -1,5 +1,5 @@
 use Rattle.std.proofs.Common.{◌≡◌, ℕ}
-use Rattle.odd_base.specs.declared.key.Key.{Key}
+use Rattle.odd_text.specs.declared.key.Key.{Key}
 use Rattle.odd_meaning.specs.Rules.{Breaks}
 use Rattle.odd_chain.proofs.Merged.{IsMerged}
 use Rattle.odd_chain.proofs.merging.merge.Given as goal

@@ -2,9 +2,9 @@ use Rattle.std.proofs.Common.{◌<◌, length, get_or, sym, subst, ap, arith, �
 use Rattle.std.proofs.lemmas.Bool.{false≢true}
 use Rattle.std.proofs.lemmas.List.{take_all}
 use Rattle.std.proofs.lemmas.Option.{same_Some, slice_get_within}
-use Rattle.odd_decls.specs.Odd.{element_key}
-use Rattle.odd_decls.specs.declared.library.Component.TheVariants as component
-use Rattle.odd_classes.proofs.ElementsAmong.{AreAmong, among_more, among_none}
+use Rattle.odd_library.specs.Odd.{element_key}
+use Rattle.odd_library.specs.declared.library.Component.TheVariants as component
+use Rattle.odd_classes.proofs.TableMembers.{AreAmong, among_more, among_none}
 use Rattle.odd_classes.proofs.Places.{found_here}
 use Rattle.odd_classes.proofs.class_members.elements_among.Goals.{in-Some+then-is_element+in_ok-copy+in_ok-push, in-Some+else-is_element, in_default}
 use Rattle.odd_classes.proofs.class_members.elements_among.Goals as goal

@@ -1,5 +1,5 @@
 use Rattle.std.proofs.Common.{take}
-use Rattle.odd_classes.proofs.ElementsAmong.{AreAmong}
+use Rattle.odd_classes.proofs.TableMembers.{AreAmong}
 use Rattle.odd_classes.proofs.class_members.elements_among.Given as goal
 
 abbrev pub invariant-loop-place : goal.invariant-loop-place

@@ -1,7 +1,7 @@
 use Rattle.std.proofs.Common.{sym}
 use Rattle.std.proofs.lemmas.Result.{IfOk-weaker}
-use Rattle.odd_base.specs.Text.{text_cmp}
-use Rattle.odd_classes.proofs.MembersReached.{members_reached, no_member, no_set, set_same}
+use Rattle.odd_text.specs.Text.{text_cmp}
+use Rattle.odd_classes.proofs.Linked.{members_reached, no_member, no_set, set_same}
 use Rattle.odd_classes.proofs.class_members.members.Goals as goal
 
 pub returns-in_default : goal.returns-in_default

@@ -1,5 +1,5 @@
 use Rattle.std.proofs.Common.{Err, refl, sym, ap}
-use Rattle.odd_classes.proofs.CycleRules.{first_class, first_macro, none_breaks}
+use Rattle.odd_classes.proofs.MacrosOrdered.{first_class, first_macro, none_breaks}
 use Rattle.odd_classes.proofs.cycles.check_cycles.Goals as goal
 
 pub returns-in_err-check_link-clause-first : goal.returns-in_err-check_link-clause-first

@@ -1,6 +1,6 @@
 use Rattle.std.proofs.Common.{◌≡◌, sym}
 use Rattle.odd_classes.specs.Placing.{keys_by}
-use Rattle.odd_classes.proofs.Looping.{entry_of_key, first_loops, none_loops}
+use Rattle.odd_classes.proofs.Linked.{entry_of_key, first_loops, none_loops}
 use Rattle.odd_classes.proofs.cycles.check_link.Goals as goal
 
 pub returns-in_default-clause-none : goal.returns-in_default-clause-none

@@ -1,6 +1,6 @@
 use Rattle.std.proofs.Common.{sym}
 use Rattle.std.proofs.lemmas.List.{take_all}
-use Rattle.odd_classes.proofs.ArrowsFound.{no_place, place_found}
+use Rattle.odd_classes.proofs.Linked.{no_place, place_found}
 use Rattle.odd_classes.proofs.graph.arrows_of.Goals.{in-Some+in_ok-push, in_default}
 use Rattle.odd_classes.proofs.graph.arrows_of.Goals as goal
 

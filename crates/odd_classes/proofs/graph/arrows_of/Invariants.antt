@@ -1,5 +1,5 @@
 use Rattle.std.proofs.Common.{take}
-use Rattle.odd_classes.proofs.ArrowsFound.{AreNodes}
+use Rattle.odd_classes.proofs.Linked.{AreNodes}
 use Rattle.odd_classes.proofs.graph.arrows_of.Given as goal
 
 abbrev pub invariant-loop-key : goal.invariant-loop-key

@@ -1,4 +1,4 @@
-use Rattle.odd_classes.proofs.ArrowsFound.{all_arrows, arrows_more}
+use Rattle.odd_classes.proofs.Linked.{all_arrows, arrows_more}
 use Rattle.odd_classes.proofs.graph.graph_by.Goals as goal
 
 pub loop-part-preserved : goal.loop-part-preserved

@@ -1,4 +1,4 @@
-use Rattle.odd_classes.proofs.PlacesPut.{all_placed, places_more}
+use Rattle.odd_classes.proofs.Places.{all_placed, places_more}
 use Rattle.odd_classes.proofs.graph.places_of.Goals as goal
 
 pub loop-place-preserved : goal.loop-place-preserved

@@ -1,4 +1,4 @@
-use Rattle.odd_classes.proofs.PlacesPut.{PlacesSoFar}
+use Rattle.odd_classes.proofs.Places.{PlacesSoFar}
 use Rattle.odd_classes.proofs.graph.places_of.Given as goal
 
 abbrev pub invariant-loop-place : goal.invariant-loop-place

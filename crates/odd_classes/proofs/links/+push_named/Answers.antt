@@ -1,6 +1,6 @@
 use Rattle.std.proofs.Common.{◌≡◌, ◌++◌, OnOk, sym, ap, subst, ◌∙◌}
 use Rattle.odd_meaning.specs.Links.{named_in}
-use Rattle.odd_classes.proofs.NamedParts.{alternate_named, sequence_named}
+use Rattle.odd_classes.proofs.WrongNames.{alternate_named, sequence_named}
 use Rattle.odd_classes.proofs.links.+push_named.Goals as goal
 
 pub push_named-returns-in-Sequence : goal.push_named-returns-in-Sequence

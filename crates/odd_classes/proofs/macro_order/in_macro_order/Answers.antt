@@ -1,8 +1,8 @@
 use Rattle.std.proofs.Common.{◌≢◌, arith}
 use Rattle.std.proofs.lemmas.Grind.{common_steps}
 use Rattle.std.proofs.lemmas.List.{get_or_default}
-use Rattle.odd_base.specs.declared.key.Kind.TheVariants as kind
-use Rattle.odd_classes.proofs.Looping.{entry_of_key}
+use Rattle.odd_text.specs.declared.key.Kind.TheVariants as kind
+use Rattle.odd_classes.proofs.Linked.{entry_of_key}
 use Rattle.odd_classes.proofs.MacrosOrdered.{all_ordered, macro_next, no_macro, other_kind}
 use Rattle.odd_classes.proofs.macro_order.in_macro_order.Goals.{in-Some+then-eq+in_ok-copy+in_ok-push, in-Some+else-eq, in_default}
 use Rattle.odd_classes.proofs.macro_order.in_macro_order.Goals as goal

@@ -3,7 +3,7 @@ use Rattle.std.proofs.lemmas.Bool.{false≢true}
 use Rattle.std.proofs.lemmas.List.{get_or_read, length-append}
 use Rattle.std.proofs.lemmas.List.Sums.{sum_by-set}
 use Rattle.std.specs.Option.{option_copied}
-use Rattle.odd_classes.proofs.ListedEach.{each_more, each_none}
+use Rattle.odd_classes.proofs.Listed.{each_more, each_none}
 use Rattle.odd_classes.proofs.member_table.list_in_each.Goals.{in-Some+in-Some-get_mut+in_ok-copy+in_ok-push, in-Some+in_default-get_mut, in_default}
 use Rattle.odd_classes.proofs.member_table.list_in_each.Goals as goal
 

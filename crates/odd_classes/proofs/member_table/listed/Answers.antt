@@ -1,11 +1,10 @@
 use Rattle.std.proofs.Common.{sym, ap, ◌∙◌, arith}
 use Rattle.std.proofs.lemmas.Bool.{false≢true}
 use Rattle.std.proofs.lemmas.Option.{same_Some}
-use Rattle.odd_decls.specs.Odd.{element_key}
-use Rattle.odd_decls.specs.declared.library.Component.TheVariants as component
-use Rattle.odd_classes.proofs.Listed.{element_more, none_listed, none_more}
-use Rattle.odd_classes.proofs.ListedMembers.{all_listed, are_listed}
-use Rattle.odd_classes.proofs.PlacesPut.{entry_here}
+use Rattle.odd_library.specs.Odd.{element_key}
+use Rattle.odd_library.specs.declared.library.Component.TheVariants as component
+use Rattle.odd_classes.proofs.Listed.{element_more, none_listed, none_more, all_listed, are_listed}
+use Rattle.odd_classes.proofs.Places.{entry_here}
 use Rattle.odd_classes.proofs.member_table.listed.Goals.{then-is_element+in_ok-classes+in_ok-count+in-Some, else-is_element}
 use Rattle.odd_classes.proofs.member_table.listed.Goals as goal
 

@@ -1,6 +1,6 @@
 use Rattle.std.proofs.Common.{refl, sym, ap, ◌∙◌}
 use Rattle.std.specs.Option.{option_copied}
-use Rattle.odd_classes.proofs.TableMade.{all_made, made_more, made_none}
+use Rattle.odd_classes.proofs.TableMembers.{all_made, made_more, made_none}
 use Rattle.odd_classes.proofs.member_table.table_of.Goals as goal
 
 pub loop-place-preserved-in_ok-put : goal.loop-place-preserved-in_ok-put

@@ -1,4 +1,4 @@
-use Rattle.odd_classes.proofs.TableMade.{IsMadeSoFar}
+use Rattle.odd_classes.proofs.TableMembers.{IsMadeSoFar}
 use Rattle.odd_classes.proofs.member_table.table_of.Given as goal
 
 abbrev pub invariant-loop-place : goal.invariant-loop-place

@@ -1,10 +1,10 @@
 use Rattle.std.proofs.Common.{◌≡◌, ℕ, Result, Err, refl, sym, subst}
 use Rattle.std.proofs.lemmas.Result.{err_from_is_err_and}
-use Rattle.odd_base.specs.declared.key.Key.{Key}
+use Rattle.odd_text.specs.declared.key.Key.{Key}
 use Rattle.odd_meaning.specs.Rules.{Breaks, IsFirstBreak}
 use Rattle.odd_classes.specs.declared.rules.LibraryRefusal.{LibraryRefusal}
 use Rattle.odd_classes.specs.declared.rules.LibraryRefusal.TheVariants as refusal
-use Rattle.odd_classes.proofs.FirstBreaks.{first_by_class, first_by_cycle, first_by_macro, none_at_all}
+use Rattle.odd_classes.proofs.WrongNames.{first_by_class, first_by_cycle, first_by_macro, none_at_all}
 use Rattle.odd_classes.proofs.rules.check_library.Goals as goal
 
 pub returns-in_err-check_names-clause-first : goal.returns-in_err-check_names-clause-first

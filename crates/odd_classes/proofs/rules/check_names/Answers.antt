@@ -1,9 +1,9 @@
 use Rattle.std.proofs.Common.{◌≡◌, ◌≤◌, ◌<◌, ℕ, List, Result, Err, Some, length, get_or, ap, sym, subst, ◌∙◌}
 use Rattle.std.proofs.lemmas.Bool.{false≢true}
 use Rattle.std.proofs.lemmas.Option.{slice_get-get_or}
-use Rattle.odd_base.specs.declared.key.Key.{Key}
-use Rattle.odd_decls.specs.declared.library.Component.{Component}
-use Rattle.odd_decls.specs.declared.library.Library.{Library}
+use Rattle.odd_text.specs.declared.key.Key.{Key}
+use Rattle.odd_library.specs.declared.library.Component.{Component}
+use Rattle.odd_library.specs.declared.library.Library.{Library}
 use Rattle.odd_classes.specs.Placing.{IsEntryAt, IsFirstAmong, NamesWrongly}
 use Rattle.odd_classes.specs.declared.rules.LibraryRefusal.{LibraryRefusal}
 use Rattle.odd_classes.specs.declared.rules.LibraryRefusal.TheVariants as refusal

@@ -2,7 +2,7 @@ use Rattle.odd_forms.specs.Words.{words_given}
 use Rattle.std.proofs.Common.{◌≡◌, map, take, refl, sym, subst, ◌∙◌}
 use Rattle.std.specs.Prelude.{codes}
 use Rattle.std.proofs.lemmas.List.{take_all}
-use Rattle.odd_base.specs.Text.{text_cmp}
+use Rattle.odd_text.specs.Text.{text_cmp}
 use Rattle.odd_tree.specs.Elements.{StandsIn, all_binds}
 use Rattle.odd_tree.proofs.InList.{ends}
 use Rattle.odd_forms.specs.Sorted.{IsSet}

@@ -2,7 +2,7 @@ use Rattle.std.proofs.Common.{Some, sym, subst, ◌∙◌}
 use Rattle.std.proofs.lemmas.Bool.{both_ways}
 use Rattle.std.proofs.lemmas.Str.Pattern.{IsSplitOnceResult}
 use Rattle.odd_content.specs.Excepting.{IsReadAs, IsSpace}
-use Rattle.odd_content.proofs.Prefixed.{prefixed_split, read_space, space_split, space_unsplit}
+use Rattle.odd_content.proofs.Sorting.{prefixed_split, read_space, space_split, space_unsplit}
 use Rattle.odd_content.proofs.excepted.read_excepted.Goals as goal
 use Rattle.odd_content.proofs.excepted.read_excepted.Goals.{then-not-is_ncname-via-then-not-is_ncname, then-not-is_ncname-via-else-not-is_ncname+then-not-is_ncname-2}
 

@@ -7,8 +7,7 @@ use Rattle.odd_forms.specs.Faults.{FormFault}
 use Rattle.odd_forms.specs.Least.{IsLeast}
 use Rattle.odd_content.specs.Breaking.{PartFault, PartsFault}
 use Rattle.odd_content.specs.Giving.{AreParts, IsPart, parts_of}
-use Rattle.odd_content.proofs.Faults.{level_inner, level_least, part_least}
-use Rattle.odd_content.proofs.PartKinds.{other_level}
+use Rattle.odd_content.proofs.Faults.{level_inner, level_least, part_least, other_level}
 use Rattle.odd_content.proofs.Parts.{all_found, all_given, element_first, none_read, part_read}
 use Rattle.odd_content.proofs.reading.+parts.Goals.{read_level-in-Sequence, read_level-in_default}
 use Rattle.odd_content.proofs.reading.+parts.Goals as goal

@@ -1,6 +1,6 @@
 use Rattle.std.proofs.Common.{Some, ap, ◌∙◌}
 use Rattle.odd_content.specs.Giving.{IsPart}
-use Rattle.odd_content.proofs.PartKinds.{empty_part}
+use Rattle.odd_content.proofs.Faults.{empty_part}
 use Rattle.odd_content.proofs.reading.plain_content.Goals as goal
 
 pub returns-in_ok-key_given-in-ElementRef : goal.returns-in_ok-key_given-in-ElementRef

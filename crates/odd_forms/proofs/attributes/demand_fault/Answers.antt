@@ -3,7 +3,7 @@ use Rattle.std.specs.Prelude.{is_some}
 use Rattle.std.proofs.lemmas.Bool.{both_ways}
 use Rattle.odd_tree.specs.Elements.{given}
 use Rattle.odd_forms.specs.Words.{is_given_among}
-use Rattle.odd_forms.proofs.Values.{both_least, needed_least, order_least}
+use Rattle.odd_forms.proofs.Least.{both_least, needed_least, order_least}
 use Rattle.odd_forms.proofs.attributes.demand_fault.Goals as goal
 use Rattle.odd_forms.proofs.attributes.demand_fault.Goals.{then-has_word, else-has_word}
 

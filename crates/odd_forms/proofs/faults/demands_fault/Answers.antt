@@ -1,7 +1,6 @@
 use Rattle.odd_forms.specs.Faults.{DemandFault}
 use Rattle.odd_forms.specs.Seen as seen
-use Rattle.odd_forms.proofs.Least.{all_passed, none_passed, one_passed}
-use Rattle.odd_forms.proofs.Lists.{begins_seen, none_left}
+use Rattle.odd_forms.proofs.Least.{all_passed, none_passed, one_passed, begins_seen, none_left}
 use Rattle.odd_forms.proofs.faults.demands_fault.Goals as goal
 
 pub loop-demand-init : goal.loop-demand-init

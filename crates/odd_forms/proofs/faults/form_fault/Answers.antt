@@ -1,7 +1,7 @@
 use Rattle.std.proofs.Common.{◌≡◌}
 use Rattle.std.specs.List.{list_any}
 use Rattle.odd_forms.specs.Seen as seen
-use Rattle.odd_forms.proofs.Forms.{form_least, is_twice}
+use Rattle.odd_forms.proofs.Least.{form_least, is_twice}
 use Rattle.odd_forms.proofs.faults.form_fault.Goals as goal
 
 pub returns : goal.returns

@@ -3,8 +3,7 @@ use Rattle.std.specs.Prelude.{is_some}
 use Rattle.std.specs.List.{list_any}
 use Rattle.odd_tree.specs.Elements.{given}
 use Rattle.odd_forms.specs.Seen as seen
-use Rattle.odd_forms.proofs.Forms.{own_least}
-use Rattle.odd_forms.proofs.Lists.{any_map}
+use Rattle.odd_forms.proofs.Least.{own_least, any_map}
 use Rattle.odd_forms.proofs.faults.own_fault.Goals as goal
 
 pub returns : goal.returns

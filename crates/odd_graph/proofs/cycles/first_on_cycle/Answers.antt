@@ -1,5 +1,5 @@
 use Rattle.std.proofs.Common.{arith}
-use Rattle.odd_graph.proofs.Leads.{arrow_back}
+use Rattle.odd_graph.proofs.Chains.{arrow_back}
 use Rattle.odd_graph.proofs.cycles.first_on_cycle.Goals as goal
 
 pub new-requires : goal.new-requires

@@ -1,5 +1,5 @@
 use Rattle.std.proofs.Common.{ap, ◌∙◌}
-use Rattle.odd_graph.proofs.AllPlaced.{all_placed}
+use Rattle.odd_graph.proofs.Placed.{all_placed}
 use Rattle.odd_graph.proofs.ordering.ordered.Goals as goal
 
 pub settle-requires-clause-turned : goal.settle-requires-clause-turned

@@ -1,7 +1,7 @@
 use Rattle.std.proofs.Common.{false, refl, sym, ◌∙◌, arith}
 use Rattle.std.proofs.lemmas.Bool.{false≢true}
 use Rattle.std.proofs.lemmas.List.{get_or_read, set-get_or}
-use Rattle.odd_graph.proofs.NodesMarked.{marked_before, marked_now}
+use Rattle.odd_graph.proofs.OneMore.{marked_before, marked_now}
 use Rattle.odd_graph.proofs.search.mark_all.Goals.{in-Some+then-not-mark+in_ok-push, in-Some+else-not-mark, in_default}
 use Rattle.odd_graph.proofs.search.mark_all.Goals as goal
 

@@ -1,5 +1,5 @@
 use Rattle.std.proofs.Common.{refl, arith}
-use Rattle.odd_graph.proofs.NodeAdded.{added_to_none, added_to_one}
+use Rattle.odd_graph.proofs.OneMore.{added_to_none, added_to_one}
 use Rattle.odd_graph.proofs.turning.add_to_each.Goals.{in-Some+in_ok-push, in_default}
 use Rattle.odd_graph.proofs.turning.add_to_each.Goals as goal
 

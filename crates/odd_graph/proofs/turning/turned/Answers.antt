@@ -1,4 +1,4 @@
-use Rattle.odd_graph.proofs.ArrowsTurned.{all_turned, turned_more}
+use Rattle.odd_graph.proofs.OneMore.{all_turned, turned_more}
 use Rattle.odd_graph.proofs.turning.turned.Goals as goal
 
 pub loop-node-preserved : goal.loop-node-preserved

@@ -1,6 +1,6 @@
 use Rattle.std.proofs.Common.{◌≡◌, [], vec_len}
 use Rattle.std.specs.List.{All}
-use Rattle.odd_graph.proofs.ArrowsTurned.{TurnedSoFar}
+use Rattle.odd_graph.proofs.OneMore.{TurnedSoFar}
 use Rattle.odd_graph.proofs.turning.turned.Given as goal
 
 abbrev pub invariant-loop : goal.invariant-loop

@@ -3,15 +3,13 @@ use Rattle.std.proofs.Math.Seq.{take-length}
 use Rattle.std.proofs.lemmas.Cmp.{nat_list_cmp_total}
 use Rattle.std.proofs.lemmas.Result.{IfOk-weaker}
 use Rattle.std.specs.FinMap.{find, slice_cmp-IsAntisymmetric, nat_cmp-IsAntisymmetric}
-use Rattle.odd_base.specs.Text.{text_cmp}
+use Rattle.odd_text.specs.Text.{text_cmp}
 use Rattle.odd_tree.specs.Elements.{StandsIn}
 use Rattle.odd_tree.proofs.InList.{ends}
 use Rattle.odd_forms.specs.Sorted.{IsSet, set_of}
-use Rattle.odd_forms.proofs.OneSet.{one_set}
+use Rattle.odd_forms.proofs.SetOf.{one_set, set_of_is}
 use Rattle.odd_members.specs.Membership.{takes}
-use Rattle.odd_members.proofs.AddedWords.{added_keys}
-use Rattle.odd_forms.proofs.SetOf.{set_of_is}
-use Rattle.odd_members.proofs.WordsKept.{added_more, added_same, kept_more, kept_same, not_taken}
+use Rattle.odd_members.proofs.Marks.{added_keys, added_more, added_same, kept_more, kept_same, not_taken}
 use Rattle.odd_members.proofs.membership.changed.Goals.{then-ne+in_ok-copy+in_ok-push, else-ne, then-is_added+in_ok-copy-2+in_ok-push-2, else-is_added}
 use Rattle.odd_members.proofs.membership.changed.Goals as goal
 

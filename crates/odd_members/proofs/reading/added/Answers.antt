@@ -2,13 +2,12 @@ use Rattle.std.proofs.Common.{◌≡◌, ◌<◌, [], ◌∷◌, ◌++◌, lengt
 use Rattle.std.proofs.Math.Seq.{take-length}
 use Rattle.std.proofs.lemmas.Cmp.{nat_list_cmp_total}
 use Rattle.std.specs.FinMap.{slice_cmp-IsAntisymmetric, nat_cmp-IsAntisymmetric}
-use Rattle.odd_base.proofs.Entries.{as_T}
-use Rattle.odd_base.specs.Text.{text_cmp}
+use Rattle.odd_text.proofs.Entries.{as_T}
+use Rattle.odd_text.specs.Text.{text_cmp}
 use Rattle.odd_tree.proofs.InList.{ends}
 use Rattle.odd_forms.specs.Sorted.{IsSet}
 use Rattle.odd_members.specs.Members.{IsAddedBy}
-use Rattle.odd_members.proofs.AddedWords.{added_are, added_keys}
-use Rattle.odd_members.proofs.WordsKept.{added_more, added_same}
+use Rattle.odd_members.proofs.Marks.{added_are, added_keys, added_more, added_same}
 use Rattle.odd_members.proofs.reading.added.Goals.{then-is_added+in_ok-copy+in_ok-push, else-is_added}
 use Rattle.odd_members.proofs.reading.added.Goals as goal
 

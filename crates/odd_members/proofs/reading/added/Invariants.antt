@@ -1,5 +1,5 @@
 use Rattle.std.proofs.Common.{◌≡◌, take}
-use Rattle.odd_members.proofs.AddedWords.{added_keys}
+use Rattle.odd_members.proofs.Marks.{added_keys}
 use Rattle.odd_members.proofs.reading.added.Given as goal
 
 abbrev pub invariant-loop-word : goal.invariant-loop-word

@@ -1,7 +1,7 @@
 use Rattle.std.proofs.Common.{sym, ◌∙◌}
 use Rattle.odd_tree.specs.Elements.{children_of}
 use Rattle.odd_members.specs.Members.{IsMembershipOf}
-use Rattle.odd_members.proofs.ClassesFaults.{added_named}
+use Rattle.odd_members.proofs.MembersRead.{added_named}
 use Rattle.odd_members.proofs.reading.membership.Goals as goal
 
 pub returns-then-is_change : goal.returns-then-is_change

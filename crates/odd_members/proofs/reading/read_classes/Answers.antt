@@ -5,7 +5,7 @@ use Rattle.odd_forms.specs.Least.{IsLeast}
 use Rattle.odd_forms.specs.declared.element.Element.TheVariants as element
 use Rattle.odd_forms.proofs.Children.{child_read, never_none, none_read, other_read}
 use Rattle.odd_members.specs.Members.{ClassesFault, IsMembershipOf}
-use Rattle.odd_members.proofs.ClassesFaults.{classes_least}
+use Rattle.odd_members.proofs.MembersRead.{classes_least}
 use Rattle.odd_members.proofs.reading.read_classes.Goals as goal
 
 pub loop-child-init : goal.loop-child-init

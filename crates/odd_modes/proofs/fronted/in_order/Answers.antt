@@ -1,10 +1,10 @@
 use Rattle.std.proofs.Common.{◌≡◌, ◌↔◌, map, subst}
 use Rattle.std.proofs.lemmas.Result.{IfOk-weaker}
-use Rattle.odd_base.specs.declared.key.Key.{Key}
+use Rattle.odd_text.specs.declared.key.Key.{Key}
 use Rattle.odd_tree.specs.Elements.{StandsIn}
 use Rattle.odd_forms.specs.Sorted.{IsSet}
 use Rattle.odd_modes.specs.Fronts.{fronted_cmp, unfronted}
-use Rattle.odd_modes.proofs.Fronts.{in_order_stands}
+use Rattle.odd_modes.proofs.SpecAt.{in_order_stands}
 use Rattle.odd_modes.proofs.fronted.in_order.Goals as goal
 
 pub returns : goal.returns

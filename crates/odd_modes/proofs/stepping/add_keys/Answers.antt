@@ -1,7 +1,7 @@
 use Rattle.std.proofs.Common.{◌↔◌, ◌⊎◌, subst, ◌∙◌}
 use Rattle.std.proofs.lemmas.List.{take_all}
 use Rattle.odd_tree.specs.Elements.{StandsIn}
-use Rattle.odd_choosing.specs.Index.{IsKeyOfSpec}
+use Rattle.odd_modes.specs.Index.{IsKeyOfSpec}
 use Rattle.odd_modes.proofs.SpecAt.{key_passed, key_put, no_spec}
 use Rattle.odd_modes.proofs.stepping.add_keys.Goals as goal
 use Rattle.odd_modes.proofs.stepping.add_keys.Goals.{in-Spec+in_ok-copy+in_ok-push, in_default}

@@ -1,7 +1,7 @@
 use Rattle.std.proofs.Common.{◌↔◌, ◌⊎◌, take}
-use Rattle.odd_base.specs.declared.key.Key.{Key}
+use Rattle.odd_text.specs.declared.key.Key.{Key}
 use Rattle.odd_tree.specs.Elements.{StandsIn}
-use Rattle.odd_choosing.specs.Index.{IsKeyOfSpec}
+use Rattle.odd_modes.specs.Index.{IsKeyOfSpec}
 use Rattle.odd_modes.proofs.stepping.add_keys.Given as goal
 
 abbrev pub invariant-loop-entry : goal.invariant-loop-entry

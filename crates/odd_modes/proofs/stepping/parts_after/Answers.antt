@@ -5,15 +5,15 @@ use Rattle.std.specs.FinMap.{find, is_sorted}
 use Rattle.std.specs.List.{list_any}
 use Rattle.std.specs.Option.{option_copied}
 use Rattle.std.specs.Ordering.{eq_by_cmp}
-use Rattle.odd_base.specs.Key.{key_cmp}
-use Rattle.odd_base.specs.Map.{SetsOnly}
-use Rattle.odd_base.specs.declared.key.Key.{Key}
+use Rattle.odd_text.specs.Key.{key_cmp}
+use Rattle.odd_text.specs.Map.{SetsOnly}
+use Rattle.odd_text.specs.declared.key.Key.{Key}
 use Rattle.odd_tree.specs.Elements.{StandsIn}
-use Rattle.odd_decls.specs.declared.library.Component.{Component}
-use Rattle.odd_choosing.specs.After.{spec_at}
+use Rattle.odd_library.specs.declared.library.Component.{Component}
+use Rattle.odd_modes.specs.After.{spec_at}
 use Rattle.odd_modes.specs.Fronts.{fronted_cmp}
-use Rattle.odd_choosing.specs.Index.{IsKeyOfSpec, over}
-use Rattle.odd_modes.proofs.AfterOne.{HoldAt, all_held, among_all, none_put, none_told, one_put}
+use Rattle.odd_modes.specs.Index.{IsKeyOfSpec, over}
+use Rattle.odd_modes.proofs.HeldEntries.{HoldAt, all_held, among_all, none_put, none_told, one_put}
 use Rattle.odd_modes.proofs.stepping.parts_after.Goals as goal
 use Rattle.odd_modes.proofs.stepping.parts_after.Goals.{in-Some+in_ok-copy+in_ok-put, in_default}
 

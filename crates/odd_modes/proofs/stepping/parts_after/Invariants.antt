@@ -3,10 +3,10 @@ use Rattle.std.specs.Prelude.{IsTrue}
 use Rattle.std.specs.FinMap.{find, is_sorted}
 use Rattle.std.specs.List.{list_any}
 use Rattle.std.specs.Ordering.{eq_by_cmp}
-use Rattle.odd_base.specs.Key.{key_cmp}
-use Rattle.odd_base.specs.declared.key.Key.{Key}
-use Rattle.odd_choosing.specs.After.{spec_at}
-use Rattle.odd_choosing.specs.Index.{over}
+use Rattle.odd_text.specs.Key.{key_cmp}
+use Rattle.odd_text.specs.declared.key.Key.{Key}
+use Rattle.odd_modes.specs.After.{spec_at}
+use Rattle.odd_modes.specs.Index.{over}
 use Rattle.odd_modes.proofs.stepping.parts_after.Given as goal
 
 abbrev pub invariant-loop-key : goal.invariant-loop-key

@@ -2,7 +2,7 @@ use Rattle.std.proofs.Common.{◌≡◌, [], subst}
 use Rattle.std.proofs.lemmas.Result.{IfOk-weaker}
 use Rattle.odd_patterns.specs.Words.{IsLeft, Matches, SameWords}
 use Rattle.odd_patterns.specs.declared.pattern.Pat.TheVariants.{Choice, Group}
-use Rattle.odd_patterns.proofs.Lefts.{choice_left, group_left, group_left_by_both, more_left}
+use Rattle.odd_patterns.proofs.Derivatives.{choice_left, group_left, group_left_by_both, more_left}
 use Rattle.odd_patterns.proofs.derivative.+derive.Goals as goal
 
 pub returns-in_ok-right-in-Choice : goal.returns-in_ok-right-in-Choice

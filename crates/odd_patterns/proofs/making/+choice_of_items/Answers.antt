@@ -1,7 +1,7 @@
 use Rattle.std.proofs.lemmas.Result.{IfOk-weaker}
 use Rattle.odd_patterns.specs.Words.{IsChoiceOf, SameWords}
 use Rattle.odd_patterns.specs.declared.pattern.Pat.TheVariants.{Choice}
-use Rattle.odd_patterns.proofs.Halves.{choice_halves, choice_of_few}
+use Rattle.odd_patterns.proofs.Pieces.{choice_halves, choice_of_few}
 use Rattle.odd_patterns.proofs.making.+choice_of_items.Goals as goal
 
 pub returns-then-count-lt2 : goal.returns-then-count-lt2

@@ -1,7 +1,7 @@
 use Rattle.std.proofs.lemmas.Result.{IfOk-weaker}
 use Rattle.odd_patterns.specs.Words.{IsGroupOf, SameWords}
 use Rattle.odd_patterns.specs.declared.pattern.Pat.TheVariants.{Group}
-use Rattle.odd_patterns.proofs.Halves.{group_halves, group_of_few}
+use Rattle.odd_patterns.proofs.Pieces.{group_halves, group_of_few}
 use Rattle.odd_patterns.proofs.making.+group_of_items.Goals as goal
 
 pub returns-then-count-lt2 : goal.returns-then-count-lt2

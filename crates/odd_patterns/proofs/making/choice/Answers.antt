@@ -2,7 +2,7 @@ use Rattle.std.proofs.Common.{◌≡◌, sym, subst}
 use Rattle.std.proofs.lemmas.Result.{IfOk-weaker}
 use Rattle.odd_patterns.specs.Words.{SameWords}
 use Rattle.odd_patterns.specs.declared.pattern.Pat.TheVariants.{Choice}
-use Rattle.odd_patterns.proofs.Simpler.{either_same, never_left, never_right, same_words}
+use Rattle.odd_patterns.proofs.Pieces.{either_same, never_left, never_right, same_words}
 use Rattle.odd_patterns.proofs.making.choice.Goals as goal
 
 pub returns-in-Never : goal.returns-in-Never

@@ -2,7 +2,7 @@ use Rattle.std.proofs.Common.{◌≡◌, sym, subst}
 use Rattle.std.proofs.lemmas.Result.{IfOk-weaker}
 use Rattle.odd_patterns.specs.Words.{SameWords}
 use Rattle.odd_patterns.specs.declared.pattern.Pat.TheVariants.{Group, Never}
-use Rattle.odd_patterns.proofs.Simpler.{empty_after, empty_before, never_after, never_before, same_words}
+use Rattle.odd_patterns.proofs.Pieces.{empty_after, empty_before, never_after, never_before, same_words}
 use Rattle.odd_patterns.proofs.making.group.Goals as goal
 
 pub returns-in-Never : goal.returns-in-Never

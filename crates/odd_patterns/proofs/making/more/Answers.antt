@@ -2,7 +2,7 @@ use Rattle.std.proofs.Common.{◌≡◌, sym, subst}
 use Rattle.std.proofs.lemmas.Result.{IfOk-weaker}
 use Rattle.odd_patterns.specs.Words.{SameWords}
 use Rattle.odd_patterns.specs.declared.pattern.Pat.TheVariants.{More}
-use Rattle.odd_patterns.proofs.Simpler.{more_again, more_empty, more_never, same_words}
+use Rattle.odd_patterns.proofs.Pieces.{more_again, more_empty, more_never, same_words}
 use Rattle.odd_patterns.proofs.making.more.Goals as goal
 
 pub returns-in-Never : goal.returns-in-Never

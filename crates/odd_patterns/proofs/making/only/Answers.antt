@@ -1,6 +1,6 @@
 use Rattle.std.proofs.Common.{◌∷◌, [], inl, inr, refl}
 use Rattle.std.specs.Prelude.{vec_len}
-use Rattle.odd_patterns.proofs.Halves.{ended}
+use Rattle.odd_patterns.proofs.Pieces.{ended}
 use Rattle.odd_patterns.proofs.making.only.Goals as goal
 
 pub returns-in-Some : goal.returns-in-Some

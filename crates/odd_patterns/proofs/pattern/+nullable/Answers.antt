@@ -1,4 +1,4 @@
-use Rattle.odd_patterns.proofs.EmptyWord.{choice_else, choice_then, group_else, group_then, more_part}
+use Rattle.odd_patterns.proofs.Derivatives.{choice_else, choice_then, group_else, group_then, more_part}
 use Rattle.odd_patterns.proofs.pattern.+nullable.Goals as goal
 
 pub returns-then-nullable : goal.returns-then-nullable

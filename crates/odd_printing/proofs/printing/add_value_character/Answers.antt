@@ -2,7 +2,7 @@ use Rattle.std.proofs.Common.{◌≡◌, arith, encode_utf8}
 use Rattle.std.proofs.lemmas.Bool.Decides.{nat_tests}
 use Rattle.std.proofs.lemmas.Str.{encode_ascii}
 use Rattle.odd_tree.specs.Markup.{escaped_text, escaped_value}
-use Rattle.odd_printing.proofs.Escapes.{kept_in_text, kept_in_value}
+use Rattle.odd_printing.proofs.PrintedCharacters.{kept_in_text, kept_in_value}
 use Rattle.odd_printing.proofs.printing.add_value_character.Goals as goal
 
 pub returns-in_default : goal.returns-in_default

@@ -6,7 +6,7 @@ use Rattle.std.proofs.lemmas.Iterator.{YieldsList-from_chars}
 use Rattle.std.proofs.lemmas.Iterator.Search.{all_from_yields_List}
 use Rattle.std.proofs.lemmas.Str.{IsUtf8-past_char}
 use Rattle.odd_tokens.specs.Characters.{is_name_start as a_name_start, is_name_char as a_name_char}
-use Rattle.odd_tokens.proofs.NCNames.{decided_by_chars, none_empty, first_tested}
+use Rattle.odd_tokens.proofs.Ascii.{decided_by_chars, none_empty, first_tested}
 use Rattle.odd_tokens.proofs.names.is_ncname.Goals as goal
 
 pub returns-then-is_name_start : goal.returns-then-is_name_start

@@ -2,7 +2,7 @@ use Rattle.std.proofs.Common.{sym, ap, map, ◌∙◌}
 use Rattle.std.proofs.lemmas.List.{nil_from_length}
 use Rattle.odd_tree.specs.Elements.{all_binds}
 use Rattle.odd_tree.specs.Names.{last_bound}
-use Rattle.odd_tree.proofs.Levels.{bound_before, bound_last}
+use Rattle.odd_tree.proofs.LastBound.{bound_before, bound_last}
 use Rattle.odd_tree.proofs.in_force.bound.Goals as goal
 
 pub loop-level-preserved : goal.loop-level-preserved

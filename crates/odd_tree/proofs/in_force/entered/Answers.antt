@@ -1,5 +1,5 @@
 use Rattle.std.proofs.Common.{◌≡◌, ◌∷◌, [], ◌++◌}
-use Rattle.odd_tree.proofs.Levels.{seen_more}
+use Rattle.odd_tree.proofs.LastBound.{seen_more}
 use Rattle.odd_tree.proofs.in_force.entered.Goals as goal
 
 pub returns : goal.returns

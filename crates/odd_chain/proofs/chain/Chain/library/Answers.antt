@@ -1,14 +1,14 @@
 use Rattle.std.proofs.Common.{◌≡◌, ℕ, List, Result, Ok, Err, IfOk, IsOk, refl, subst}
 use Rattle.odd_tree.specs.declared.tree.Tree.{Tree}
-use Rattle.odd_decls.specs.declared.library.Library.{Library}
-use Rattle.odd_decls.specs.declared.odd.OddDoc.{OddDoc}
-use Rattle.odd_choosing.specs.After.{IsLibraryAfter}
+use Rattle.odd_library.specs.declared.library.Library.{Library}
+use Rattle.odd_library.specs.declared.odd.OddDoc.{OddDoc}
+use Rattle.odd_modes.specs.After.{IsLibraryAfter}
 use Rattle.odd_chain.specs.Files.{AreDeclared, Gives}
 use Rattle.odd_chain.specs.Offences.{OffendsIn}
 use Rattle.odd_chain.specs.Order.{Position}
 use Rattle.odd_chain.specs.Reading.{IsBrokenAfter}
 use Rattle.odd_chain.specs.declared.chain.ChainRefusal.{ChainRefusal}
-use Rattle.odd_chain.proofs.Declared.{declared_read}
+use Rattle.odd_chain.proofs.Merged.{declared_read}
 use Rattle.odd_chain.proofs.Files.{broken, docs_give, form_refused, docs_refused, whole}
 use Rattle.odd_chain.proofs.chain.Chain.library.Goals as goal
 

@@ -1,6 +1,6 @@
 use Rattle.std.proofs.Common.{sym, ◌∙◌}
 use Rattle.std.proofs.lemmas.List.{take_all}
-use Rattle.odd_graph.proofs.AllPlaced.{held_more}
+use Rattle.odd_graph.proofs.Placed.{held_more}
 use Rattle.odd_graph.proofs.ordering.Placing.settle.Goals as goal
 
 pub loop-node-preserved : goal.loop-node-preserved

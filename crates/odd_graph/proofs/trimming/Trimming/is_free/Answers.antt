@@ -1,5 +1,5 @@
 use Rattle.std.proofs.Common.{refl}
-use Rattle.odd_graph.proofs.Trimmed.{free_forth, free_back, passed_more}
+use Rattle.odd_graph.proofs.Chains.{free_forth, free_back, passed_more}
 use Rattle.odd_graph.proofs.trimming.Trimming.is_free.Goals as goal
 
 pub returns-then-is_free-clause-free : goal.returns-then-is_free-clause-free

@@ -1,4 +1,4 @@
-use Rattle.odd_graph.proofs.Trimmed.{all_left}
+use Rattle.odd_graph.proofs.Chains.{all_left}
 use Rattle.odd_graph.proofs.trimming.Trimming.new.Goals as goal
 
 pub loop-node-init : goal.loop-node-init

@@ -5,8 +5,8 @@ use Rattle.odd_reader.specs.Building.{Built}
 use Rattle.std.specs.Prelude.{Err}
 use Rattle.odd_reader.specs.Reading.{refusal_of_fault, refusal_of_misfit}
 use Rattle.odd_tree.specs.Spelled.{DepthPlace, IsNotXml}
-use Rattle.odd_elements.specs.declared.misfit.Misfit.{Misfit}
-use Rattle.odd_elements.specs.declared.misfit.Misfit.TheVariants as misfit
+use Rattle.odd_reader.specs.declared.misfit.Misfit.{Misfit}
+use Rattle.odd_reader.specs.declared.misfit.Misfit.TheVariants as misfit
 use Rattle.odd_reader.specs.declared.reader.ReadRefusal.TheVariants as refusal
 use Rattle.odd_reader.proofs.Taken.{place_between, goes_on, token_taken, malformed_place, misplaced_place, too_deep_place}
 use Rattle.odd_reader.proofs.reader.Reader.take.Goals as goal

@@ -1,7 +1,7 @@
 use Rattle.std.proofs.Common.{◌≡◌, ◌+◌, ◌<◌, ◌≤◌, cond, Some, length, take, sym, ap, ◌∙◌, arith}
 use Rattle.std.specs.BTreeMap.{get, is_at}
 use Rattle.std.proofs.lemmas.List.{take_all}
-use Rattle.odd_base.specs.Text.{text_cmp}
+use Rattle.odd_text.specs.Text.{text_cmp}
 use Rattle.odd_tree.specs.Names.{last_bound}
 use Rattle.odd_tree.proofs.LastBound.{last_bound_more}
 use Rattle.odd_tree.proofs.bindings.Bindings.new.Goals as goal

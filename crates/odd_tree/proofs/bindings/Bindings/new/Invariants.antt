@@ -1,6 +1,6 @@
 use Rattle.std.proofs.Common.{◌≡◌, ℕ, List, take}
 use Rattle.std.specs.BTreeMap.{get}
-use Rattle.odd_base.specs.Text.{text_cmp}
+use Rattle.odd_text.specs.Text.{text_cmp}
 use Rattle.odd_tree.specs.Names.{last_bound}
 use Rattle.odd_tree.proofs.bindings.Bindings.new.Given as goal
 

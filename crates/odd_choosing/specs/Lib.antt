@@ -1,4 +1,0 @@
-pub mod After
-pub mod Choosing
-pub mod Index
-pub mod Offences

@@ -1,0 +1,238 @@
+-- Each step of a reply has one outcome, and so have all of them one after another.
+use Rattle.std.proofs.Common.{◌≡◌, ℕ, List, [], ◌∷◌, ◌++◌, append_assoc, length, arith, refl, sym, ap, subst, subst₂, ◌∙◌, ⊎_elim, suc, inl, inr, ◌≤◌, ◌<◌}
+use Rattle.std.proofs.lemmas.Cmp.{nat_list_cmp_total}
+use Rattle.std.proofs.lemmas.List.{append_cancel_right}
+use Rattle.std.proofs.lemmas.Option.{same_Some}
+use Rattle.std.specs.FinMap.{slice_cmp-IsAntisymmetric, nat_cmp-IsAntisymmetric}
+use Rattle.std.specs.Prelude.{codes}
+use Rattle.compile_core.proofs.OneGrammarOf.{one_grammar_of}
+use Rattle.compile_core.specs.Schema.{HasLargeSchema, IsLeastMissing, IsSchema, IsTooLarge}
+use Rattle.compile_defines.specs.Compiled.{HoldsStart}
+use Rattle.odd_base.specs.Shelf.{FileMap, IsTooLong, NotHeld}
+use Rattle.odd_chain.proofs.Files.{gives_one, one_chain_refusal, one_pending, pending_not_read, refused_gives_none}
+use Rattle.odd_chain.specs.Files.{Gives}
+use Rattle.odd_forms.proofs.SetOf.{neither_below}
+use Rattle.odd_library.specs.declared.library.Library.{Library}
+use Rattle.odd_reader.proofs.Places.{one_depth, one_fault}
+use Rattle.odd_reader.proofs.Refusing.{gives_not_deep, one_tree}
+use Rattle.odd_text.specs.Text.{text_cmp}
+use Rattle.odd_tree.proofs.InList.{Stands, first_or_later, nothing_stands, stands_around}
+use Rattle.odd_tree.specs.Elements.{StandsIn}
+use Rattle.odd_tree.specs.Spelled.{DepthPlace, IsNotXml, Spells}
+use Rattle.odd_tree.specs.declared.tree.Tree.{Tree}
+use Rattle.rng_emit.specs.Grammar.{grammar_text}
+use Rattle.rng_patterns.specs.declared.grammar.Grammar.{Grammar}
+use Rattle.odd_cli.specs.Outcome.{Outcome, Then, IsOne, answers, gives}
+use Rattle.odd_cli.specs.Reading.{IsOfFile, IsOfTrees}
+use Rattle.odd_cli.specs.Reply.{FileGives, FileStops, GiveTrees, IsReached, IsRead, file_bytes, more, none, not_held, not_xml, too_deep, too_long, HasSchema, Merges, NamesFiles, ReadsChain, ReadsForms, TreesComeTo, WordsComeTo, all_read, all_spelled, merged, named, no_job, not_yet, refused, schema, start_missing, start_offence, stops, too_large, too_many}
+use Rattle.odd_cli.specs.Words.{Compiles, WordsMean, compile}
+use Rattle.odd_cli.specs.declared.status.LimitKind.TheVariants as limit
+use Rattle.odd_cli.specs.declared.status.Status.{Status}
+use Rattle.odd_cli.specs.declared.status.Status.TheVariants as status
+use Rattle.odd_cli.specs.declared.words.Job.{Job}
+
+-- a file that is read is held, and not too long
+pub read_absent : (files : FileMap) (name b : List ℕ) → IsRead files name b → NotHeld files name → ⊥
+read_absent files name b r absent = let held = r.held in cc
+
+read_long : (files : FileMap) (name b : List ℕ) → IsRead files name b → IsTooLong files name file_bytes → ⊥
+read_long files name b r long = omega (arith, r.within, ap length (same_Some b long.0 (sym r.held ∙ long.1)), long.2)
+
+-- what is said of its bytes is said of them as they are read again
+again : (files : FileMap) (name b c : List ℕ) (Is : List ℕ → Type 0) → IsRead files name b → IsRead files name c → Is b → Is c
+again files name b c Is r q = subst Is (same_Some b c (sym r.held ∙ q.held))
+
+module _ (files : FileMap) where
+  not_xml_again : (name b c : List ℕ) (place : ℕ) → IsRead files name b → IsRead files name c → IsNotXml b place → IsNotXml c place
+  not_xml_again name b c place = again files name b c (λ bytes. IsNotXml bytes place)
+
+  deep_again : (name b c : List ℕ) (place : ℕ) → IsRead files name b → IsRead files name c → DepthPlace b place → DepthPlace c place
+  deep_again name b c place = again files name b c (λ bytes. DepthPlace bytes place)
+
+  -- a file of a number stops in one way
+  one_stop : (name : List ℕ) (n : ℕ) (s r : Status) → FileStops files name n s → FileStops files name n r → s ≡ r
+  one_stop name n s r (not_held a) (not_held b) = refl
+  one_stop name n s r (not_held a) (too_long l) = cc
+  one_stop name n s r (not_held a) (not_xml b i x) = absurd (read_absent files name b i a)
+  one_stop name n s r (not_held a) (too_deep b i d) = absurd (read_absent files name b i a)
+  one_stop name n s r (too_long l) (not_held a) = cc
+  one_stop name n s r (too_long l) (too_long m) = refl
+  one_stop name n s r (too_long l) (not_xml b i x) = absurd (read_long files name b i l)
+  one_stop name n s r (too_long l) (too_deep b i d) = absurd (read_long files name b i l)
+  one_stop name n s r (not_xml b i x) (not_held a) = absurd (read_absent files name b i a)
+  one_stop name n s r (not_xml b i x) (too_long l) = absurd (read_long files name b i l)
+  one_stop name n s r (not_xml {place = p} b i x) (not_xml {place = q} c j y) = ap (status.NotXml n) (one_fault c p q (not_xml_again name b c p i j x).fault y.fault)
+  one_stop name n s r (not_xml {place = p} b i x) (too_deep {place = q} c j d) = absurd ((not_xml_again name b c p i j x).not_deep q d)
+  one_stop name n s r (too_deep b i d) (not_held a) = absurd (read_absent files name b i a)
+  one_stop name n s r (too_deep b i d) (too_long l) = absurd (read_long files name b i l)
+  one_stop name n s r (too_deep {place = p} b i d) (not_xml {place = q} c j x) = absurd (x.not_deep p (deep_again name b c p i j d))
+  one_stop name n s r (too_deep {place = p} b i d) (too_deep {place = q} c j f) = ap (λ x. status.Limit (limit.Depth n x)) (one_depth c p q (deep_again name b c p i j d) f)
+
+  -- and where it gives a tree, it does not stop
+  gives_or_stops : (name : List ℕ) (n : ℕ) (t : Tree) (s : Status) → FileGives files name t → FileStops files name n s → ⊥
+  gives_or_stops name n t s g (not_held a) = read_absent files name g.bytes g.is_read a
+  gives_or_stops name n t s g (too_long l) = read_long files name g.bytes g.is_read l
+  gives_or_stops name n t s g (not_xml {place = p} b i x) = (not_xml_again name b g.bytes p i g.is_read x).fault.spells_none t g.given.spelled
+  gives_or_stops name n t s g (too_deep {place = p} b i d) = gives_not_deep g.bytes t p g.given (deep_again name b g.bytes p i g.is_read d)
+
+  -- files give their trees alone
+  pub one_trees : (names : List (List ℕ)) (ts us : List Tree) → GiveTrees files names ts → GiveTrees files names us → ts ≡ us
+  one_trees [] ts us none none = refl
+  one_trees (name ∷ names) ts us (more {tree = t} {trees = xs} g gs) (more {tree = u} {trees = ys} h hs) =
+      let spelled = again files name g.bytes h.bytes (λ bytes. Spells bytes t) g.is_read h.is_read g.given.spelled in
+      λ i. one_tree h.bytes t u spelled h.given.spelled i ∷ one_trees names xs ys gs hs i
+
+  -- each of the files gives one of them
+  pub gives_each : (names : List (List ℕ)) (ts : List Tree) (name : List ℕ) → GiveTrees files names ts → StandsIn names name → (t : Tree) × FileGives files name t
+  gives_each [] ts name none s = absurd (nothing_stands name s)
+  gives_each (first ∷ names) ts name (more {tree = t} {trees = us} g gs) s =
+      ⊎_elim (λ e. (t, subst (λ x. FileGives files x t) (sym e) g)) (λ later. gives_each names us name gs later) (first_or_later first name names s)
+
+  -- none of them stops
+  pub none_stops : (names : List (List ℕ)) (ts : List Tree) (name : List ℕ) (n : ℕ) (s : Status) → GiveTrees files names ts → StandsIn names name → FileStops files name n s → ⊥
+  none_stops names ts name n s gs stands stop = let each = gives_each names ts name gs stands in gives_or_stops name n each.0 s each.1 stop
+
+  -- a chain stops at one of its files, and in one way
+  pub stops_once : (chain : List (List ℕ)) (m n : ℕ) (name other : List ℕ) (s r : Status) → IsReached files chain m name → IsReached files chain n other
+      → FileStops files name m s → FileStops files other n r → s ≡ r
+  stops_once chain m n name other s r a b h k = elim (stands_around a.earlier name a.later b.earlier other b.later (sym a.parts ∙ b.parts)) [
+    | Stands.before c i ↦ absurd (none_stops a.earlier a.trees other n r a.given (b.earlier, c, i) k)
+    | Stands.here i e ↦
+        let numbers : m ≡ n = a.numbered ∙ ap (λ xs. suc (length xs)) i ∙ sym b.numbered in
+        one_stop other n s r (subst₂ (λ (x : List ℕ) (y : ℕ). FileStops files x y s) e numbers h) k
+    | Stands.after c i ↦
+        let before : a.earlier ++ name ∷ c ≡ b.earlier = append_cancel_right (a.earlier ++ name ∷ c) b.earlier (other ∷ b.later)
+        (append_assoc a.earlier (name ∷ c) (other ∷ b.later) ∙ ap (λ xs. a.earlier ++ name ∷ xs) (sym i) ∙ sym a.parts ∙ b.parts) in
+        absurd (none_stops b.earlier b.trees name m s b.given (a.earlier, c, sym before) h)
+  ]
+
+-- what is given, and what is answered
+abbrev given_of : {Y : Type 0} → Y → Outcome Y → Y
+given_of other (answers s) = other
+given_of other (gives y) = y
+
+abbrev answer_of : {Y : Type 0} → Status → Outcome Y → Status
+answer_of other (answers s) = s
+answer_of other (gives y) = other
+
+module _ {X Y Z : Type 0} (R : X → Outcome Y → Type 0) (S : Y → Outcome Z → Type 0) (one : IsOne R) (other : IsOne S) where
+  -- what is given is given once
+  given_once : (x : X) (y z : Y) → R x (gives y) → R x (gives z) → y ≡ z
+  given_once x y z r q = ap (given_of y) (one x (gives y) (gives z) r q)
+
+  -- where something is given nothing is answered
+  not_both : (x : X) (y : Y) (s : Status) → R x (gives y) → R x (answers s) → ⊥
+  not_both x y s r q = let no = one x (gives y) (answers s) r q in cc
+
+  later_once : (x : X) (y z : Y) (o p : Outcome Z) → R x (gives y) → R x (gives z) → S y o → S z p → o ≡ p
+  later_once x y z o p r q s t = other z o p (subst (λ v. S v o) (given_once x y z r q) s) t
+
+  pub then_one : IsOne (Then R S)
+  then_one x (answers s) (answers t) (inl r) (inl q) = ap answers (ap (answer_of s) (one x (answers s) (answers t) r q))
+  then_one x (answers s) (answers t) (inl r) (inr q) = absurd (not_both x q.0 s q.1 r)
+  then_one x (answers s) (answers t) (inr r) (inl q) = absurd (not_both x r.0 t r.1 q)
+  then_one x (answers s) (answers t) (inr r) (inr q) = later_once x r.0 q.0 (answers s) (answers t) r.1 q.1 r.2 q.2
+  then_one x (answers s) (gives z) (inl r) q = absurd (not_both x q.0 s q.1 r)
+  then_one x (answers s) (gives z) (inr r) q = later_once x r.0 q.0 (answers s) (gives z) r.1 q.1 r.2 q.2
+  then_one x (gives z) (answers s) r (inl q) = absurd (not_both x r.0 s r.1 q)
+  then_one x (gives z) (answers s) r (inr q) = later_once x r.0 q.0 (gives z) (answers s) r.1 q.1 r.2 q.2
+  then_one x (gives z) (gives v) r q = later_once x r.0 q.0 (gives z) (gives v) r.1 q.1 r.2 q.2
+
+-- words name the files of one chain
+pub one_chain : (words f g : List (List ℕ)) → Compiles words f → Compiles words g → f ≡ g
+one_chain words f g p q = let same : codes "compile" ∷ f ≡ codes "compile" ∷ g = sym p.words_are ∙ q.words_are in cc
+
+-- words that name files have a job
+pub no_job_but : (words chain : List (List ℕ)) → ((job : Job) → WordsMean words job → ⊥) → Compiles words chain → ⊥
+no_job_but words chain without c = without _ (compile chain c refl)
+
+-- and no chain is both too long and not
+many_but : (words f g : List (List ℕ)) → Compiles words f → Compiles words g → 16 < length f → length g ≤ 16 → ⊥
+many_but words f g p q long short = omega (arith, long, short, ap length (one_chain words f g p q))
+
+pub names_one : IsOne NamesFiles
+names_one words o p (no_job n) (no_job m) = refl
+names_one words o p (no_job n) (too_many g q l) = absurd (no_job_but words g n q)
+names_one words o p (no_job n) (named {chain = g} q l) = absurd (no_job_but words g n q)
+names_one words o p (too_many f c l) (no_job n) = absurd (no_job_but words f n c)
+names_one words o p (too_many f c l) (too_many g q m) = refl
+names_one words o p (too_many f c l) (named {chain = g} q m) = absurd (many_but words f g c q l m)
+names_one words o p (named {chain = f} c l) (no_job n) = absurd (no_job_but words f n c)
+names_one words o p (named {chain = f} c l) (too_many g q m) = absurd (many_but words g f q c m l)
+names_one words o p (named {chain = f} c l) (named {chain = g} q m) = ap gives (one_chain words f g c q)
+
+reading_one : (files : FileMap) → IsOne (ReadsChain files)
+reading_one files chain o p (stops {s = s} m name a h) (stops {s = r} n other b k) = ap answers (stops_once files chain m n name other s r a b h k)
+reading_one files chain o p (stops {s = s} n name a h) (all_spelled {trees = ts} g) = absurd (none_stops files chain ts name n s g (a.earlier, a.later, a.parts) h)
+reading_one files chain o p (all_spelled {trees = ts} g) (stops {s = s} n name a h) = absurd (none_stops files chain ts name n s g (a.earlier, a.later, a.parts) h)
+reading_one files chain o p (all_spelled {trees = ts} g) (all_spelled {trees = us} h) = ap gives (one_trees files chain ts us g h)
+
+forms_one : IsOne ReadsForms
+forms_one trees o p (not_yet {file = f} a) (not_yet {file = g} b) = ap (λ n. answers (status.NotYet n)) (one_pending trees f g a b)
+forms_one trees o p (not_yet {file = f} a) (all_read r) = absurd (pending_not_read trees f a r)
+forms_one trees o p (all_read r) (not_yet {file = f} a) = absurd (pending_not_read trees f a r)
+forms_one trees o p (all_read r) (all_read q) = refl
+
+-- the least of some words is one word
+one_least : (library : Library) (start : List (List ℕ)) (v w : List ℕ) → IsLeastMissing library start v → IsLeastMissing library start w → v ≡ w
+one_least library start v w p q =
+    neither_below text_cmp nat_list_cmp_total (slice_cmp-IsAntisymmetric nat_cmp-IsAntisymmetric) v w (q.least v p.among p.missing) (p.least w q.among q.missing)
+
+-- trees have one library, and it has this word
+least_after : (trees : List Tree) (l m : Library) (word : List ℕ) → Gives trees l → Gives trees m → IsLeastMissing l l.start word → IsLeastMissing m m.start word
+least_after trees l m word g k = subst (λ x. IsLeastMissing x x.start word) (gives_one trees l m g k)
+
+held_but : (l : Library) (word : List ℕ) → IsLeastMissing l l.start word → HoldsStart l l.start → ⊥
+held_but l word least h = h word least.among least.missing
+
+merges_one : IsOne Merges
+merges_one trees o p (refused {offence = a} r) (refused {offence = b} q) = ap (λ x. answers (status.Refused x)) (one_chain_refusal trees a b r q)
+merges_one trees o p (refused {offence = a} r) (start_missing w m k e) = absurd (refused_gives_none trees a m r k)
+merges_one trees o p (refused {offence = a} r) (merged {library = m} k h) = absurd (refused_gives_none trees a m r k)
+merges_one trees o p (start_missing v l g d) (refused {offence = a} r) = absurd (refused_gives_none trees a l r g)
+merges_one trees o p (start_missing v l g d) (start_missing w m k e) =
+    ap (λ x. answers (status.Refused (start_offence (length trees) x))) (one_least m m.start v w (least_after trees l m v g k d) e)
+merges_one trees o p (start_missing v l g d) (merged {library = m} k h) = absurd (held_but m v (least_after trees l m v g k d) h)
+merges_one trees o p (merged {library = l} g h) (refused {offence = a} r) = absurd (refused_gives_none trees a l r g)
+merges_one trees o p (merged {library = l} g h) (start_missing w m k e) = absurd (held_but l w (least_after trees m l w k g e) h)
+merges_one trees o p (merged {library = l} g h) (merged {library = m} k i) = ap gives (gives_one trees l m g k)
+
+-- a library whose schema passes a limit has none that passes none
+large_but : (l : Library) (g : Grammar) → HasLargeSchema l l.start → IsSchema l l.start g → ⊥
+large_but l g p q = q.within (subst IsTooLarge (one_grammar_of l l.start p.grammar g p.is_grammar q.is_grammar) p.too_large)
+
+schema_one : IsOne HasSchema
+schema_one l o p (too_large a) (too_large b) = refl
+schema_one l o p (too_large a) (schema g i e) = absurd (large_but l g a i)
+schema_one l o p (schema g i e) (too_large a) = absurd (large_but l g a i)
+schema_one l o p (schema g i e) (schema h j f) = ap gives (e ∙ ap grammar_text (one_grammar_of l l.start g h i.is_grammar j.is_grammar) ∙ sym f)
+
+pub trees_one : IsOne TreesComeTo
+trees_one = then_one ReadsForms (Then Merges HasSchema) forms_one (then_one Merges HasSchema merges_one schema_one)
+
+pub words_one : (files : FileMap) → IsOne (WordsComeTo files)
+words_one files = then_one NamesFiles (Then (ReadsChain files) TreesComeTo) names_one (then_one (ReadsChain files) TreesComeTo (reading_one files) trees_one)
+
+-- a file answers with its number
+pub of_file : (files : FileMap) (name : List ℕ) (number : ℕ) (s : Status) → FileStops files name number s → IsOfFile number s
+of_file files name number s (not_held a) = refl
+of_file files name number s (too_long l) = refl
+of_file files name number s (not_xml bytes r x) = refl
+of_file files name number s (too_deep bytes r d) = refl
+
+-- and trees with what is of all of them
+pub of_trees : (trees : List Tree) (s : Status) → TreesComeTo trees (answers s) → IsOfTrees s
+of_trees trees s (inl (not_yet p)) = tt
+of_trees trees s (inr (ts, f, inl (refused r))) = tt
+of_trees trees s (inr (ts, f, inl (start_missing word library g m))) = tt
+of_trees trees s (inr (ts, f, inr (library, m, too_large l))) = tt
+
+-- any other status is of the words
+pub of_words : (words : List (List ℕ)) (files : FileMap) (s : Status) → ((number : ℕ) → IsOfFile number s → ⊥) → (IsOfTrees s → ⊥) → WordsComeTo files words (answers s) → NamesFiles words (answers s)
+of_words words files s of_none of_no (inl n) = n
+of_words words files s of_none of_no (inr (chain, n, inl (stops number name r h))) = absurd (of_none number (of_file files name number s h))
+of_words words files s of_none of_no (inr (chain, n, inr (trees, r, t))) = absurd (of_no (of_trees trees s t))
+
+-- none is Done
+pub never_done : (words : List (List ℕ)) (files : FileMap) → WordsComeTo files words (answers status.Done) → ⊥
+never_done words files h = elim (of_words words files status.Done (λ number is. is) (λ is. is) h) [ ]

@@ -1,0 +1,69 @@
+use Rattle.std.proofs.Common.{◌≡◌, ◌+◌, ◌≤◌, suc, [], length, ap, refl, subst, sym, ◌∙◌, arith}
+use Rattle.std.specs.Prelude.{IfErr, IsTrue}
+use Rattle.odd_text.specs.Count.{next_count}
+use Rattle.odd_tree.proofs.InList.{nothing_stands}
+use Rattle.odd_cli.specs.Reading.{IsOfFile}
+use Rattle.odd_cli.specs.Reply.{FileStops, GiveTrees}
+use Rattle.odd_cli.specs.Running.{IsReplied}
+use Rattle.odd_cli.proofs.Answering.{chain_with, faults_next, next_counted, of_next, on_read, own_fault, stops_next, tree_read}
+use Rattle.odd_cli.proofs.running.read_chain.Goals as goal
+
+pub loop-name-init : goal.loop-name-init
+loop-name-init g c = record {
+  numbered = refl;
+  read = record { trees = []; is_chain = c.new-chain.ensures; many = refl; spelled = λ t s. absurd (nothing_stands t s); given = λ files h. GiveTrees.none };
+  begun = refl;
+  few_reads = omega arith;
+  ended = λ files h none. absurd (omega (arith, none));
+  goes_on = (refl, refl, omega arith, omega arith, omega arith);
+}
+
+pub loop-name-preserved : goal.loop-name-preserved
+loop-name-preserved g c =
+    let inv = c.loop-name.invariant in
+    let made = c.in-Ok.ensures.ok in
+    let read = c.read_file-read.ensures in
+    record {
+      numbered = omega arith;
+      read = chain_with (g.F.Shelf.holds c.args.shelf.now) c.args.names.now c.loop-name.name-index c.name-item.result c.loop-name-test.true c.name-item.is made.0 c.loop-name.chain c.in-Ok.made inv.read
+          (tree_read _ _ c.name-item.result c.read_file-read.result made.0 inv.goes_on.0 made.1 read.ok) (λ trees first end f of e. made.2 trees first end f of (omega (arith, e, inv.numbered)));
+      begun = read.begins ∙ ap next_count inv.begun ∙ next_counted (g.F.Shelf.begins c.args.shelf.now) c.loop-name.name-index;
+      few_reads = omega (arith, read.few_reads, inv.few_reads);
+      ended = λ files h some. on_read c.read_file-read.result made.0 _ made.1 (read.to_the_end files (inv.goes_on.0 ∙ h));
+      goes_on = (
+        read.goes_on.0 ∙ inv.goes_on.0,
+        read.goes_on.1 ∙ inv.goes_on.1,
+        omega (arith, read.goes_on.2, inv.goes_on.2),
+        omega (arith, read.goes_on.3, inv.goes_on.3),
+        omega (arith, read.goes_on.4, inv.goes_on.4),
+      );
+    }
+
+pub returns-in-Err-clause-err : goal.returns-in-Err-clause-err
+returns-in-Err-clause-err g c = λ files h replied.
+    let inv = c.loop-name.invariant in
+    let number : c.loop-name.file + 1 ≡ suc c.loop-name.name-index = omega (arith, inv.numbered) in
+    stops_next (g.F.Shelf.holds c.args.shelf.now) c.args.names.now c.loop-name.name-index c.name-item.result c.loop-name-test.true c.name-item.is c.loop-name.chain files h inv.read
+    c.read_file-read.result c.in-Err.status
+    (subst (λ n. IfErr c.read_file-read.result (λ t. IsReplied t → FileStops files c.name-item.result n t)) number (c.read_file-read.ensures.err files (inv.goes_on.0 ∙ h))) c.in-Err.ensures.err replied
+
+pub returns-in-Err-clause-read_place : goal.returns-in-Err-clause-read_place
+returns-in-Err-clause-read_place g c = λ files number h is.
+    let inv = c.loop-name.invariant in
+    let read = c.read_file-read.ensures in
+    let own = own_fault c.read_file-read.result c.in-Err.status (c.loop-name.file + 1) number read.of_file c.in-Err.ensures.err (cc) in
+    faults_next (g.F.Shelf.holds c.args.shelf.now) c.args.names.now c.loop-name.name-index c.name-item.result c.loop-name-test.true c.name-item.is c.loop-name.chain files number _ _ h inv.read
+    (omega (arith, own.1, inv.numbered)) (λ bytes held. read.suffix files bytes number (inv.goes_on.0 ∙ h) held own.0)
+    (λ steady. read.not_held files number (inv.goes_on.0 ∙ h) (subst IsTrue (sym inv.goes_on.1) steady) own.0)
+
+pub returns-in-Err-clause-begins_err : goal.returns-in-Err-clause-begins_err
+returns-in-Err-clause-begins_err g c =
+    let inv = c.loop-name.invariant in
+    let read = c.read_file-read.ensures in
+    let number : c.loop-name.file + 1 ≡ c.loop-name.name-index + 1 = omega (arith, inv.numbered) in
+    let within : c.loop-name.name-index + 1 ≤ length c.args.names.now = omega (arith, c.loop-name-test.true) in (
+      c.loop-name.name-index + 1,
+      within,
+      subst (λ n. IsOfFile n c.in-Err.status) number (of_next c.read_file-read.result c.in-Err.status (c.loop-name.file + 1) read.of_file c.in-Err.ensures.err),
+      read.begins ∙ ap next_count inv.begun ∙ next_counted (g.F.Shelf.begins c.args.shelf.now) c.loop-name.name-index,
+    )

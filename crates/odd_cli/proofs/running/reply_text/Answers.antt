@@ -1,0 +1,83 @@
+use Rattle.std.proofs.Common.{◌≡◌, Err, ap, inl, subst}
+use Rattle.odd_cli.specs.Reading.{IsOfFile}
+use Rattle.odd_cli.specs.Outcome.{answers}
+use Rattle.odd_cli.specs.Reply.{NamesFiles, answered}
+use Rattle.odd_cli.specs.declared.status.LimitKind.TheVariants as limit
+use Rattle.odd_cli.specs.declared.status.Status.TheVariants as status
+use Rattle.odd_cli.proofs.Answering.{begun_on_err, begun_stopped, fault_placed, few_read, named_answer, named_compile, named_job, named_none, named_usage, on_any, status_comes, stop_comes, text_accepts, text_comes, trees_not, usage_named}
+use Rattle.odd_cli.proofs.running.reply_text.Goals as goal
+
+pub schema_of_chain-requires : goal.schema_of_chain-requires
+schema_of_chain-requires g c = few_read _ c.args.words.now c.in-Ok.names.now c.in-Ok-read_chain.chain c.in-Ok.ensures.ok c.in-Ok-read_chain.ensures.ok
+
+pub returns-in-Err-clause-err : goal.returns-in-Err-clause-err
+returns-in-Err-clause-err g c = λ files h replied. answered (inl c.in-Err.ensures.err)
+
+pub returns-in-Err-clause-usage : goal.returns-in-Err-clause-usage
+returns-in-Err-clause-usage g c = (λ is. usage_named c.args.words.now c.in-Err.status c.in-Err.ensures.err (cc), λ none. ap Err (named_usage c.args.words.now c.in-Err.status c.in-Err.ensures.err none))
+
+pub returns-in-Err-clause-files : goal.returns-in-Err-clause-files
+returns-in-Err-clause-files g c = (
+  λ is. subst (λ s. NamesFiles c.args.words.now (answers s)) (cc) c.in-Err.ensures.err,
+  λ n. ap Err (named_answer c.args.words.now c.in-Err.status _ c.in-Err.ensures.err n),
+)
+
+pub returns-in-Ok-read_chain-clause-ok : goal.returns-in-Ok-read_chain-clause-ok
+returns-in-Ok-read_chain-clause-ok g c = λ files h.
+    text_comes _ c.args.words.now c.in-Ok.names.now c.in-Ok-read_chain.chain c.in-Ok.ensures.ok c.in-Ok-read_chain.ensures.ok files h c.schema_of_chain.result c.schema_of_chain.ensures.ok
+
+pub returns-in-Ok-read_chain-clause-accepts : goal.returns-in-Ok-read_chain-clause-accepts
+returns-in-Ok-read_chain-clause-accepts g c = λ files h.
+    text_accepts _ c.args.words.now c.in-Ok.names.now c.in-Ok-read_chain.chain c.in-Ok.ensures.ok c.in-Ok-read_chain.ensures.ok files h c.schema_of_chain.result c.schema_of_chain.ensures.accepts
+
+pub returns-in-Ok-read_chain-clause-err : goal.returns-in-Ok-read_chain-clause-err
+returns-in-Ok-read_chain-clause-err g c = λ files h.
+    status_comes _ c.args.words.now c.in-Ok.names.now c.in-Ok-read_chain.chain c.in-Ok.ensures.ok c.in-Ok-read_chain.ensures.ok files h c.schema_of_chain.result c.schema_of_chain.ensures.err
+
+pub returns-in-Ok-read_chain-clause-usage : goal.returns-in-Ok-read_chain-clause-usage
+returns-in-Ok-read_chain-clause-usage g c = (
+  λ is. absurd (trees_not c.schema_of_chain.result status.Usage (λ of. of) c.schema_of_chain.ensures.of_trees is),
+  λ none. absurd (named_job c.args.words.now c.in-Ok.names.now c.in-Ok.ensures.ok none),
+)
+
+pub returns-in-Ok-read_chain-clause-files : goal.returns-in-Ok-read_chain-clause-files
+returns-in-Ok-read_chain-clause-files g c = (
+  λ is. absurd (trees_not c.schema_of_chain.result (status.Limit limit.Files) (λ of. of) c.schema_of_chain.ensures.of_trees is),
+  λ n. absurd (named_none c.args.words.now c.in-Ok.names.now _ c.in-Ok.ensures.ok n),
+)
+
+pub returns-in-Ok-read_chain-clause-begins_err : goal.returns-in-Ok-read_chain-clause-begins_err
+returns-in-Ok-read_chain-clause-begins_err g c =
+    begun_on_err c.args.words.now c.in-Ok.names.now c.in-Ok.ensures.ok _ _ c.schema_of_chain.result c.in-Ok-read_chain.ensures.begins c.schema_of_chain.ensures.of_trees
+
+pub returns-in-Err-read_chain-clause-err : goal.returns-in-Err-read_chain-clause-err
+returns-in-Err-read_chain-clause-err g c = λ files h.
+    stop_comes files c.args.words.now c.in-Ok.names.now c.in-Err-read_chain.status c.in-Ok.ensures.ok (c.in-Err-read_chain.ensures.err files h)
+
+pub returns-in-Err-read_chain-clause-begins_err : goal.returns-in-Err-read_chain-clause-begins_err
+returns-in-Err-read_chain-clause-begins_err g c = begun_stopped c.args.words.now c.in-Ok.names.now c.in-Ok.ensures.ok _ _ c.in-Err-read_chain.status c.in-Err-read_chain.ensures.begins_err
+
+pub returns-in-Err-read_chain-clause-read_place : goal.returns-in-Err-read_chain-clause-read_place
+returns-in-Err-read_chain-clause-read_place g c = λ files file h is.
+    let faulted : c.in-Err-read_chain.status ≡ status.ReadFault file = cc in
+    fault_placed c.args.words.now c.in-Ok.names.now files file _ _ c.in-Ok.ensures.ok (c.in-Err-read_chain.ensures.read_place files file h (ap Err faulted))
+
+pub returns-in-Ok-read_chain-clause-to_the_end : goal.returns-in-Ok-read_chain-clause-to_the_end
+returns-in-Ok-read_chain-clause-to_the_end g c = λ files h.
+    on_any c.schema_of_chain.result _ (c.in-Ok-read_chain.ensures.to_the_end files h (named_compile c.args.words.now c.in-Ok.names.now c.in-Ok.ensures.ok).some)
+
+pub returns-in-Err-read_chain-clause-usage : goal.returns-in-Err-read_chain-clause-usage
+returns-in-Err-read_chain-clause-usage g c = (
+  λ is. let stops = c.in-Err-read_chain.ensures.begins_err in
+      let usage : c.in-Err-read_chain.status ≡ status.Usage = cc in
+      absurd (subst (IsOfFile stops.0) usage stops.2),
+  λ none. absurd (named_job c.args.words.now c.in-Ok.names.now c.in-Ok.ensures.ok none),
+)
+
+pub returns-in-Err-read_chain-clause-files : goal.returns-in-Err-read_chain-clause-files
+returns-in-Err-read_chain-clause-files g c = (
+  λ is. let stops = c.in-Err-read_chain.ensures.begins_err in
+      let files : c.in-Err-read_chain.status ≡ status.Limit limit.Files = cc in
+      absurd (subst (IsOfFile stops.0) files stops.2),
+  λ n. absurd (named_none c.args.words.now c.in-Ok.names.now _ c.in-Ok.ensures.ok n),
+)

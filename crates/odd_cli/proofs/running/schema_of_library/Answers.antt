@@ -1,0 +1,28 @@
+use Rattle.std.proofs.Common.{◌≡◌, ap, refl, ◌∙◌, Err}
+use Rattle.odd_cli.specs.Reply.{HasSchema, start_offence}
+use Rattle.odd_cli.proofs.running.schema_of_library.Goals as goal
+
+pub returns-in-Err-Offence-clause-err : goal.returns-in-Err-Offence-clause-err
+returns-in-Err-Offence-clause-err c =
+    let refused = c.in-Err-Offence.ensures.offence c.in-Err-Offence.offence (ap Err c.in-Err-Offence.field-0-is) in
+    let moved = rw c.in-Err-Offence.field-0-is at c.in_file.ensures in
+    let same : c.in_file.result ≡ start_offence c.args.files refused.word = λ n. record {
+      file = moved.file n;
+      who = (moved.who ∙ refused.who) n;
+      rule = (moved.rule ∙ refused.rule) n;
+    } in
+    (refused.word, refused.is_least, same)
+
+pub returns-in-Err-TooLarge-clause-err : goal.returns-in-Err-TooLarge-clause-err
+returns-in-Err-TooLarge-clause-err c = c.in-Err-TooLarge.ensures.too_large (ap Err c.in-Err-TooLarge.field-0-is)
+
+pub returns-in-Ok-print_rng-clause-ok : goal.returns-in-Ok-print_rng-clause-ok
+returns-in-Ok-print_rng-clause-ok c =
+    HasSchema.schema c.in-Ok.grammar (record { holds_start = c.in-Ok.ensures.held refl; is_grammar = c.in-Ok.ensures.grammar; within = c.in-Ok.ensures.within }) c.in-Ok-print_rng.ensures.text
+
+pub returns-in-Ok-print_rng-clause-accepts : goal.returns-in-Ok-print_rng-clause-accepts
+returns-in-Ok-print_rng-clause-accepts c = λ f. record {
+  grammar = c.in-Ok.grammar;
+  denotes = c.in-Ok-print_rng.ensures.denotes (c.in-Ok.ensures.plain f);
+  accepts = c.in-Ok.ensures.accepts f;
+}

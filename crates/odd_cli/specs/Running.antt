@@ -1,0 +1,95 @@
+-- What a run leaves of the shelf, the output and the note.
+use Rattle.std.specs.Prelude.{◌≡◌, ◌↔◌, ◌⊎◌, ◌≤◌, ℕ, zero, suc, Bool, List, ◌++◌, Option, Some, IsTrue, length}
+use Rattle.odd_text.specs.Count.{HasRisen, next_count}
+use Rattle.odd_base.specs.Shelf.{FileMap, Held, NotHeld, LeavesSuffix}
+use Rattle.odd_library.specs.declared.library.Library.{Library}
+use Rattle.odd_tree.specs.declared.tree.Tree.{Tree}
+use Rattle.odd_chain.specs.Files.{Gives}
+use Rattle.odd_meaning.specs.Admission.{Admits}
+use Rattle.rng_patterns.specs.Acceptance.{Accepts}
+use Rattle.rng_patterns.specs.Denoting.{DenotesOnly}
+use Rattle.rng_patterns.specs.declared.grammar.Grammar.{Grammar}
+use Rattle.odd_cli.specs.declared.status.LimitKind.TheVariants as limit
+use Rattle.odd_cli.specs.declared.status.Status.{Status}
+use Rattle.odd_cli.specs.declared.status.Status.TheVariants as status
+use Rattle.odd_cli.specs.Words.{Compiles}
+use Rattle.odd_cli.specs.Note.{IsFrontWritten}
+use Rattle.odd_cli.specs.Reply.{GiveTrees, IsReached, chain_files}
+
+-- the answer is none of those that the outside causes
+abbrev pub IsReplied : Status → Type 0
+IsReplied status.NoMemory = ⊥
+IsReplied (status.ReadFault file) = ⊥
+IsReplied status.WriteFault = ⊥
+IsReplied s = Unit {0}
+
+-- nothing is written with the answer
+abbrev pub IsSilent : Status → Type 0
+IsSilent status.Done = ⊥
+IsSilent status.WriteFault = ⊥
+IsSilent s = Unit {0}
+
+-- what reading leaves of a shelf, by its meanings: it holds the same, is as steady as before, and none of its counts falls
+abbrev pub GoesOn : {S : Type 0} → (S → Option FileMap) → (S → Bool) → (S → ℕ) → (S → ℕ) → (S → ℕ) → S → S → Type 0
+GoesOn holds steady faults begins reads old new =
+    (holds new ≡ holds old) × (steady new ≡ steady old) × (faults old ≤ faults new) × (begins old ≤ begins new) × (reads old ≤ reads new)
+
+-- the count after so many more
+abbrev pub counted : ℕ → ℕ → ℕ
+counted count zero = count
+counted count (suc more) = next_count (counted count more)
+
+-- How many files are begun with the answer, of so many in the chain: those up to the one that it names, or all; and none where the words have no job or too many
+-- files. Memory may be wanting at any file.
+abbrev pub BeginsFiles : Status → ℕ → ℕ → ℕ → Type 0
+BeginsFiles status.Usage files old new = new ≡ old
+BeginsFiles (status.Limit limit.Files) files old new = new ≡ old
+BeginsFiles (status.ReadFault file) files old new = new ≡ counted old file
+BeginsFiles (status.Limit (limit.Bytes file)) files old new = new ≡ counted old file
+BeginsFiles (status.NotXml file at) files old new = new ≡ counted old file
+BeginsFiles (status.Limit (limit.Depth file at)) files old new = new ≡ counted old file
+BeginsFiles status.NoMemory files old new = (file : ℕ) × (file ≤ files) × (new ≡ counted old file)
+BeginsFiles s files old new = new ≡ counted old files
+
+-- the file of the number in a chain is reached; what is unread is the end of its bytes; over a steady shelf it is not held
+pub record IsFaultPlace (chain : List (List ℕ)) (files : FileMap) (number : ℕ) (rest : Option (List ℕ)) (steady : Bool) : Type 0 where
+  pub name : List ℕ
+  pub reached : IsReached files chain number name
+  pub suffix : (bytes : List ℕ) → Held files name bytes → LeavesSuffix bytes rest
+  pub not_held : IsTrue steady → NotHeld files name
+
+-- the file of the number is reached by the words
+pub record IsReadPlace (words : List (List ℕ)) (files : FileMap) (number : ℕ) (rest : Option (List ℕ)) (steady : Bool) : Type 0 where
+  pub chain : List (List ℕ)
+  pub compiles : Compiles words chain
+  pub within : length chain ≤ chain_files
+  pub place : IsFaultPlace chain files number rest steady
+
+-- the text is on the note, or a front of it where the note's count rose
+abbrev pub IsNoted : List ℕ → List ℕ → Option (List ℕ) → ℕ → ℕ → Type 0
+IsNoted before text written old new = (written ≡ Some (before ++ text)) ⊎ (IsFrontWritten before text written × HasRisen old new)
+
+-- the reply is written, or there was no memory
+abbrev pub IsComplete : Status → Type 0
+IsComplete s = (s ≡ status.Done) ⊎ (s ≡ status.NoMemory)
+
+-- the text denotes one grammar, and it accepts the trees that the library admits
+pub record AcceptsAdmitted (library : Library) (text : List ℕ) : Type 0 where
+  pub grammar : Grammar
+  pub denotes : DenotesOnly text grammar
+  pub accepts : (t : Tree) → Accepts grammar t ↔ Admits library library.start t
+
+-- the same of the library after the trees of a chain
+pub record AcceptsOfTrees (trees : List Tree) (text : List ℕ) : Type 0 where
+  pub library : Library
+  pub gives : Gives trees library
+  pub right : AcceptsAdmitted library text
+
+-- and of the chain that the words name
+pub record AcceptsOfWords (words : List (List ℕ)) (files : FileMap) (text : List ℕ) : Type 0 where
+  pub chain : List (List ℕ)
+  pub compiles : Compiles words chain
+  pub within : length chain ≤ chain_files
+  pub trees : List Tree
+  pub given : GiveTrees files chain trees
+  pub right : AcceptsOfTrees trees text

@@ -1,0 +1,252 @@
+ghost use Rattle.std.specs.Prelude.{◌≡◌, ◌≢◌, ◌↔◌, ◌⊎◌, ◌≤◌, ◌+◌, ◌-◌, ◌*◌, ◌<◌, ℕ, suc, List, Err, Ok, Some, IsTrue, IfOk, IfErr, OnOk, [], ◌∷◌, ◌++◌, length};
+ghost use Rattle.odd_text.specs.declared.key.Key.{Key as AKey};
+ghost use Rattle.odd_meaning.specs.Rules.{Breaks};
+ghost use Rattle.odd_text.specs.Count.{HasRisen, next_count};
+ghost use Rattle.odd_base.specs.Shelf.{FileMap, Held, LeavesSuffix, NotHeld};
+ghost use Rattle.odd_base.specs.Sink.{IsPartWritten};
+ghost use Rattle.odd_tree.specs.Formed.{IsFormed as IsFormedTree};
+ghost use Rattle.odd_tree.specs.declared.tree.Tree.{Tree as ATree};
+ghost use Rattle.odd_chain.specs.Reading.{HasFewDocs, IsChainOf};
+ghost use Rattle.compile_defines.specs.Compiled.{HoldsStart};
+ghost use Rattle.compile_defines.specs.Formed.{IsFormed};
+ghost use Rattle.odd_cli.specs.Note.{note_text};
+ghost use Rattle.odd_cli.specs.Outcome.{answers, gives};
+ghost use Rattle.odd_cli.specs.Words.{WordsMean};
+ghost use Rattle.odd_cli.specs.declared.words.Job.{Job as AJob};
+ghost use Rattle.odd_cli.specs.declared.status.Status.{Status as AStatus};
+ghost use Rattle.odd_cli.specs.Reply.{FileStops, HasSchema, NamesFiles, ReadsChain, Reply, TreesComeTo, chain_files, file_bytes};
+ghost use Rattle.odd_cli.specs.Reading.{AreSpelled, IsChainRead, IsOfFile, IsOfTrees, IsStartError, IsTreeRead, StopsAt};
+ghost use Rattle.odd_cli.specs.Running.{AcceptsAdmitted, AcceptsOfTrees, AcceptsOfWords, BeginsFiles, GoesOn, IsComplete, IsFaultPlace, IsNoted, IsReadPlace, IsReplied, IsSilent, counted};
+
+use crate::note::write_note;
+use crate::status::{LimitKind, Status};
+use crate::words::job_asked;
+use compile_core::{CompileRefusal, compile};
+use odd_base::{Shelf, Sink, SlurpRefusal, slurp, write_whole};
+use odd_chain::{Chain, ChainRefusal};
+use odd_library::Library;
+use odd_reader::{ReadRefusal, read_tree};
+use odd_text::{NoMemory, Offence, Text, Words};
+use odd_tree::Tree;
+use rng_emit::print_rng;
+use std::alloc::Global;
+
+/// How many bytes a file may have.
+pub const FILE_BYTES: usize = 16_777_216;
+
+/// How many files a chain may have.
+pub const CHAIN_FILES: usize = 16;
+
+/// Does all that the program does: reads the files that the words name from the shelf, writes the reply to `out`
+/// and the status's line to `note`. The reply is whole in memory before its first byte is written.
+pub fn run<F: Shelf, W: Sink, N: Sink>(
+    alloc: Global,
+    words: &Words,
+    shelf: &mut F,
+    out: &mut W,
+    note: &mut N,
+) -> Status
+    ensures reply { (files : FileMap) (before : List ℕ) → F.holds shelf.old ≡ Some files → W.written out.old ≡ Some before → IsReplied result → ((text : List ℕ) × (W.written out.new ≡ Some (before ++ text)) × Reply words.now files text result) }
+    ensures accepts { (files : FileMap) (before : List ℕ) → F.holds shelf.old ≡ Some files → W.written out.old ≡ Some before → result ≡ Status.Done → ((text : List ℕ) × (W.written out.new ≡ Some (before ++ text)) × AcceptsOfWords words.now files text) }
+    ensures usage { (result ≡ Status.Usage) ↔ ((job : AJob) → WordsMean words.now job → ⊥) }
+    ensures files { (result ≡ Status.Limit LimitKind.Files) ↔ NamesFiles words.now (answers (Status.Limit LimitKind.Files)) }
+    ensures silent { IsSilent result → W.written out.new ≡ W.written out.old }
+    ensures partial { (files : FileMap) (before : List ℕ) → F.holds shelf.old ≡ Some files → W.written out.old ≡ Some before → result ≡ Status.WriteFault → ((text : List ℕ) × Reply words.now files text Status.Done × IsPartWritten before text (W.written out.new)) }
+    ensures read_cause { (file : ℕ) → result ≡ Status.ReadFault file → HasRisen (F.faults shelf.old) (F.faults shelf.new) }
+    ensures write_cause { result ≡ Status.WriteFault → HasRisen (W.faults out.old) (W.faults out.new) }
+    ensures read_place { (files : FileMap) (file : ℕ) → F.holds shelf.old ≡ Some files → result ≡ Status.ReadFault file → IsReadPlace words.now files file (F.rest shelf.new) (F.steady shelf.old) }
+    ensures room { (files : FileMap) (text : List ℕ) (status : AStatus) → F.holds shelf.old ≡ Some files → Reply words.now files text status → IsTrue (W.steady out.old) → length text ≤ W.room out.old → result ≢ Status.WriteFault }
+    ensures few_reads { F.reads shelf.new ≤ F.reads shelf.old + (length words.now - 1) * (file_bytes + 1) }
+    ensures begins { BeginsFiles result (length words.now - 1) (F.begins shelf.old) (F.begins shelf.new) }
+    ensures to_the_end { (files : FileMap) → F.holds shelf.old ≡ Some files → result ≡ Status.Done → F.rest shelf.new ≡ Some [] }
+    ensures kept { F.holds shelf.new ≡ F.holds shelf.old }
+    ensures note { (before : List ℕ) → N.written note.old ≡ Some before → IsNoted before (note_text result) (N.written note.new) (N.faults note.old) (N.faults note.new) }
+    ensures complete { (files : FileMap) (text : List ℕ) → F.holds shelf.old ≡ Some files → Reply words.now files text Status.Done → (HasRisen (F.faults shelf.old) (F.faults shelf.new) → ⊥) → (HasRisen (W.faults out.old) (W.faults out.new) → ⊥) → IsComplete result }
+    ensures complete_steady { (files : FileMap) (text : List ℕ) → F.holds shelf.old ≡ Some files → Reply words.now files text Status.Done → IsTrue (F.steady shelf.old) → IsTrue (W.steady out.old) → length text ≤ W.room out.old → IsComplete result }
+    ensures one { (files : FileMap) (before text : List ℕ) (status : AStatus) → F.holds shelf.old ≡ Some files → W.written out.old ≡ Some before → IsReplied result → Reply words.now files text status → (result ≡ status) × (W.written out.new ≡ Some (before ++ text)) }
+
+    // What a second run over the same shelf and output begins with.
+    ensures shelf_counts { (F.faults shelf.old ≤ F.faults shelf.new) × (F.begins shelf.old ≤ F.begins shelf.new) × (F.reads shelf.old ≤ F.reads shelf.new) }
+    ensures output_counts { (W.faults out.old ≤ W.faults out.new) × (N.faults note.old ≤ N.faults note.new) }
+    ensures same_steady { (F.steady shelf.new ≡ F.steady shelf.old) × (W.steady out.new ≡ W.steady out.old) }
+    ensures room_taken { (files : FileMap) (text : List ℕ) → F.holds shelf.old ≡ Some files → Reply words.now files text Status.Done → IsTrue (W.steady out.old) → result ≡ Status.Done → W.room out.new + length text ≡ W.room out.old }
+    ensures room_kept { IsSilent result → W.room out.new ≡ W.room out.old }
+{
+    match reply_text(alloc, words, shelf) {
+        Ok(text) => match write_whole(out, text.as_str().as_bytes()) {
+            Ok(()) => noted(note, Status::Done),
+            Err(_) => noted(note, Status::WriteFault),
+        },
+        Err(status) => noted(note, status),
+    }
+}
+
+// Writes the status's line to the note. What the note can't take changes nothing else.
+fn noted<N: Sink>(note: &mut N, status: Status) -> Status
+    ensures same { result ≡ status }
+    ensures note { (before : List ℕ) → N.written note.old ≡ Some before → IsNoted before (note_text status) (N.written note.new) (N.faults note.old) (N.faults note.new) }
+    ensures never_falls { N.faults note.old ≤ N.faults note.new }
+{
+    let _ = write_note(note, &status);
+    status
+}
+
+// The text of the reply, or the status where there is none.
+fn reply_text<F: Shelf>(alloc: Global, words: &Words, shelf: &mut F) -> Result<Text, Status>
+    ensures ok { (files : FileMap) → F.holds shelf.old ≡ Some files → IfOk result (λ text. Reply words.now files text Status.Done) }
+    ensures accepts { (files : FileMap) → F.holds shelf.old ≡ Some files → IfOk result (AcceptsOfWords words.now files) }
+    ensures err { (files : FileMap) → F.holds shelf.old ≡ Some files → IfErr result (λ status. IsReplied status → Reply words.now files [] status) }
+    ensures early { IfErr result IsSilent }
+    ensures usage { (result ≡ Err Status.Usage) ↔ ((job : AJob) → WordsMean words.now job → ⊥) }
+    ensures files { (result ≡ Err (Status.Limit LimitKind.Files)) ↔ NamesFiles words.now (answers (Status.Limit LimitKind.Files)) }
+    ensures read_cause { (file : ℕ) → result ≡ Err (Status.ReadFault file) → HasRisen (F.faults shelf.old) (F.faults shelf.new) }
+    ensures read_place { (files : FileMap) (file : ℕ) → F.holds shelf.old ≡ Some files → result ≡ Err (Status.ReadFault file) → IsReadPlace words.now files file (F.rest shelf.new) (F.steady shelf.old) }
+    ensures few_reads { F.reads shelf.new ≤ F.reads shelf.old + (length words.now - 1) * (file_bytes + 1) }
+    ensures begins { OnOk result (F.begins shelf.new ≡ counted (F.begins shelf.old) (length words.now - 1)) }
+    ensures begins_err { IfErr result (λ status. BeginsFiles status (length words.now - 1) (F.begins shelf.old) (F.begins shelf.new)) }
+    ensures to_the_end { (files : FileMap) → F.holds shelf.old ≡ Some files → OnOk result (F.rest shelf.new ≡ Some []) }
+    ensures goes_on { GoesOn F.holds F.steady F.faults F.begins F.reads shelf.old shelf.new }
+{
+    let names = match chain_names(words) {
+        Ok(names) => names,
+        Err(status) => return Err(status),
+    };
+    match read_chain(alloc, names, shelf) {
+        Ok(chain) => schema_of_chain(alloc, chain, names.len() as u32),
+        Err(status) => Err(status),
+    }
+}
+
+// The files of the chain that the words name.
+fn chain_names(words: &Words) -> Result<&[Text], Status>
+    ensures ok { IfOk result (λ names. NamesFiles words.now (gives names.now)) }
+    ensures err { IfErr result (λ status. NamesFiles words.now (answers status)) }
+{
+    let Some(asked) = job_asked(words) else {
+        return Err(Status::Usage);
+    };
+    let chain = asked.chain;
+    if chain.len() > CHAIN_FILES {
+        return Err(Status::Limit(LimitKind::Files));
+    }
+    Ok(chain)
+}
+
+// The files of these names, one after the other. Each is read whole before the next is begun, and its tree is given up
+// once it is read.
+fn read_chain<F: Shelf>(alloc: Global, names: &[Text], shelf: &mut F) -> Result<Chain, Status>
+    requires { length names.now ≤ chain_files }
+    ensures ok { IfOk result (IsChainRead (F.holds shelf.old) names.now) }
+    ensures err { (files : FileMap) → F.holds shelf.old ≡ Some files → IfErr result (λ status. IsReplied status → ReadsChain files names.now (answers status)) }
+    ensures read_cause { (file : ℕ) → result ≡ Err (Status.ReadFault file) → HasRisen (F.faults shelf.old) (F.faults shelf.new) }
+    ensures read_place { (files : FileMap) (file : ℕ) → F.holds shelf.old ≡ Some files → result ≡ Err (Status.ReadFault file) → IsFaultPlace names.now files file (F.rest shelf.new) (F.steady shelf.old) }
+    ensures few_reads { F.reads shelf.new ≤ F.reads shelf.old + length names.now * (file_bytes + 1) }
+    ensures begins { OnOk result (F.begins shelf.new ≡ counted (F.begins shelf.old) (length names.now)) }
+    ensures begins_err { IfErr result (λ status. StopsAt (length names.now) status (F.begins shelf.old) (F.begins shelf.new)) }
+    ensures to_the_end { (files : FileMap) → F.holds shelf.old ≡ Some files → names.now ≢ [] → OnOk result (F.rest shelf.new ≡ Some []) }
+    ensures goes_on { GoesOn F.holds F.steady F.faults F.begins F.reads shelf.old shelf.new }
+{
+    let mut chain = Chain::new(alloc);
+    let mut file = 0u32;
+    for name in names {
+        file += 1;
+        let read = read_file(alloc, name, file, shelf);
+        chain = match with_file(alloc, chain, read, file) {
+            Ok(made) => made,
+            Err(status) => return Err(status),
+        };
+    }
+    Ok(chain)
+}
+
+// The tree of the file of a name, which has this number in its chain.
+fn read_file<F: Shelf>(alloc: Global, name: &Text, file: u32, shelf: &mut F) -> Result<Tree, Status>
+    ensures ok { IfOk result (IsTreeRead (F.holds shelf.old) name.now) }
+    ensures err { (files : FileMap) → F.holds shelf.old ≡ Some files → IfErr result (λ status. IsReplied status → FileStops files name.now file status) }
+    ensures of_file { IfErr result (IsOfFile file) }
+    ensures read_cause { (number : ℕ) → result ≡ Err (Status.ReadFault number) → HasRisen (F.faults shelf.old) (F.faults shelf.new) }
+    ensures not_held { (files : FileMap) (number : ℕ) → F.holds shelf.old ≡ Some files → IsTrue (F.steady shelf.old) → result ≡ Err (Status.ReadFault number) → NotHeld files name.now }
+    ensures suffix { (files : FileMap) (bytes : List ℕ) (number : ℕ) → F.holds shelf.old ≡ Some files → Held files name.now bytes → result ≡ Err (Status.ReadFault number) → LeavesSuffix bytes (F.rest shelf.new) }
+    ensures few_reads { F.reads shelf.new ≤ F.reads shelf.old + (file_bytes + 1) }
+    ensures begins { F.begins shelf.new ≡ next_count (F.begins shelf.old) }
+    ensures to_the_end { (files : FileMap) → F.holds shelf.old ≡ Some files → OnOk result (F.rest shelf.new ≡ Some []) }
+    ensures goes_on { GoesOn F.holds F.steady F.faults F.begins F.reads shelf.old shelf.new }
+{
+    let bytes = match slurp(alloc, shelf, name, FILE_BYTES) {
+        Ok(bytes) => bytes,
+        Err(SlurpRefusal::ReadFault) => return Err(Status::ReadFault { file }),
+        Err(SlurpRefusal::TooLong) => return Err(Status::Limit(LimitKind::Bytes { file })),
+        Err(SlurpRefusal::NoMemory) => return Err(Status::NoMemory),
+    };
+    match read_tree(alloc, bytes.as_slice()) {
+        Ok(tree) => Ok(tree),
+        Err(ReadRefusal::NotXml { at }) => Err(Status::NotXml { file, at }),
+        Err(ReadRefusal::TooDeep { at }) => Err(Status::Limit(LimitKind::Depth { file, at })),
+        Err(ReadRefusal::NoMemory) => Err(Status::NoMemory),
+    }
+}
+
+// The chain with one file more, of which this is the tree, or why it gives none.
+fn with_file(
+    alloc: Global,
+    chain: Chain,
+    read: Result<Tree, Status>,
+    file: u32,
+) -> Result<Chain, Status>
+    ensures ok { IfOk result (λ made. (tree : ATree) × (read ≡ Ok tree) × ((trees : List ATree) (first end : ℕ) → IsFormedTree first end tree → IsChainOf chain trees → file ≡ suc (length trees) → IsChainOf made (trees ++ tree ∷ []))) }
+    ensures err { IfErr result (λ status. (read ≡ Err status) ⊎ (status ≡ Status.NoMemory)) }
+{
+    let tree = read?;
+    match chain.with(alloc, &tree, file) {
+        Ok(made) => Ok(made),
+        Err(NoMemory) => Err(Status::NoMemory),
+    }
+}
+
+// The schema of the library after the files of a chain, of which there are so many, or why it has none.
+fn schema_of_chain(alloc: Global, chain: Chain, files: u32) -> Result<Text, Status>
+    requires { HasFewDocs chain }
+    ensures ok { IfOk result (λ text. (trees : List ATree) → IsChainOf chain trees → TreesComeTo trees (gives text)) }
+    ensures accepts { IfOk result (λ text. (trees : List ATree) → IsChainOf chain trees → AreSpelled trees → AcceptsOfTrees trees text) }
+    ensures err { IfErr result (λ status. (trees : List ATree) → IsChainOf chain trees → files ≡ length trees → IsReplied status → TreesComeTo trees (answers status)) }
+    ensures of_trees { IfErr result IsOfTrees }
+{
+    match chain.library(alloc) {
+        Ok(library) => schema_of_library(alloc, &library, files),
+        Err(ChainRefusal::Offence(offence)) => Err(Status::Refused(offence)),
+        Err(ChainRefusal::NotYet { file }) => Err(Status::NotYet { file }),
+        Err(ChainRefusal::NoMemory) => Err(Status::NoMemory),
+    }
+}
+
+// The schema of the library after so many files, which breaks no rule, or the start word that is no held element.
+fn schema_of_library(alloc: Global, library: &Library, files: u32) -> Result<Text, Status>
+    requires { (key : AKey) (rule : ℕ) → Breaks library.now key rule → ⊥ }
+    ensures held { OnOk result (HoldsStart library.now library.now.start) }
+    ensures ok { IfOk result (λ text. HasSchema library.now (gives text)) }
+    ensures accepts { IfOk result (λ text. IsFormed library.now → AcceptsAdmitted library.now text) }
+    ensures err { IfErr result (IsStartError library.now files) }
+{
+    let grammar = match compile(alloc, library, &library.start) {
+        Ok(grammar) => grammar,
+        Err(CompileRefusal::Offence(offence)) => {
+            return Err(Status::Refused(in_file(offence, files)));
+        }
+        Err(CompileRefusal::TooLarge) => return Err(Status::Limit(LimitKind::Nodes)),
+        Err(CompileRefusal::NoMemory) => return Err(Status::NoMemory),
+    };
+    match print_rng(alloc, &grammar) {
+        Ok(text) => Ok(text),
+        Err(NoMemory) => Err(Status::NoMemory),
+    }
+}
+
+// The offence, in the file of a number.
+fn in_file(offence: Offence, file: u32) -> Offence
+    ensures file { result.file ≡ file }
+    ensures who { result.who ≡ offence.who }
+    ensures rule { result.rule ≡ offence.rule }
+{
+    let Offence { file: _, who, rule } = offence;
+    Offence { file, who, rule }
+}

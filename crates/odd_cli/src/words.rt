@@ -1,0 +1,69 @@
+ghost use Rattle.std.specs.Prelude.{◌≡◌, ◌↔◌, All, IsTrue, IfSome, IsNone};
+ghost use Rattle.odd_cli.specs.Words.{Compiles, IsFileWord, WordsMean};
+ghost use Rattle.odd_cli.specs.declared.words.Job.{Job as AJob};
+
+use odd_text::{Text, Words};
+
+/// What the program is to do.
+#[derive(Clone, Copy, Debug, PartialEq, Eq)]
+pub enum Command {
+    /// Writes the schema of a chain of files.
+    Compile,
+}
+
+/// The job of a list of words: the command, whether constraints are taken out, how many files the chain has, and
+/// the number of `trial`, which is 0 for any other command.
+#[derive(Clone, Copy, Debug, PartialEq, Eq)]
+pub struct Job {
+    pub command: Command,
+    pub aside: bool,
+    pub files: usize,
+    pub number: u32,
+}
+
+fn is_word(word: &Text, text: &str) -> bool
+    ensures { IsTrue result ↔ (word.now ≡ text.now) }
+{
+    word.as_str() == text
+}
+
+// Whether all words are file words.
+fn are_files(words: &[Text]) -> bool
+    ensures { IsTrue result ↔ All IsFileWord words.now }
+{
+    words.iter().all(|word| !is_word(word, "--"))
+}
+
+/// What words ask for: their job, and the names of the files of its chain.
+#[derive(Clone, Copy)]
+pub struct Asked<'a> {
+    pub job: Job,
+    pub chain: &'a [Text],
+}
+
+/// What the words ask for, where they have a job.
+pub fn job_asked(words: &Words) -> Option<Asked<'_>>
+    ensures job { IfSome result (λ asked. WordsMean words.now asked.job) }
+    ensures chain { IfSome result (λ asked. Compiles words.now asked.chain.now) }
+    ensures none { IsNone result → (job : AJob) → WordsMean words.now job → ⊥ }
+{
+    let (command, chain) = words.as_slice().split_first()?;
+    if !is_word(command, "compile") || chain.is_empty() || !are_files(chain) {
+        return None;
+    }
+    let job = Job {
+        command: Command::Compile,
+        aside: false,
+        files: chain.len(),
+        number: 0,
+    };
+    Some(Asked { job, chain })
+}
+
+/// The job of the words, where they have one.
+pub fn read_words(words: &Words) -> Option<Job>
+    ensures job { IfSome result (WordsMean words.now) }
+    ensures none { IsNone result → (job : AJob) → WordsMean words.now job → ⊥ }
+{
+    Some(job_asked(words)?.job)
+}

@@ -1,0 +1,115 @@
+-- What the tree of an ODD file declares, where it has no form that is not read yet and no offence of form.
+use Rattle.std.specs.Prelude.{◌≡◌, ◌<◌, ℕ, Bool, List, [], ◌∷◌, ◌++◌, Option, Some, None, if◌then◌else◌, codes, unwrap_or}
+use Rattle.std.specs.Option.{option_map}
+use Rattle.odd_text.specs.Text.{text_cmp}
+use Rattle.odd_text.specs.declared.key.Kind.{Kind}
+use Rattle.odd_text.specs.declared.key.Kind.TheVariants as kind
+use Rattle.odd_text.specs.declared.name.Bind.{Bind}
+use Rattle.odd_tokens.specs.Same.{is_same}
+use Rattle.odd_tree.specs.Elements.{StandsIn, children_of, given, within}
+use Rattle.odd_tree.specs.declared.tree.Tree.{Tree, out-Tree}
+use Rattle.odd_forms.specs.Children.{GivesOne}
+use Rattle.odd_forms.specs.Names.{tei_namespace}
+use Rattle.odd_forms.specs.Sorted.{IsSet}
+use Rattle.odd_forms.specs.Words.{words_of}
+use Rattle.odd_content.specs.Giving.{IsContentOf, pick_given}
+use Rattle.odd_content.specs.declared.content.Content.{Content}
+use Rattle.odd_forms.specs.declared.element.Element.{Element}
+use Rattle.odd_forms.specs.declared.element.Element.TheVariants as element
+use Rattle.odd_members.specs.Members.{IsMembershipOf}
+use Rattle.odd_members.specs.declared.membership.Membership.{Membership}
+use Rattle.odd_library.specs.Odd.{place_of}
+use Rattle.odd_decls.specs.Offences.{HasOffence, IsItem, IsSpecOf}
+use Rattle.odd_decls.specs.Pending.{IsPending}
+use Rattle.odd_decls.specs.Search.{Finds, Found}
+use Rattle.odd_library.specs.declared.odd.Entry.TheVariants as entry
+use Rattle.odd_library.specs.declared.odd.Entry.{Entry}
+use Rattle.odd_library.specs.declared.odd.OddDoc.{OddDoc}
+use Rattle.odd_library.specs.declared.spec.Mode.{Mode}
+use Rattle.odd_library.specs.declared.spec.Mode.TheVariants as mode
+use Rattle.odd_library.specs.declared.spec.Spec.{Spec}
+
+-- what a declaration does: it adds, where its `mode` says nothing else
+abbrev pub mode_named : List ℕ → Mode
+mode_named word =
+    if is_same word (codes "delete") then mode.Delete else if is_same word (codes "change") then mode.Change else if is_same word (codes "replace") then mode.Replace else mode.Add
+
+abbrev pub mode_given : Tree → Mode
+mode_given item = mode_named (unwrap_or (given item (codes "mode")) (codes "add"))
+
+-- the namespace of an element in documents: its own, else that of its `schemaSpec`, else TEI's
+abbrev pub namespace_given : Tree → Tree → List ℕ
+namespace_given schema item = unwrap_or (given item (codes "ns")) (unwrap_or (given schema (codes "ns")) tei_namespace)
+
+-- the namespace that the declaration of an element gives: one that adds or replaces always gives one
+abbrev pub namespace_in : Mode → Tree → Tree → Option (List ℕ)
+namespace_in mode.Add schema item = Some (namespace_given schema item)
+namespace_in mode.Replace schema item = Some (namespace_given schema item)
+namespace_in mode.Change schema item = given item (codes "ns")
+namespace_in mode.Delete schema item = given item (codes "ns")
+
+-- other components have none
+abbrev pub namespace_declared : Kind → Tree → Tree → Option (List ℕ)
+namespace_declared kind.Element schema item = namespace_in (mode_given item) schema item
+namespace_declared k schema item = None
+
+-- whether a class is of type `atts`, where its declaration gives a type
+abbrev pub type_given : Kind → Tree → Option Bool
+type_given kind.Class item = option_map (λ word. is_same word (codes "atts")) (given item (codes "type"))
+type_given k item = None
+
+-- what the children of a declaration give: its content and the classes that it is a member of
+pub record ChildrenGive (around : List Bind) (e : Element) (item : Tree) (c : Option Content) (m : Option Membership) : Type 0 where
+  pub content : GivesOne e element.Content (IsContentOf (within around item)) (children_of item) c
+  pub classes : GivesOne e element.Classes IsMembershipOf (children_of item) m
+
+-- a declaration is read as the spec
+pub record IsReadAs (first : Found) (item : Tree) (spec : Spec) : Type 0 where
+  pub is_spec : IsSpecOf spec.key item
+  pub of_mode : spec.mode ≡ mode_given item
+  pub of_module : spec.«module» ≡ unwrap_or (given item (codes "module")) []
+  pub ns : spec.ns ≡ namespace_declared spec.key.kind first.schema item
+  pub gives : spec.gives ≡ type_given spec.key.kind item
+  pub children : ChildrenGive (within first.around first.schema) is_spec.element item spec.content spec.classes
+
+-- the kind of the component that an item refers to
+abbrev pub kind_taken : Element → Option Kind
+kind_taken element.ElementRefItem = Some kind.Element
+kind_taken element.ClassRefItem = Some kind.Class
+kind_taken element.MacroRefItem = Some kind.Macro
+kind_taken element.DataRefItem = Some kind.Datatype
+kind_taken e = None
+
+-- an item is read as the entry, at the byte where it begins
+pub data IsEntryOf (first : Found) (item : Tree) : Entry → Type 0 where
+  «module» : {key : List ℕ} → IsItem element.ModuleRef item → given item (codes "key") ≡ Some key → IsEntryOf first item (entry.Module (out-Tree item).at key (pick_given item))
+  take : {of_kind : Kind} {ident : List ℕ} (e : Element) → IsItem e item → kind_taken e ≡ Some of_kind → given item (codes "key") ≡ Some ident
+      → IsEntryOf first item (entry.Take (out-Tree item).at (record { kind = of_kind; ident = ident }))
+  spec : {spec : Spec} → IsReadAs first item spec → IsEntryOf first item (entry.Spec (out-Tree item).at spec)
+
+-- The entries of items: one stands exactly where an item is read as it.
+pub record AreEntriesOf (first : Found) (items : List Tree) (entries : List Entry) : Type 0 where
+  pub none_else : (e : Entry) → StandsIn entries e → (item : Tree) × StandsIn items item × IsEntryOf first item e
+  pub each : (item : Tree) (e : Element) → StandsIn items item → IsItem e item → (made : Entry) × StandsIn entries made × IsEntryOf first item made
+
+-- by place
+abbrev pub PlacesRise : List Entry → Type 0
+PlacesRise entries = (before after : List Entry) (e next : Entry) → entries ≡ before ++ e ∷ (next ∷ after) → place_of e < place_of next
+
+-- the words of `start`, or `TEI` where it is absent
+abbrev pub start_of : Tree → List (List ℕ)
+start_of schema = words_of (unwrap_or (given schema (codes "start")) (codes "TEI"))
+
+-- what a `schemaSpec` without an offence declares
+pub record IsDocOf (first : Found) (doc : OddDoc) : Type 0 where
+  pub ident : given first.schema (codes "ident") ≡ Some doc.ident
+  pub start : IsSet text_cmp (StandsIn (start_of first.schema)) doc.start
+  pub entries : AreEntriesOf first (children_of first.schema) doc.entries
+  pub rising : PlacesRise doc.entries
+
+pub record Declares (t : Tree) (doc : OddDoc) : Type 0 where
+  pub all_read : IsPending t → ⊥
+  pub unoffended : (place rule : ℕ) → HasOffence t place rule → ⊥
+  pub first : Found
+  pub found : Finds [] t (first ∷ [])
+  pub is_doc : IsDocOf first doc

@@ -1,0 +1,226 @@
+ghost use Rattle.std.specs.Prelude.{◌≡◌, map, IfOk, IsSome, None};
+ghost use Rattle.odd_forms.specs.Children.{GivesOne};
+ghost use Rattle.odd_tree.specs.Elements.{all_binds, children_of, within};
+ghost use Rattle.odd_forms.specs.Least.{IsLeast};
+ghost use Rattle.odd_forms.specs.declared.element.Element.TheVariants as the_element;
+ghost use Rattle.odd_content.specs.Giving.{IsContentOf};
+ghost use Rattle.odd_decls.specs.Declares.{ChildrenGive, mode_given, mode_named as the_mode_named, namespace_in, namespace_declared as the_namespace_declared, type_given};
+ghost use Rattle.odd_decls.specs.Offences.{IsItem, kind_declared as the_kind_declared};
+ghost use Rattle.odd_decls.specs.ItemReading.{ContentsFault, GivesEntry, InnerFault, IsEntryMade, IsKeyOf, SpecFault};
+
+use crate::items::ReadItem;
+use odd_content::{Content, ContentRefusal, read_content_in};
+use odd_forms::{Element, TEI, child_of, form_fault, is_child, lesser};
+use odd_library::{Entry, Mode, Spec};
+use odd_members::{Membership, read_classes};
+use odd_text::{Key, Kind, NoMemory, Text, TryCopy};
+use odd_tree::{Bindings, Tree, attribute, elements, entered, is_ncname};
+use std::alloc::Global;
+
+// What the contents of a declaration give, and the least rule that they break.
+#[derive(Drop)]
+struct ReadContents {
+    content: Option<Content>,
+    fault: Option<u8>,
+}
+
+// What the children of a declaration give, and the least rule that they break.
+#[derive(Drop)]
+struct Given {
+    content: Option<Content>,
+    classes: Option<Membership>,
+    fault: Option<u8>,
+}
+
+/// What a declaration declares, and the least rule that it breaks by its form, in its contents or in its `classes`.
+pub fn read_spec(
+    alloc: Global,
+    schema: &Tree,
+    element: Element,
+    spec: &Tree,
+    around: &[&Bindings],
+) -> Result<ReadItem, NoMemory>
+    ensures fault { IfOk result (λ read. IsLeast (SpecFault (all_binds (map (λ b. b.now) around.now)) element spec.now) read.fault) }
+    ensures entry { IsItem element spec.now → IsSome (the_kind_declared element) → IfOk result (λ read. read.fault ≡ None → GivesEntry schema.now (all_binds (map (λ b. b.now) around.now)) spec.now read.entry) }
+{
+    let form = form_fault(alloc, element.form(), spec)?;
+    let given = read_children(alloc, element, spec, around)?;
+    let fault = lesser(form, given.fault);
+    let entry = entry(alloc, schema, spec, given)?;
+    Ok(ReadItem { entry, fault })
+}
+
+// What the children of a declaration give, and the least rule that they break.
+fn read_children(
+    alloc: Global,
+    element: Element,
+    spec: &Tree,
+    around: &[&Bindings],
+) -> Result<Given, NoMemory>
+    ensures fault { IfOk result (λ read. IsLeast (InnerFault (all_binds (map (λ b. b.now) around.now)) element spec.now) read.fault) }
+    ensures gives { IfOk result (λ read. read.fault ≡ None → ChildrenGive (all_binds (map (λ b. b.now) around.now)) element spec.now read.content read.classes) }
+{
+    let of_content = read_contents(alloc, element, spec, around)?;
+    let of_classes = read_classes(alloc, element, spec)?;
+    Ok(Given {
+        content: of_content.content,
+        classes: of_classes.classes,
+        fault: lesser(of_content.fault, of_classes.fault),
+    })
+}
+
+// What the contents of a declaration give, and the least rule that they break.
+fn read_contents(
+    alloc: Global,
+    element: Element,
+    spec: &Tree,
+    around: &[&Bindings],
+) -> Result<ReadContents, NoMemory>
+    ensures fault { IfOk result (λ read. IsLeast (ContentsFault (all_binds (map (λ b. b.now) around.now)) element spec.now) read.fault) }
+    ensures content { IfOk result (λ read. read.fault ≡ None → GivesOne element the_element.Content (IsContentOf (within (all_binds (map (λ b. b.now) around.now)) spec.now)) (children_of spec.now) read.content) }
+{
+    let own = Bindings::new(alloc, spec.binds.copy(alloc)?)?;
+    let inside = entered(alloc, around, &own)?;
+    let mut content = None;
+    let mut fault = None;
+    for child in elements(spec) {
+        if is_child(element, Element::Content, child) {
+            match read_content_in(alloc, child, inside.as_slice()) {
+                Ok(read) => content = Some(read),
+                Err(ContentRefusal::Rule(rule)) => fault = lesser(fault, Some(rule)),
+                Err(ContentRefusal::NoMemory) => return Err(NoMemory),
+            }
+        }
+    }
+    Ok(ReadContents { content, fault })
+}
+
+// The entry of a declaration with what its children give, where it has a key.
+fn entry(alloc: Global, schema: &Tree, item: &Tree, given: Given) -> Result<Option<Entry>, NoMemory>
+    ensures { IfOk result (IsEntryMade schema.now item.now given.content given.classes) }
+{
+    let Some(key) = key_declared(alloc, item)? else {
+        return Ok(None);
+    };
+    let module = match attribute(&item.attrs, "module") {
+        Some(module) => module.copy(alloc)?,
+        None => Text::new(alloc),
+    };
+    let ns = namespace_declared(alloc, key.kind, schema, item)?;
+    let gives = type_of(key.kind, item);
+    let Given {
+        content,
+        classes,
+        ..
+    } = given;
+    Ok(Some(Entry::Spec {
+        at: item.at,
+        spec: Spec {
+            key,
+            mode: mode_of(item),
+            module,
+            ns,
+            gives,
+            classes,
+            content,
+        },
+    }))
+}
+
+// Whether a declaration says of a class that it is of type `atts`, where it says it.
+fn type_of(kind: Kind, item: &Tree) -> Option<bool>
+    ensures { result ≡ type_given kind item.now }
+{
+    match (kind, attribute(&item.attrs, "type")) {
+        (Kind::Class, Some(word)) => Some(word.as_str() == "atts"),
+        _ => None,
+    }
+}
+
+// What a declaration does: it adds, where its `mode` says nothing else.
+fn mode_of(item: &Tree) -> Mode
+    ensures { result ≡ mode_given item.now }
+{
+    match attribute(&item.attrs, "mode") {
+        Some(word) => mode_named(word.as_str()),
+        None => Mode::Add,
+    }
+}
+
+fn mode_named(word: &str) -> Mode
+    ensures { result ≡ the_mode_named word.now }
+{
+    match word {
+        "delete" => Mode::Delete,
+        "change" => Mode::Change,
+        "replace" => Mode::Replace,
+        _ => Mode::Add,
+    }
+}
+
+// The namespace that a declaration gives: only an element has one.
+fn namespace_declared(
+    alloc: Global,
+    kind: Kind,
+    schema: &Tree,
+    item: &Tree,
+) -> Result<Option<Text>, NoMemory>
+    ensures { IfOk result (λ ns. ns ≡ the_namespace_declared kind schema.now item.now) }
+{
+    match kind {
+        Kind::Element => namespace(alloc, mode_of(item), schema, item),
+        Kind::Class | Kind::Macro | Kind::Datatype => Ok(None),
+    }
+}
+
+// The namespace of an element in documents that a declaration gives: its own, and for one that adds or replaces else that of
+// its `schemaSpec`, else TEI's.
+fn namespace(
+    alloc: Global,
+    mode: Mode,
+    schema: &Tree,
+    item: &Tree,
+) -> Result<Option<Text>, NoMemory>
+    ensures { IfOk result (λ ns. ns ≡ namespace_in mode schema.now item.now) }
+{
+    if let Some(own) = attribute(&item.attrs, "ns") {
+        return Ok(Some(own.copy(alloc)?));
+    }
+    match mode {
+        Mode::Add | Mode::Replace => match attribute(&schema.attrs, "ns") {
+            Some(default) => Ok(Some(default.copy(alloc)?)),
+            None => Ok(Some(Text::from_str(alloc, TEI)?)),
+        },
+        Mode::Change | Mode::Delete => Ok(None),
+    }
+}
+
+/// The kind of the component that an item of the schema declares.
+pub fn kind_declared(element: Element) -> Option<Kind>
+    ensures { result ≡ the_kind_declared element }
+{
+    match element {
+        Element::ElementSpec => Some(Kind::Element),
+        Element::ClassSpec => Some(Kind::Class),
+        Element::MacroSpec => Some(Kind::Macro),
+        _ => None,
+    }
+}
+
+/// The key of the component that an item declares, where it declares one and its ident is an NCName. The only error is NoMemory,
+/// for want of memory.
+pub fn key_declared(alloc: Global, item: &Tree) -> Result<Option<Key>, NoMemory>
+    ensures { IfOk result (IsKeyOf item.now) }
+{
+    let Some(element) = child_of(Element::SchemaSpec.form(), item) else {
+        return Ok(None);
+    };
+    let (Some(kind), Some(ident)) = (kind_declared(element), attribute(&item.attrs, "ident")) else {
+        return Ok(None);
+    };
+    if !is_ncname(ident) {
+        return Ok(None);
+    }
+    let ident = ident.copy(alloc)?;
+    Ok(Some(Key { kind, ident }))
+}

@@ -1,3 +1,0 @@
-pub mod ItemElements
-pub mod ItemEntries
-pub mod ItemFaults

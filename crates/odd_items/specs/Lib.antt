@@ -1,5 +1,0 @@
-pub mod Declares
-pub mod Offences
-pub mod Pending
-pub mod Reading
-pub mod Search

@@ -1,0 +1,226 @@
+ghost use Rattle.std.specs.Prelude.{◌≡◌, IfOk, unwrap_or};
+ghost use Rattle.std.specs.Option.{option_copied};
+ghost use Rattle.std.specs.FinMap.{find};
+ghost use Rattle.odd_text.specs.Key.{key_cmp};
+ghost use Rattle.odd_library.specs.Library.{IsEmptyLibrary, class_of as the_class_of, component_of as the_component_of, content_of, element_of as the_element_of, module_of, other_of as the_other_of};
+
+use crate::spec::Spec;
+use odd_content::Content;
+use odd_forms::TEI;
+use odd_members::classes_over;
+use odd_text::{Key, Kind, Map, NoMemory, Text, TryCopy, Words};
+use std::alloc::Global;
+
+/// An element of a library: its module, which may be empty, its namespace in documents, the classes that it is a member of
+/// and its content. The classes are in rising order, each once.
+#[derive(Drop)]
+pub struct ElementPart {
+    pub module: Text,
+    pub ns: Text,
+    pub classes: Words,
+    pub content: Content,
+}
+
+/// A class: its module, whether it is of type `atts`, and the classes that it is a member of.
+#[derive(Drop)]
+pub struct ClassPart {
+    pub module: Text,
+    pub gives: bool,
+    pub classes: Words,
+}
+
+/// A macro or a datatype: its module and its content.
+#[derive(Drop)]
+pub struct OtherPart {
+    pub module: Text,
+    pub content: Content,
+}
+
+impl TryCopy for ElementPart {
+    fn copy(&self, alloc: Global) -> Result<ElementPart, NoMemory> {
+        let module = self.module.copy(alloc)?;
+        let ns = self.ns.copy(alloc)?;
+        let classes = self.classes.copy(alloc)?;
+        let content = self.content.copy(alloc)?;
+        Ok(ElementPart {
+            module,
+            ns,
+            classes,
+            content,
+        })
+    }
+}
+
+impl TryCopy for ClassPart {
+    fn copy(&self, alloc: Global) -> Result<ClassPart, NoMemory> {
+        let module = self.module.copy(alloc)?;
+        let classes = self.classes.copy(alloc)?;
+        Ok(ClassPart {
+            module,
+            gives: self.gives,
+            classes,
+        })
+    }
+}
+
+impl TryCopy for OtherPart {
+    fn copy(&self, alloc: Global) -> Result<OtherPart, NoMemory> {
+        let module = self.module.copy(alloc)?;
+        let content = self.content.copy(alloc)?;
+        Ok(OtherPart { module, content })
+    }
+}
+
+/// A component of a library.
+#[derive(Drop)]
+pub enum Component {
+    Element(ElementPart),
+    Class(ClassPart),
+    Macro(OtherPart),
+    Datatype(OtherPart),
+}
+
+impl Component {
+    /// What a declaration declares by itself. Without a namespace that is TEI's, without memberships it is a member of no
+    /// class, and without a content the content is empty. The only error is NoMemory, for want of memory.
+    pub fn of(alloc: Global, spec: &Spec) -> Result<Component, NoMemory>
+        ensures { IfOk result (λ made. made ≡ the_component_of spec.now) }
+    {
+        match spec.key.kind {
+            Kind::Element => Ok(Component::Element(element_of(alloc, spec)?)),
+            Kind::Class => Ok(Component::Class(class_of(alloc, spec)?)),
+            Kind::Macro => Ok(Component::Macro(other_of(alloc, spec)?)),
+            Kind::Datatype => Ok(Component::Datatype(other_of(alloc, spec)?)),
+        }
+    }
+
+    /// The module of the component, which may be empty.
+    pub fn module(&self) -> &Text
+        ensures { result.now ≡ module_of self.now }
+    {
+        match self {
+            Component::Element(part) => &part.module,
+            Component::Class(part) => &part.module,
+            Component::Macro(part) | Component::Datatype(part) => &part.module,
+        }
+    }
+
+    /// The content of an element, a macro or a datatype.
+    pub fn content(&self) -> Option<&Content>
+        ensures { option_copied result ≡ content_of self.now }
+    {
+        match self {
+            Component::Element(part) => Some(&part.content),
+            Component::Class(_) => None,
+            Component::Macro(part) | Component::Datatype(part) => Some(&part.content),
+        }
+    }
+}
+
+// The element that a declaration declares by itself.
+fn element_of(alloc: Global, spec: &Spec) -> Result<ElementPart, NoMemory>
+    ensures { IfOk result (λ made. made ≡ the_element_of spec.now) }
+{
+    let module = spec.module.copy(alloc)?;
+    let ns = match &spec.ns {
+        Some(ns) => ns.copy(alloc)?,
+        None => Text::from_str(alloc, TEI)?,
+    };
+    let classes = classes_over(alloc, spec.classes.as_ref(), &Words::new(alloc))?;
+    let content = content_of(alloc, spec)?;
+    Ok(ElementPart {
+        module,
+        ns,
+        classes,
+        content,
+    })
+}
+
+// The class that it declares.
+fn class_of(alloc: Global, spec: &Spec) -> Result<ClassPart, NoMemory>
+    ensures { IfOk result (λ made. made ≡ the_class_of spec.now) }
+{
+    let module = spec.module.copy(alloc)?;
+    let classes = classes_over(alloc, spec.classes.as_ref(), &Words::new(alloc))?;
+    Ok(ClassPart {
+        module,
+        gives: spec.gives.unwrap_or(false),
+        classes,
+    })
+}
+
+// The macro or the datatype that it declares.
+fn other_of(alloc: Global, spec: &Spec) -> Result<OtherPart, NoMemory>
+    ensures { IfOk result (λ made. made ≡ the_other_of spec.now) }
+{
+    let module = spec.module.copy(alloc)?;
+    let content = content_of(alloc, spec)?;
+    Ok(OtherPart { module, content })
+}
+
+// The content that it gives, else the empty one.
+fn content_of(alloc: Global, spec: &Spec) -> Result<Content, NoMemory>
+    ensures { IfOk result (λ made. made ≡ unwrap_or spec.now.content Content.Empty) }
+{
+    match &spec.content {
+        Some(content) => content.copy(alloc),
+        None => Ok(Content::Empty),
+    }
+}
+
+impl TryCopy for Component {
+    fn copy(&self, alloc: Global) -> Result<Component, NoMemory> {
+        match self {
+            Component::Element(part) => Ok(Component::Element(part.copy(alloc)?)),
+            Component::Class(part) => Ok(Component::Class(part.copy(alloc)?)),
+            Component::Macro(part) => Ok(Component::Macro(part.copy(alloc)?)),
+            Component::Datatype(part) => Ok(Component::Datatype(part.copy(alloc)?)),
+        }
+    }
+}
+
+/// The components of a library by key.
+pub type Parts = Map<Key, Component>;
+
+/// The components that a chain of files gives, with the last file's ident and start words.
+#[derive(Drop)]
+pub struct Library {
+    pub ident: Text,
+    pub start: Words,
+    pub parts: Parts,
+}
+
+impl Library {
+    /// The library before the first file: no component, the ident `bare` and the start word `TEI`.
+    pub fn empty(alloc: Global) -> Result<Library, NoMemory>
+        ensures { IfOk result IsEmptyLibrary }
+    {
+        let ident = Text::from_str(alloc, "bare")?;
+        let mut start = Words::new(alloc);
+        start.push(Text::from_str(alloc, "TEI")?)?;
+        let parts = Parts::new(alloc);
+        Ok(Library {
+            ident,
+            start,
+            parts,
+        })
+    }
+
+    /// The component that is held at a key.
+    pub fn find(&self, key: &Key) -> Option<&Component>
+        ensures { option_copied result ≡ find key_cmp key.now self.now.parts }
+    {
+        self.find_by(key.kind, &key.ident)
+    }
+
+    /// The component of this kind that is held by this ident.
+    pub fn find_by(&self, kind: Kind, ident: &Text) -> Option<&Component>
+        ensures { option_copied result ≡ find key_cmp (record { kind = kind; ident = ident.now }) self.now.parts }
+    {
+        let entries = self.parts.entries();
+        match entries.binary_search_by(|entry| entry.0.compared(kind, ident)) {
+            Ok(at) => Some(&entries[at].1),
+            Err(_) => None,
+        }
+    }
+}

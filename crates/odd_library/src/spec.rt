@@ -1,0 +1,59 @@
+use odd_content::Content;
+use odd_members::Membership;
+use odd_text::{Key, NoMemory, Text, TryCopy};
+use std::alloc::Global;
+
+/// What a declaration does to the component of its key that was declared before.
+#[derive(Clone, Copy, Debug, PartialEq, Eq)]
+pub enum Mode {
+    /// There is a new component.
+    Add,
+    /// There is none any more.
+    Delete,
+    /// What is given is laid over it (docs/merging.md): its module stays, as does the type of a class.
+    Change,
+    /// There is a new component in its place.
+    Replace,
+}
+
+/// A declaration of a component. `module` is empty where none is given, and `ns` is the namespace of an element in
+/// documents: one that is added or replaced has one. `gives` says of a class whether it is of type `atts`: one that is
+/// added or replaced says it.
+#[derive(Drop)]
+pub struct Spec {
+    pub key: Key,
+    pub mode: Mode,
+    pub module: Text,
+    pub ns: Option<Text>,
+    pub gives: Option<bool>,
+    pub classes: Option<Membership>,
+    pub content: Option<Content>,
+}
+
+impl TryCopy for Spec {
+    fn copy(&self, alloc: Global) -> Result<Spec, NoMemory> {
+        let key = self.key.copy(alloc)?;
+        let module = self.module.copy(alloc)?;
+        let ns = match &self.ns {
+            Some(ns) => Some(ns.copy(alloc)?),
+            None => None,
+        };
+        let classes = match &self.classes {
+            Some(classes) => Some(classes.copy(alloc)?),
+            None => None,
+        };
+        let content = match &self.content {
+            Some(content) => Some(content.copy(alloc)?),
+            None => None,
+        };
+        Ok(Spec {
+            key,
+            mode: self.mode,
+            module,
+            ns,
+            gives: self.gives,
+            classes,
+            content,
+        })
+    }
+}

@@ -1,0 +1,12 @@
+use Rattle.std.proofs.Common.{cond, true, ap, ◌∙◌}
+use Rattle.std.specs.BTreeMap.{is_at}
+use Rattle.odd_text.specs.Text.{text_cmp}
+use Rattle.odd_modes.specs.Index.{has_text}
+use Rattle.odd_modes.proofs.TextSets.{word_put}
+use Rattle.odd_modes.proofs.named.with.Goals as goal
+
+pub loop-word-preserved : goal.loop-word-preserved
+loop-word-preserved c = λ ident.
+    word_put c.as_slice-word-items.result.now c.loop-word.word-index c.word-item.result ident c.loop-word-test.true c.word-item.is (has_text c.args.idents ident) (has_text c.loop-word.idents ident) _
+    (c.in_ok-insert.ensures.updates.0 (record { ref_ptr = c.as_str.result.ref_ptr; now = ident }) ∙ ap (λ w. cond (is_at (text_cmp w) ident) true (has_text c.loop-word.idents ident)) c.as_str.ensures)
+    (c.loop-word.invariant ident)

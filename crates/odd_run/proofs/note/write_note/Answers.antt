@@ -1,4 +1,0 @@
-use Rattle.odd_run.proofs.note.write_note.Goals as goal
-
-pub returns-in-ReadFault : goal.returns-in-ReadFault
-returns-in-ReadFault g c = rw c.in-ReadFault.is c.line.ensures
