@@ -1,10 +1,12 @@
 -- A library and a list of start words have one grammar, whose defines rise, or a least word that is missing.
-use Rattle.std.proofs.Common.{◌≡◌, ℕ, List, [], ◌∷◌, ◌++◌, Option, Some, None, cond, inl, inr, refl, sym, subst, ap, ◌∙◌, true, map}
+use Rattle.std.proofs.Common.{◌≡◌, ℕ, List, [], ◌∷◌, ◌++◌, Option, Some, None, cond, inl, inr, refl, sym, subst, ap, ◌∙◌, true, false, map}
 use Rattle.std.proofs.lemmas.Bool.{and_from}
 use Rattle.std.proofs.lemmas.Cmp.{nat_list_cmp_total}
+use Rattle.std.specs.Borrow.{Bor}
+use Rattle.std.specs.Option.{option_copied}
 use Rattle.std.specs.FinMap.{find, is_sorted, slice_cmp-IsAntisymmetric, nat_cmp-IsAntisymmetric}
 use Rattle.std.specs.FinMap.Entries.{below_all}
-use Rattle.std.specs.Ordering.{is_gt, is_lt}
+use Rattle.std.specs.Ordering.{is_lt}
 use Rattle.std.specs.Prelude.{IsTrue}
 use Rattle.std.specs.declared.cmp.Ordering.TheVariants.{Less, Equal, Greater}
 use Rattle.compile_contents.proofs.Standing as standing
@@ -12,17 +14,18 @@ use Rattle.odd_content.specs.ConditionOrder.{condition_cmp, condition_total}
 use Rattle.compile_contents.specs.Conditions.{IsConditionOf}
 use Rattle.compile_defines.proofs.NamedDefines.{define_total}
 use Rattle.compile_defines.specs.Compiled.{IsMissing, IsDefineOf, IsGrammarOf, define_cmp}
-use Rattle.odd_forms.proofs.SetOf.{not_below, turned, one_set, rest_rising}
+use Rattle.odd_forms.proofs.SetOf.{not_below, one_set, rest_rising}
 use Rattle.odd_forms.specs.Sorted.{IsSet, AreRising}
 use Rattle.odd_library.specs.declared.library.Library.{Library}
 use Rattle.odd_meaning.specs.Classes.{AreMembers, IsElementOf, IsListed, Members}
+use Rattle.odd_text.specs.Lesser.{lesser_of}
 use Rattle.odd_text.specs.Text.{text_cmp}
 use Rattle.odd_tree.proofs.InList.{stands_push, map_stands}
 use Rattle.odd_tree.specs.Elements.{StandsIn}
 use Rattle.rng_patterns.specs.Denoting.{entry_of}
 use Rattle.rng_patterns.specs.declared.grammar.Define.{Define}
 use Rattle.rng_patterns.specs.declared.grammar.Grammar.{Grammar}
-use Rattle.compile_core.specs.Schema.{IsLeast, IsLeastMissing, lesser_of}
+use Rattle.compile_core.specs.Schema.{IsLeast, IsLeastMissing}
 
 module _ (library : Library) (words : List (List ℕ)) (v : List ℕ) where
   -- a word that is held changes nothing
@@ -41,7 +44,7 @@ module _ (library : Library) (words : List (List ℕ)) (v : List ℕ) where
   }
 
   -- of a missing word and the least so far the lesser is the least
-  pub missing_more : (least : Option (List ℕ)) → IsLeast library words least → IsMissing library v → IsLeast library (words ++ v ∷ []) (Some (lesser_of least v))
+  pub missing_more : (least : Option (List ℕ)) → IsLeast library words least → IsMissing library v → IsLeast library (words ++ v ∷ []) (lesser_of text_cmp least (Some v))
   missing_more None none missing = record {
     among = (stands_push words v v).1 (inr refl);
     missing = missing;
@@ -51,17 +54,17 @@ module _ (library : Library) (words : List (List ℕ)) (v : List ℕ) where
     ];
   }
   missing_more (Some other) is missing =
-      elim (text_cmp other v) as (λ r. text_cmp other v ≡ r → IsLeastMissing library (words ++ v ∷ []) (cond (is_gt r) v other)) [
-        | Less ↦ λ p. kept (λ less. let back = turned text_cmp nat_list_cmp_total v other Less p in cc)
-        | Equal ↦ λ p. kept (λ less. let back = turned text_cmp nat_list_cmp_total v other Equal p in cc)
-        | Greater ↦ λ p. record {
+      elim (text_cmp v other) as (λ r. text_cmp v other ≡ r → IsLeastMissing library (words ++ v ∷ []) (cond (is_lt r) v other)) [
+        | Less ↦ λ p. record {
           among = (stands_push words v v).1 (inr refl);
           missing = missing;
           least = λ w a gone less. elim ((stands_push words v w).0 a) [
-            | inl b ↦ is.least w b gone (nat_list_cmp_total.trans w v other less (turned text_cmp nat_list_cmp_total v other Greater p))
+            | inl b ↦ is.least w b gone (nat_list_cmp_total.trans w v other less p)
             | inr e ↦ not_below text_cmp nat_list_cmp_total v (subst (λ x. text_cmp x v ≡ Less) (sym e) less)
           ];
         }
+        | Equal ↦ λ p. kept (λ less. let no = sym p ∙ less in cc)
+        | Greater ↦ λ p. kept (λ less. let no = sym p ∙ less in cc)
       ] refl
     where
       kept : (text_cmp v other ≡ Less → ⊥) → IsLeastMissing library (words ++ v ∷ []) other
@@ -73,6 +76,15 @@ module _ (library : Library) (words : List (List ℕ)) (v : List ℕ) where
           | inr e ↦ above (subst (λ x. text_cmp x other ≡ Less) (sym e) less)
         ];
       }
+
+-- the lesser of words that are borrowed, copied
+pub lesser_copied : (least : Option (Bor (List ℕ))) (word : Bor (List ℕ))
+    → option_copied (lesser_of (λ a b. text_cmp a.now b.now) least (Some word)) ≡ lesser_of text_cmp (option_copied least) (Some word.now)
+lesser_copied None word = refl
+lesser_copied (Some other) word = elim (is_lt (text_cmp word.now other.now)) as (λ b. option_copied (Some (cond b word other)) ≡ Some (cond b word.now other.now)) [
+  | true ↦ refl
+  | false ↦ refl
+]
 
 -- what is listed of a class is one
 one_listed : (library : Library) (class : List ℕ) (some other : Option (List (List ℕ))) → IsListed library class some → IsListed library class other → some ≡ other

@@ -1,6 +1,5 @@
 -- The schema of a library and a list of start words, and where there is none.
-use Rattle.std.specs.Prelude.{◌≡◌, ◌<◌, ◌⊎◌, ℕ, List, Option, Some, None, if◌then◌else◌}
-use Rattle.std.specs.Ordering.{is_gt}
+use Rattle.std.specs.Prelude.{◌≡◌, ◌<◌, ◌⊎◌, ℕ, List, Option, Some, None}
 use Rattle.odd_text.specs.Text.{text_cmp}
 use Rattle.odd_text.specs.declared.offence.Offence.{Offence}
 use Rattle.odd_text.specs.declared.offence.Who.TheVariants as who
@@ -24,11 +23,6 @@ pub record IsLeastMissing (library : Library) (start : List (List ℕ)) (word : 
 abbrev pub IsLeast : Library → List (List ℕ) → Option (List ℕ) → Type 0
 IsLeast library start (Some word) = IsLeastMissing library start word
 IsLeast library start None = HoldsStart library start
-
--- the lesser of two words, where there are two
-abbrev pub lesser_of : Option (List ℕ) → List ℕ → List ℕ
-lesser_of None word = word
-lesser_of (Some other) word = if is_gt (text_cmp other word) then word else other
 
 -- the offence of the least start word that is no held element
 pub record IsStartOffence (library : Library) (start : List (List ℕ)) (offence : Offence) : Type 0 where

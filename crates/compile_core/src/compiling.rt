@@ -18,14 +18,14 @@ ghost use Rattle.odd_content.specs.ConditionOrder.{condition_cmp};
 ghost use Rattle.compile_contents.specs.Conditions.{IsConditionOf};
 ghost use Rattle.compile_contents.specs.Contents.{listed_in};
 ghost use Rattle.compile_defines.specs.Formed.{IsFormed};
-ghost use Rattle.compile_core.specs.Schema.{HasLargeSchema, IsLeast, IsOfMembers, IsStartOffence, IsTooLarge, lesser_of};
+ghost use Rattle.compile_core.specs.Schema.{HasLargeSchema, IsLeast, IsOfMembers, IsStartOffence, IsTooLarge};
 
 use compile_contents::{conditions_of, holds_element, references_pattern};
 use compile_counts::{linked_nodes, text_nodes};
 use compile_defines::{condition_defines, library_defines};
 use odd_classes::{MemberTable, TableRefusal, members_by_class};
 use odd_library::Library;
-use odd_text::{NoMemory, Offence, Text, TryCopy, Who, Words};
+use odd_text::{NoMemory, Offence, Text, TryCopy, Who, Words, lesser};
 use rng_patterns::{Defines, Grammar};
 use std::alloc::Global;
 
@@ -133,18 +133,8 @@ fn least_missing<'a>(library: &Library, start: &'a Words) -> Option<&'a Text>
     let mut least = None;
     for word in start.as_slice() {
         if !holds_element(library, word) {
-            least = lesser(least, word);
+            least = lesser(least, Some(word));
         }
     }
     least
-}
-
-// The lesser of two words, where there are two.
-fn lesser<'a>(least: Option<&'a Text>, word: &'a Text) -> Option<&'a Text>
-    ensures { option_copied result ≡ Some (lesser_of (option_copied least.entry) word.entry.now) }
-{
-    match least {
-        Some(other) if *other <= *word => Some(other),
-        _ => Some(word),
-    }
 }

@@ -138,14 +138,14 @@ module _ (docs : List OddDoc) (i : ℕ) (doc : OddDoc) (library : Library) (with
   -- a doc more, where neither its items nor the library after it have an offence
   pub one_merged : (made : Library) → IsLibraryAfter upto made → ((place rule : ℕ) → Offends library doc place rule → ⊥) → ((key : Key) (rule : ℕ) → Breaks made key rule → ⊥)
       → IsMerged docs (i + 1) made
-  one_merged made after alone unbroken = record {
+  one_merged made after sound unbroken = record {
     after = subst (λ ds. IsLibraryAfter ds made) (sym (ends docs i doc within there)) after;
     only_later = λ file at o. ⊎_elim (λ own. absurd (none_own at own.1)) (λ h. omega (arith, h)) (own_or_later file at o);
   }
     where
       none_own : (at : Position) → Own at → ⊥
       none_own (form place rule) own = own
-      none_own (item place rule) own = alone place rule own
+      none_own (item place rule) own = sound place rule own
       none_own (held key rule) own = unbroken key rule (subst (λ l. Breaks l key rule) (one_library upto own.0 made own.1 after) own.2)
 
   -- the chain parts at the next doc
@@ -159,8 +159,8 @@ module _ (docs : List OddDoc) (i : ℕ) (doc : OddDoc) (library : Library) (with
   -- no offence comes before one of the next doc, where none of its own does
   first_own : (file : ℕ) (at : Position) → file ≡ i + 1 → ((others : Position) → Own others → ComesNotAfter file at file others) → (other : ℕ) (others : Position) → OffendsIn docs other others
       → ComesNotAfter file at other others
-  first_own file at e alone other others o =
-      ⊎_elim (λ own. subst (λ n. ComesNotAfter file at n others) (omega (arith, own.0, e)) (alone others own.1)) (λ h. inl (omega (arith, h, e))) (own_or_later other others o)
+  first_own file at e not_before other others o =
+      ⊎_elim (λ own. subst (λ n. ComesNotAfter file at n others) (omega (arith, own.0, e)) (not_before others own.1)) (λ h. inl (omega (arith, h, e))) (own_or_later other others o)
 
   -- the first offence of its items is that of the chain
   pub item_refused : (offence : Offence) → IsFirstOffence (Offends library doc) (i + 1) offence → IsFirst (OffendsIn docs) offence
@@ -168,16 +168,16 @@ module _ (docs : List OddDoc) (i : ℕ) (doc : OddDoc) (library : Library) (with
     at = at;
     told = λ n. record { file = offence.file; who = f.placed n; rule = offence.rule };
     is_one = subst (λ n. OffendsIn docs n at) (number offence.file f.in_file) (of_item (take i docs) doc (drop (i + 1) docs) library parts m.after f.is_first.is_one);
-    first = first_own offence.file at f.in_file alone;
+    first = first_own offence.file at f.in_file not_before;
   }
     where
       at : Position
       at = item f.place offence.rule
 
-      alone : (others : Position) → Own others → ComesNotAfter offence.file at offence.file others
-      alone (form place rule) own = absurd own
-      alone (item place rule) own = inr (refl, f.is_first.first place rule own)
-      alone (held key rule) own = inr (refl, tt)
+      not_before : (others : Position) → Own others → ComesNotAfter offence.file at offence.file others
+      not_before (form place rule) own = absurd own
+      not_before (item place rule) own = inr (refl, f.is_first.first place rule own)
+      not_before (held key rule) own = inr (refl, tt)
 
   -- and where its items have none, that of the library after it
   pub library_refused : (made : Library) (offence : Offence) → IsLibraryAfter upto made → ((place rule : ℕ) → Offends library doc place rule → ⊥) → IsFirstOfLibrary made (i + 1) offence
@@ -186,16 +186,16 @@ module _ (docs : List OddDoc) (i : ℕ) (doc : OddDoc) (library : Library) (with
     at = at;
     told = λ n. record { file = offence.file; who = f.placed n; rule = offence.rule };
     is_one = subst (λ n. OffendsIn docs n at) (number offence.file f.in_file) (of_library (take i docs) doc (drop (i + 1) docs) made parts after f.is_first.is_one);
-    first = first_own offence.file at f.in_file alone;
+    first = first_own offence.file at f.in_file not_before;
   }
     where
       at : Position
       at = held f.key offence.rule
 
-      alone : (others : Position) → Own others → ComesNotAfter offence.file at offence.file others
-      alone (form place rule) own = absurd own
-      alone (item place rule) own = absurd (sound place rule own)
-      alone (held key rule) own = inr (refl, f.is_first.first key rule (subst (λ l. Breaks l key rule) (one_library upto own.0 made own.1 after) own.2))
+      not_before : (others : Position) → Own others → ComesNotAfter offence.file at offence.file others
+      not_before (form place rule) own = absurd own
+      not_before (item place rule) own = absurd (sound place rule own)
+      not_before (held key rule) own = inr (refl, f.is_first.first key rule (subst (λ l. Breaks l key rule) (one_library upto own.0 made own.1 after) own.2))
 
 module _ (trees : List Tree) (t : Tree) where
   -- one that is read

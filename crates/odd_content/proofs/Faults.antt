@@ -6,10 +6,10 @@ use Rattle.std.proofs.lemmas.Option.{same_Some}
 use Rattle.std.specs.Cmp.{IsTotalOrder}
 use Rattle.std.specs.List.{list_all}
 use Rattle.std.specs.Prelude.{IsTrue, find}
-use Rattle.odd_forms.proofs.Least.{least_if, least_or, least_same}
+use Rattle.odd_forms.proofs.Least.{least_if, least_or, least_same, lesser_rule}
 use Rattle.odd_forms.proofs.SetOf.{one_set}
 use Rattle.odd_forms.specs.Faults.{FormFault}
-use Rattle.odd_forms.specs.Least.{IsLeast, lesser_rule}
+use Rattle.odd_forms.specs.Least.{IsLeast}
 use Rattle.odd_forms.specs.Names.{is_one_of}
 use Rattle.odd_forms.specs.Sorted.{IsSet}
 use Rattle.odd_forms.specs.Table.{form_at, parts}

@@ -7,8 +7,8 @@ use Rattle.odd_tree.specs.Elements.{children_of, elements_of}
 use Rattle.odd_tree.specs.declared.tree.Node.{Node, Element}
 use Rattle.odd_tree.specs.declared.tree.Tree.{Tree}
 use Rattle.odd_tree.proofs.InList.{element_shown, begins, nothing_stands}
-use Rattle.odd_forms.specs.Least.{IsLeast, lesser_rule}
-use Rattle.odd_forms.proofs.Least.{least_more}
+use Rattle.odd_forms.specs.Least.{IsLeast}
+use Rattle.odd_forms.proofs.Least.{least_more, lesser_rule}
 use Rattle.odd_content.specs.Breaking.{PartFault, PartsFault}
 use Rattle.odd_content.specs.Giving.{AreParts, IsPart, part_of, parts_of}
 use Rattle.odd_content.specs.declared.content.Content.{Content}

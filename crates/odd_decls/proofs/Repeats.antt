@@ -8,8 +8,8 @@ use Rattle.std.specs.BTreeSet.{BTreeSet, contains_by}
 use Rattle.std.specs.List.{list_any}
 use Rattle.std.specs.Ordering.{eq_by_cmp, is_eq}
 use Rattle.std.specs.Prelude.{count_by}
-use Rattle.odd_forms.proofs.Least.{least_if, least_or}
-use Rattle.odd_forms.specs.Least.{IsLeast, lesser_rule}
+use Rattle.odd_forms.proofs.Least.{least_if, least_or, lesser_rule}
+use Rattle.odd_forms.specs.Least.{IsLeast}
 use Rattle.odd_library.proofs.OffenceOrder.{key_itself, same_key}
 use Rattle.odd_library.specs.First.{IsNotAfter}
 use Rattle.odd_library.specs.declared.fault.Fault.{Fault}

@@ -10,8 +10,8 @@ use Rattle.odd_forms.specs.Least.{IsLeast}
 use Rattle.odd_forms.specs.Sorted.{IsSet}
 use Rattle.odd_forms.specs.Table.{form_at, needed}
 use Rattle.odd_forms.specs.declared.element.Element.TheVariants as element
-use Rattle.odd_library.proofs.OffenceOrder.{not_after_through}
-use Rattle.odd_library.specs.First.{IsEarlier, IsNotAfter}
+use Rattle.odd_library.proofs.OffenceOrder.{IsEarlier, not_after_through}
+use Rattle.odd_library.specs.First.{IsNotAfter}
 use Rattle.odd_library.specs.declared.fault.Fault.{Fault}
 use Rattle.odd_library.specs.declared.odd.Entry.{Entry}
 use Rattle.odd_library.specs.declared.odd.OddDoc.{OddDoc}

@@ -10,10 +10,10 @@ ghost use Rattle.odd_decls.specs.ItemReading.{ContentsFault, GivesEntry, InnerFa
 
 use crate::items::ReadItem;
 use odd_content::{Content, ContentRefusal, read_content_in};
-use odd_forms::{Element, TEI, child_of, form_fault, is_child, lesser};
+use odd_forms::{Element, TEI, child_of, form_fault, is_child};
 use odd_library::{Entry, Mode, Spec};
 use odd_members::{Membership, read_classes};
-use odd_text::{Key, Kind, NoMemory, Text, TryCopy};
+use odd_text::{Key, Kind, NoMemory, Text, TryCopy, lesser};
 use odd_tree::{Bindings, Tree, attribute, elements, entered, is_ncname};
 use std::alloc::Global;
 

@@ -17,9 +17,9 @@ use crate::declarations::key_declared;
 use crate::items::{ReadItem, read_item};
 use crate::pending::is_pending;
 use crate::searching::{binds_along, find_schemas, path_to_first};
-use odd_forms::{Element, fault_where, lesser, own_fault, sorted, words_of};
-use odd_library::{Entries, Fault, OddDoc, OddRefusal, earlier};
-use odd_text::{Key, NoMemory, Offence, Scope, Text, TryCopy, Words};
+use odd_forms::{Element, fault_where, own_fault, sorted, words_of};
+use odd_library::{Entries, Fault, OddDoc, OddRefusal};
+use odd_text::{Key, NoMemory, Offence, Scope, Text, TryCopy, Words, lesser};
 use odd_tree::{Bindings, Tree, attribute, elements};
 use std::alloc::Global;
 use std::collections::BTreeSet;
@@ -98,7 +98,7 @@ fn joined(
     ensures { IfOk result (IsJoined schema.now items next) }
 {
     match (items, next) {
-        (ReadItems::Broken(one), Some(other)) => Ok(Read::Broken(earlier(one, other))),
+        (ReadItems::Broken(one), Some(other)) => Ok(Read::Broken(one.min(other))),
         (ReadItems::Broken(one), None) => Ok(Read::Broken(one)),
         (ReadItems::Entries(_), Some(other)) => Ok(Read::Broken(other)),
         (ReadItems::Entries(entries), None) => Ok(Read::Doc(doc(alloc, schema, entries)?)),

@@ -3,7 +3,7 @@ ghost use Rattle.std.specs.List.{list_any};
 ghost use Rattle.odd_tree.specs.Elements.{children_of, given};
 ghost use Rattle.odd_forms.specs.Children.{IsChild};
 ghost use Rattle.odd_forms.specs.Faults.{AttributeFault, ChildFault, DemandFault, FormFault, OwnFault, child_in, element_among as the_element_among};
-ghost use Rattle.odd_forms.specs.Least.{Among, IsLeast, lesser_rule};
+ghost use Rattle.odd_forms.specs.Least.{Among, IsLeast};
 ghost use Rattle.odd_forms.specs.Names.{is_one_of as the_is_one_of};
 ghost use Rattle.odd_forms.specs.Seen as seen;
 ghost use Rattle.odd_forms.specs.Table.{form_at};
@@ -12,7 +12,7 @@ use crate::attributes::{attribute_fault, demand_fault};
 use crate::element::Element;
 use crate::form::{AttributeForm, Demand, Form};
 use crate::names::{is_one_of, is_passed_over, is_relax_ng, is_tei};
-use odd_text::NoMemory;
+use odd_text::{NoMemory, lesser};
 use odd_tree::{Tree, attribute, elements};
 use std::alloc::Global;
 
@@ -24,17 +24,6 @@ pub const LEFT_OUT: u8 = 2;
 pub const UNKNOWN: u8 = 3;
 /// Twice in one place.
 pub const TWICE: u8 = 4;
-
-/// The lesser of two rules, where there are two.
-pub fn lesser(one: Option<u8>, other: Option<u8>) -> Option<u8>
-    ensures { result ≡ lesser_rule one other }
-{
-    match (one, other) {
-        (Some(a), Some(b)) => Some(a.min(b)),
-        (Some(a), None) => Some(a),
-        (None, b) => b,
-    }
-}
 
 /// The rule, where there is a fault.
 pub fn fault_where(is_fault: bool, rule: u8) -> Option<u8>

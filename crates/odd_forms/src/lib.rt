@@ -12,8 +12,7 @@ mod words;
 pub use attributes::number;
 pub use element::Element;
 pub use faults::{
-    LEFT_OUT, MALFORMED, TWICE, child_fault, child_of, fault_where, form_fault, is_child, lesser,
-    own_fault,
+    LEFT_OUT, MALFORMED, TWICE, child_fault, child_of, fault_where, form_fault, is_child, own_fault,
 };
 pub use form::{AttributeForm, Demand, Form, Kind};
 pub use names::{is_one_of, is_passed_over, is_relax_ng, is_tei};

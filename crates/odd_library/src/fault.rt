@@ -1,10 +1,9 @@
 ghost use Rattle.std.specs.Prelude.{◌≡◌};
 ghost use Rattle.odd_text.specs.declared.offence.Who.TheVariants as the_who;
-ghost use Rattle.odd_library.specs.First.{IsEarlier};
 
 use odd_text::{Offence, Who};
 
-/// A rule that is broken at a byte.
+/// A rule that is broken at a byte. Faults are ordered by place and then by rule.
 #[derive(Clone, Copy, Debug, PartialEq, Eq, PartialOrd, Ord)]
 pub struct Fault {
     pub at: u64,
@@ -22,11 +21,4 @@ impl Fault {
             rule: self.rule,
         }
     }
-}
-
-/// The earlier of two faults, by place and then by rule.
-pub fn earlier(one: Fault, other: Fault) -> Fault
-    ensures { IsEarlier one other result }
-{
-    one.min(other)
 }

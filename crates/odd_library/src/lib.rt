@@ -7,7 +7,7 @@ pub mod odd;
 pub mod refusal;
 pub mod spec;
 
-pub use fault::{Fault, earlier};
+pub use fault::Fault;
 pub use library::{ClassPart, Component, ElementPart, Library, OtherPart, Parts};
 pub use odd::{Entries, Entry, OddDoc};
 pub use refusal::OddRefusal;

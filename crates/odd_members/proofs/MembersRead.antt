@@ -18,12 +18,12 @@ use Rattle.odd_tree.specs.declared.tree.Tree.{Tree}
 use Rattle.odd_tree.proofs.InList.{StandsOnce, once_push, nothing_stands}
 use Rattle.odd_forms.specs.Children.{ChildOfFault, IsChild}
 use Rattle.odd_forms.specs.Faults.{FormFault}
-use Rattle.odd_forms.specs.Least.{IsLeast, lesser_rule}
+use Rattle.odd_forms.specs.Least.{IsLeast}
 use Rattle.odd_forms.specs.Sorted.{IsSet}
 use Rattle.odd_forms.specs.Table.{form_at}
 use Rattle.odd_forms.specs.declared.element.Element.TheVariants as element
 use Rattle.odd_forms.proofs.Children.{twice_push, never_none, with_none}
-use Rattle.odd_forms.proofs.Least.{least_if, least_or, least_same}
+use Rattle.odd_forms.proofs.Least.{least_if, least_or, least_same, lesser_rule}
 use Rattle.odd_forms.proofs.SetOf.{set_same}
 use Rattle.odd_members.specs.Members.{IsMarked, IsMemberOf, Names, adds, MembersFault, HasMarks, ClassesFault, IsAddedBy}
 use Rattle.odd_members.proofs.Marks.{held_found, inserted_put}

@@ -9,8 +9,8 @@ ghost use Rattle.odd_tree.specs.Elements.{children_of};
 ghost use Rattle.odd_members.specs.Members.{ClassesFault, HasMarks, IsAddedBy, IsMembershipOf, MembersFault, adds as the_adds, is_change as the_is_change};
 
 use crate::membership::{ClassMarks, Membership};
-use odd_forms::{Element, TWICE, fault_where, form_fault, is_child, lesser};
-use odd_text::{NoMemory, Text, TryCopy, Words};
+use odd_forms::{Element, TWICE, fault_where, form_fault, is_child};
+use odd_text::{NoMemory, Text, TryCopy, Words, lesser};
 use odd_tree::{Tree, attribute, elements, is_ncname};
 use std::alloc::Global;
 use std::collections::BTreeMap;

@@ -7,12 +7,13 @@ use Rattle.std.specs.Borrow.{Bor}
 use Rattle.std.specs.Cmp.Lexicographic.{same_text}
 use Rattle.std.specs.FinMap.{find, is_sorted}
 use Rattle.std.specs.List.{list_any}
+use Rattle.std.specs.Ordering.{ord_min}
 use Rattle.std.specs.Option.{option_copied}
 use Rattle.std.specs.Prelude.{IsTrue}
 use Rattle.odd_content.specs.declared.content.Pick.{Pick}
 use Rattle.odd_forms.proofs.Least.{least_if, any_stands}
 use Rattle.odd_forms.specs.Least.{IsLeast}
-use Rattle.odd_library.proofs.OffenceOrder.{not_after_through}
+use Rattle.odd_library.proofs.OffenceOrder.{earlier_is, fault_cmp, not_after_through}
 use Rattle.odd_library.specs.Library.{module_of}
 use Rattle.odd_library.specs.Odd.{place_of, element_key}
 use Rattle.odd_library.specs.declared.fault.Fault.{Fault}
@@ -24,6 +25,7 @@ use Rattle.odd_library.specs.declared.odd.OddDoc.{OddDoc}
 use Rattle.odd_library.specs.declared.spec.Mode.TheVariants as mode
 use Rattle.odd_library.specs.declared.spec.Spec.{Spec}
 use Rattle.odd_text.specs.Key.{key_cmp}
+use Rattle.odd_text.specs.Lesser.{lesser_of}
 use Rattle.odd_text.specs.declared.key.Key.{Key}
 use Rattle.odd_tokens.specs.Same.{is_same}
 use Rattle.odd_tree.proofs.InList.{StandsOnce, ends, nothing_stands, once_push}
@@ -31,7 +33,7 @@ use Rattle.odd_tree.proofs.PrintedTrees.{same_from}
 use Rattle.odd_tree.specs.Elements.{StandsIn}
 use Rattle.odd_modes.proofs.HeldEntries.{held_stands, stands_held}
 use Rattle.odd_modes.specs.Choosing.{IsChosen}
-use Rattle.odd_modes.specs.Index.{IsEarlierOf, IsFirst, fault_of, is_of_module}
+use Rattle.odd_modes.specs.Index.{IsFirst, fault_of, is_of_module}
 use Rattle.odd_modes.specs.Offences.{ItemFault, OffendsAt, ReferenceFault, SpecFault, GivesAnotherType, IsOfModule, words_in}
 use Rattle.odd_modes.specs.Offences as offences
 
@@ -41,18 +43,20 @@ first_same P Q None into back h = λ place rule q. h place rule (back place rule
 first_same P Q (Some fault) into back h = record { is_one = into fault.at fault.rule h.is_one; first = λ place rule q. h.first place rule (back place rule q) }
 
 -- the first of faults of two kinds is the earlier of the first of each
-first_or : (P Q : ℕ → ℕ → Type 0) (a b c : Option Fault) → IsFirst P a → IsFirst Q b → IsEarlierOf a b c → IsFirst (λ place rule. P place rule ⊎ Q place rule) c
+first_or : (P Q : ℕ → ℕ → Type 0) (a b c : Option Fault) → IsFirst P a → IsFirst Q b → c ≡ lesser_of fault_cmp a b → IsFirst (λ place rule. P place rule ⊎ Q place rule) c
 first_or P Q None b c h k e =
     first_same Q (λ place rule. P place rule ⊎ Q place rule) c (λ place rule q. inr q) (λ place rule f. ⊎_elim (λ p. absurd (h place rule p)) (λ q. q) f) (subst (IsFirst Q) (sym e) k)
 first_or P Q (Some one) None c h k e =
     first_same P (λ place rule. P place rule ⊎ Q place rule) c (λ place rule p. inl p) (λ place rule f. ⊎_elim (λ p. p) (λ q. absurd (k place rule q)) f) (subst (IsFirst P) (sym e) h)
-first_or P Q (Some one) (Some other) None h k e = absurd e
-first_or P Q (Some one) (Some other) (Some fault) h k e = record {
-  is_one = ⊎_elim (λ s. inl (subst (λ f. P f.at f.rule) (sym s) h.is_one)) (λ s. inr (subst (λ f. Q f.at f.rule) (sym s) k.is_one)) e.0;
-  first = λ place rule f.
-      ⊎_elim (λ p. not_after_through fault.at fault.rule one.at one.rule place rule e.1 (h.first place rule p))
-      (λ q. not_after_through fault.at fault.rule other.at other.rule place rule e.2 (k.first place rule q)) f;
-}
+first_or P Q (Some one) (Some other) c h k e =
+    let fault : Fault = ord_min fault_cmp one other in
+    let least = earlier_is one other in
+    subst (IsFirst (λ place rule. P place rule ⊎ Q place rule)) (sym e) (record {
+      is_one = ⊎_elim (λ s. inl (subst (λ f. P f.at f.rule) (sym s) h.is_one)) (λ s. inr (subst (λ f. Q f.at f.rule) (sym s) k.is_one)) least.0;
+      first = λ place rule f.
+          ⊎_elim (λ p. not_after_through fault.at fault.rule one.at one.rule place rule least.1 (h.first place rule p))
+          (λ q. not_after_through fault.at fault.rule other.at other.rule place rule least.2 (k.first place rule q)) f;
+    })
 
 -- one of the items has such a fault, at the place where it begins
 abbrev pub BreaksAt : (Entry → ℕ → Type 0) → List Entry → ℕ → ℕ → Type 0
@@ -69,7 +73,7 @@ first_here F e (Some rule) h = record { is_one = (refl, h.0); first = λ place o
 
 -- the first with one item more
 pub first_more : (F : Entry → ℕ → Type 0) (items : List Entry) (i : ℕ) (e : Entry) (o : Option ℕ) (a b c : Option Fault) → i < length items → e ≡ get_or items i e
-    → IsFirst (BreaksAt F (take i items)) a → IsLeast (F e) o → b ≡ fault_of e o → IsEarlierOf a b c → IsFirst (BreaksAt F (take (i + 1) items)) c
+    → IsFirst (BreaksAt F (take i items)) a → IsLeast (F e) o → b ≡ fault_of e o → c ≡ lesser_of fault_cmp a b → IsFirst (BreaksAt F (take (i + 1) items)) c
 first_more F items i e o a b c within there h least is earlier =
     let push = λ (place rule : ℕ). once_push (λ x. (place ≡ place_of x) × F x rule) (take i items) e in
     subst (λ xs. IsFirst (BreaksAt F xs) c) (sym (ends items i e within there))
@@ -88,7 +92,7 @@ first_all F doc items i o are all h =
     (subst (λ xs. IsFirst (BreaksAt F xs) o) (take_all i items all ∙ are) h)
 
 -- an item's fault is one of a reference or of a declaration
-pub first_of_both : (library : Library) (doc : OddDoc) (a b c : Option Fault) → IsFirst (OffendsAt (ReferenceFault library) doc) a → IsFirst (OffendsAt (SpecFault library doc) doc) b → IsEarlierOf a b c
+pub first_of_both : (library : Library) (doc : OddDoc) (a b c : Option Fault) → IsFirst (OffendsAt (ReferenceFault library) doc) a → IsFirst (OffendsAt (SpecFault library doc) doc) b → c ≡ lesser_of fault_cmp a b
     → IsFirst (OffendsAt (ItemFault library doc) doc) c
 first_of_both library doc a b c h k e =
     first_same (λ place rule. OffendsAt (ReferenceFault library) doc place rule ⊎ OffendsAt (SpecFault library doc) doc place rule) (OffendsAt (ItemFault library doc) doc) c

@@ -1,5 +1,5 @@
 -- What the references of a file are kept as, and what is told of items one after another.
-use Rattle.std.specs.Prelude.{◌≡◌, ◌↔◌, ℕ, Bool, true, false, ◌||◌, not, List, Option, Some, None, IsSome, IsSomeAnd, IsTrue}
+use Rattle.std.specs.Prelude.{◌≡◌, ◌↔◌, ℕ, Bool, true, false, ◌||◌, not, List, Option, Some, None, IsSome, IsTrue}
 use Rattle.std.specs.Borrow.{Bor}
 use Rattle.std.specs.BTreeMap.{get_by}
 use Rattle.std.specs.BTreeSet.{BTreeSet, contains, contains_by}
@@ -9,7 +9,7 @@ use Rattle.odd_text.specs.declared.key.Key.{Key}
 use Rattle.odd_text.specs.declared.key.Kind.{Kind}
 use Rattle.odd_text.specs.declared.key.Kind.TheVariants as kind
 use Rattle.odd_tokens.specs.Same.{is_same}
-use Rattle.odd_library.specs.First.{IsEarlier, IsFirstOf}
+use Rattle.odd_library.specs.First.{IsFirstOf}
 use Rattle.odd_library.specs.Library.{module_of}
 use Rattle.odd_library.specs.Odd.{place_of}
 use Rattle.odd_library.specs.declared.fault.Fault.{Fault}
@@ -80,9 +80,3 @@ fault_of e (Some rule) = Some (record { at = place_of e; rule = rule })
 abbrev pub IsFirst : (ℕ → ℕ → Type 0) → Option Fault → Type 0
 IsFirst HasOne None = (place rule : ℕ) → HasOne place rule → ⊥
 IsFirst HasOne (Some fault) = IsFirstOf HasOne fault.at fault.rule
-
--- the earlier of two faults, where there are two
-abbrev pub IsEarlierOf : Option Fault → Option Fault → Option Fault → Type 0
-IsEarlierOf None other fault = fault ≡ other
-IsEarlierOf (Some one) None fault = fault ≡ Some one
-IsEarlierOf (Some one) (Some other) fault = IsSomeAnd fault (IsEarlier one other)

@@ -6,14 +6,14 @@ ghost use Rattle.odd_forms.specs.Least.{IsLeast};
 ghost use Rattle.odd_library.specs.Odd.{element_key};
 ghost use Rattle.odd_library.specs.declared.odd.OddDoc.{OddDoc as ADoc};
 ghost use Rattle.odd_modes.specs.Choosing.{IsChosen};
-ghost use Rattle.odd_modes.specs.Index.{AreModulesOf, AreReferencesOf, IsEarlierOf, IsFirst, fault_of, is_of_module};
+ghost use Rattle.odd_modes.specs.Index.{AreModulesOf, AreReferencesOf, IsFirst, fault_of, is_of_module};
 ghost use Rattle.odd_modes.specs.Offences.{GivesAnotherType, Offends, OffendsAt, ReferenceFault, RefersWrongly, SpecFault, words_in as the_words_in};
 
 use crate::references::References;
 use odd_content::Pick;
 use odd_forms::fault_where;
-use odd_library::{Component, Entry, Fault, Library, Mode, OddDoc, Spec, earlier};
-use odd_text::{Key, Kind, NoMemory, Text};
+use odd_library::{Component, Entry, Fault, Library, Mode, OddDoc, Spec};
+use odd_text::{Key, Kind, NoMemory, Text, lesser};
 use std::alloc::Global;
 use std::collections::BTreeSet;
 
@@ -40,7 +40,7 @@ pub fn first_fault(
 {
     let of_references = first_reference_fault(alloc, library, doc)?;
     let of_specs = first_spec_fault(library, references, doc);
-    Ok(earlier_of(of_references, of_specs))
+    Ok(lesser(of_references, of_specs))
 }
 
 /// The first of the faults of a file's references by place, of those at one place the one with the least rule.
@@ -55,7 +55,7 @@ pub fn first_reference_fault(
     let mut first = None;
     for entry in doc.entries.as_slice() {
         let rule = reference_fault(library, &modules, entry);
-        first = earlier_of(first, fault_at(entry, rule));
+        first = lesser(first, fault_at(entry, rule));
     }
     Ok(first)
 }
@@ -68,20 +68,9 @@ fn first_spec_fault(library: &Library, references: &References<'_>, doc: &OddDoc
     let mut first = None;
     for entry in doc.entries.as_slice() {
         let rule = spec_fault(library, references, entry);
-        first = earlier_of(first, fault_at(entry, rule));
+        first = lesser(first, fault_at(entry, rule));
     }
     first
-}
-
-// The earlier of two faults, where there are two.
-fn earlier_of(one: Option<Fault>, other: Option<Fault>) -> Option<Fault>
-    ensures { IsEarlierOf one other result }
-{
-    match (one, other) {
-        (Some(one), Some(other)) => Some(earlier(one, other)),
-        (Some(one), None) => Some(one),
-        (None, other) => other,
-    }
 }
 
 // The fault of an item that breaks a rule.

@@ -1,4 +1,5 @@
-//! The tags, attributes and texts of the XML that is written.
+//! The tags, attributes and texts of the XML that is written. Each call puts its part at the end of a text. The only error is
+//! NoMemory, for want of memory; of the text nothing is said then.
 #![tactic(auto)]
 
 mod escaping;

@@ -20,6 +20,6 @@ pub use map::Map;
 pub use memory::NoMemory;
 pub use name::{Bind, Name, Names, Scope};
 pub use offence::{Offence, Who};
-pub use order::ExactOrd;
+pub use order::{ExactOrd, lesser};
 pub use seq::Seq;
 pub use text::{Text, Words};

@@ -5,7 +5,7 @@ use Rattle.std.specs.Option.{option_copied}
 use Rattle.odd_tree.proofs.InList.{nothing_stands}
 use Rattle.compile_contents.specs.Contents.{holds_element}
 use Rattle.compile_core.specs.Schema.{IsLeast}
-use Rattle.compile_core.proofs.OneGrammarOf.{held_more, missing_more}
+use Rattle.compile_core.proofs.OneGrammarOf.{held_more, lesser_copied, missing_more}
 use Rattle.compile_core.proofs.compiling.least_missing.Goals as goal
 use Rattle.compile_core.proofs.compiling.least_missing.Goals.{then-not-holds_element, else-not-holds_element}
 
@@ -26,7 +26,7 @@ loop-word-preserved c =
     elim c.if-not-holds_element.branch [
       | then-not-holds_element w ↦
           let missing : holds_element library word ≡ false = sym asked ∙ w.if-not-holds_element.true in
-          subst (IsLeast library (take i words ++ word ∷ [])) (sym w.lesser-least.ensures ∙ ap option_copied (sym w.least-is))
+          subst (IsLeast library (take i words ++ word ∷ [])) (sym (ap option_copied (w.least-is ∙ w.lesser-least.ensures) ∙ lesser_copied c.loop-word.least _))
           (missing_more library (take i words) word _ c.loop-word.invariant missing)
       | else-not-holds_element w ↦
           let held : holds_element library word ≡ true = sym asked ∙ w.if-not-holds_element.false in

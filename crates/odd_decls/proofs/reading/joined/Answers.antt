@@ -1,10 +1,13 @@
+use Rattle.std.proofs.Common.{subst, sym}
+use Rattle.odd_library.proofs.OffenceOrder.{IsEarlier, earlier_is}
 use Rattle.odd_decls.proofs.SchemaRead.{earlier_first, items_first, next_first, doc_read}
 use Rattle.odd_decls.proofs.reading.joined.Goals as goal
 
 pub returns-in-Broken-Some : goal.returns-in-Broken-Some
 returns-in-Broken-Some c first rest is read =
     let parts = rw (c.in-Broken-Some.is-0, c.in-Broken-Some.is-1) at read in
-    earlier_first first rest c.in-Broken-Some.one c.in-Broken-Some.other c.earlier.result parts.sound parts.items parts.next c.earlier.ensures
+    earlier_first first rest c.in-Broken-Some.one c.in-Broken-Some.other c.min.result parts.sound parts.items parts.next
+    (subst (IsEarlier c.in-Broken-Some.one c.in-Broken-Some.other) (sym c.min.ensures) (earlier_is c.in-Broken-Some.one c.in-Broken-Some.other))
 
 pub returns-in-Broken-None : goal.returns-in-Broken-None
 returns-in-Broken-None c first rest is read =

@@ -8,7 +8,7 @@ loop-entry-init c = first_none (ReferenceFault c.args.library.now)
 pub loop-entry-preserved : goal.loop-entry-preserved
 loop-entry-preserved c =
     first_more (ReferenceFault c.args.library.now) c.as_slice-entry-items.result.now c.loop-entry.entry-index c.entry-item.result c.reference_fault-rule.result c.loop-entry.first c.fault_at.result _
-    c.loop-entry-test.true c.entry-item.is c.loop-entry.invariant c.reference_fault-rule.ensures c.fault_at.ensures c.earlier_of-first.ensures
+    c.loop-entry-test.true c.entry-item.is c.loop-entry.invariant c.reference_fault-rule.ensures c.fault_at.ensures c.lesser-first.ensures
 
 pub returns : goal.returns
 returns c =
