@@ -9,12 +9,14 @@ compiles, each five times:
 - made files of classes of type `model`, of elements that are members of them, and of contents that name the classes: 900
   elements in 100 classes, where each class but the first ten is a member of another, and the same five and ten times as large;
 - 400 classes, each a member of the next, with an element each, so that their schema has 80,000 references to members; and twice as many;
-- 10,000 macros, each of which names the next, and twice as many.
+- 10,000 macros, each of which names the next, and twice as many;
+- two files whose schemas pass the limit of a million elements, which is the answer that is wanted: one of repetitions in one another
+  whose numbers multiply to more than 64 bits hold, and one of a class of 100,000 members that is listed 10 times, and of half as many.
 
 In turn it runs `xmllint --noout` over the same files, which only reads them, and prints the least processor time (user and
 system) in seconds, the greatest memory in MB, and how many times xmllint's and the half's that is. Then it asks xmllint, and
 jing where it is installed, for a verdict on examples/letter.xml by the schema of the examples, and prints their times too. A
-program that does not end with 0 ends this with 1.
+program that does not end as it should ends this with 1.
 
 GNU time (Debian's package `time`) starts each run and tells its memory.
 """
@@ -26,6 +28,7 @@ import sys
 import tempfile
 
 RUNS = 5
+LIMIT = 5
 EXAMPLES = pathlib.Path(__file__).resolve().parent.parent / "examples"
 JING = pathlib.Path("/usr/share/java/jing.jar")
 
@@ -76,12 +79,28 @@ def nested_macros(macros):
     return schema_spec("e", items)
 
 
-def measured(command):
-    """The least time in seconds, and the greatest memory in MB."""
+def nested_repetitions(depth):
+    """A content whose repetitions in one another are written out, as far as the limit allows."""
+    inside = '<elementRef key="e"/>'
+    for _ in range(depth):
+        inside = f'<sequence minOccurs="999999999" maxOccurs="999999999">{inside}</sequence>'
+    return schema_spec("e", [element_spec("e", [], inside)])
+
+
+def listed_members(members):
+    """A class of so many members, whose list stands ten times in a content, as one of them is left out."""
+    items = [class_spec("c", [])]
+    items += [element_spec(f"e{at:06}", ["c"], "<textNode/>") for at in range(members)]
+    items += [element_spec("f", [], '<classRef key="c" except="e000000"/>' * 10)]
+    return schema_spec("f", items)
+
+
+def measured(command, status=0):
+    """The least time in seconds, and the greatest memory in MB, of a command that ends with the status."""
     times, sizes = [], []
     for _ in range(RUNS):
         run = subprocess.run(["/usr/bin/time", "-f", "%U %S %M", *command], stdout=subprocess.DEVNULL, stderr=subprocess.PIPE, text=True)
-        if run.returncode:
+        if run.returncode != status:
             sys.exit(f"{command}: status {run.returncode}\n{run.stderr}")
         user, system, kilobytes = run.stderr.split()[-3:]
         times.append(float(user) + float(system))
@@ -89,9 +108,9 @@ def measured(command):
     return min(times), max(sizes)
 
 
-def row(title, program, files, before=None):
+def row(title, program, files, before=None, status=0):
     """Prints how a chain compares, and gives the program's time and memory."""
-    time, size = measured([program, "compile", *files])
+    time, size = measured([program, "compile", *files], status)
     reads, holds = measured(["xmllint", "--noout", *files])
     growth = f", {time / before[0]:.1f} and {size / before[1]:.1f} times the half" if before and before[0] else ""
     print(f"{title:44} {time:6.2f} s {size:5.0f} MB; xmllint --noout {reads:5.2f} s {holds:5.0f} MB{growth}")
@@ -111,6 +130,13 @@ def main(program):
                 path = folder / f"{made.__name__}{count}.odd"
                 path.write_text(made(count), encoding="utf-8")
                 found[count] = row(f"{count} {title}, {path.stat().st_size / 1e6:.2f} MB", program, [path], found.get(count // 2))
+        for title, made, counts in (("nested repetitions", nested_repetitions, (9,)), ("members, listed 10 times", listed_members, (50_000, 100_000))):
+            found = {}
+            for count in counts:
+                path = folder / f"{made.__name__}{count}.odd"
+                path.write_text(made(count), encoding="utf-8")
+                status = 0 if count == 50_000 else LIMIT
+                found[count] = row(f"{count} {title}, {path.stat().st_size / 1e6:.2f} MB, status {status}", program, [path], found.get(count // 2), status)
         schema = folder / "letters.rng"
         with open(schema, "wb") as out:
             subprocess.run([program, "compile", source, edition], check=True, stdout=out)

@@ -20,7 +20,7 @@ use Rattle.std.specs.declared.cmp.Ordering.TheVariants.{Less, Equal, Greater}
 use Rattle.std.specs.declared.result.Result.{Result}
 use Rattle.odd_content.specs.Picking.{is_picked}
 use Rattle.odd_content.specs.declared.content.Condition.{Condition}
-use Rattle.odd_content.specs.declared.content.Content.{Content, Sequence, Alternate, Row_of-Content, end_of-Content, more_of-Content, items-the_row-Content, items_hidden-the_row-Content-0}
+use Rattle.odd_content.specs.declared.content.Content.{Content, Empty, Text, Element, Class, Macro, Any, Sequence, Alternate, Sequence', Alternate', Row_of-Content, end_of-Content, more_of-Content, items-the_row-Content, items_hidden-the_row-Content-0}
 use Rattle.odd_content.specs.declared.content.Content.TheBlock.{hidden-the_row-Content-0}
 use Rattle.odd_content.specs.declared.content.Pick.TheVariants as pick
 use Rattle.odd_forms.proofs.SetOf.{rest_rising}
@@ -36,10 +36,13 @@ use Rattle.odd_tree.proofs.InList.{first_or_later, nothing_stands, stands_first,
 use Rattle.odd_tree.specs.Elements.{StandsIn}
 use Rattle.rng_patterns.specs.declared.grammar.Expr.{Expr}
 use Rattle.rng_values.specs.declared.bounds.Bounds.{Bounds}
+use Rattle.compile_contents.proofs.Elements.{part_within}
 use Rattle.compile_contents.proofs.Standing.{stands_either, stands_left, stands_right, is_less}
 use Rattle.odd_content.specs.ConditionOrder.{condition_cmp}
+use Rattle.compile_contents.specs.Budget.{pattern_elements}
 use Rattle.compile_contents.specs.Conditions.{IsConditionOf, conditions_of, conditions_in, conditions_in_parts}
 use Rattle.compile_contents.specs.Contents.{content_pattern, part_patterns}
+use Rattle.compile_contents.specs.Parts.{bounds_of, is_never, part_pattern}
 use Rattle.compile_contents.specs.Repeating.{choice_pattern, group_pattern, repeated}
 use Rattle.compile_contents.specs.Wanted.{is_wanted}
 
@@ -115,6 +118,33 @@ module _ (library : Library) (conditions : List Condition) (members : Members) w
 
   pub alternate_pattern : (parts : List Content) (b : Bounds) → content_pattern library conditions members (Alternate parts b) ≡ repeated (choice_pattern (map (content_pattern library conditions members) parts)) b
   alternate_pattern parts b = ap (λ ps. repeated (choice_pattern ps) b) (patterns_of_parts parts)
+
+  -- however often they stand
+
+  pub sequence_part : (parts : List Content) (b : Bounds) → part_pattern library conditions members (Sequence parts b) ≡ group_pattern (map (content_pattern library conditions members) parts)
+  sequence_part parts b = ap group_pattern (patterns_of_parts parts)
+
+  pub alternate_part : (parts : List Content) (b : Bounds) → part_pattern library conditions members (Alternate parts b) ≡ choice_pattern (map (content_pattern library conditions members) parts)
+  alternate_part parts b = ap choice_pattern (patterns_of_parts parts)
+
+  -- a content is its part, so often as it stands
+  content_is : (content : Content) → content_pattern library conditions members content ≡ repeated (part_pattern library conditions members content) (bounds_of content)
+  content_is Empty = refl
+  content_is Text = refl
+  content_is (Element key b) = refl
+  content_is (Class key p b) = refl
+  content_is (Macro key b) = refl
+  content_is (Any c b) = refl
+  content_is (Sequence' shape parts b) = refl
+  content_is (Alternate' shape parts b) = refl
+
+  -- and has the elements of its part, where that stands at all
+  pub part_in_content : (content : Content) → is_never (bounds_of content) ≡ false
+      → pattern_elements (part_pattern library conditions members content) ≤ pattern_elements (content_pattern library conditions members content)
+  part_in_content content some =
+      let within = part_within (part_pattern library conditions members content) (bounds_of content) some in
+      let same = ap pattern_elements (content_is content) in
+      omega arith
 
 module _ {A : Type 0} {order : A → A → Ordering} (total : IsTotalOrder order) (bound : A) where
   -- what is below an item that is below the bound

@@ -1,2 +1,4 @@
 pub mod Collected
+pub mod Elements
 pub mod Standing
+pub mod Taking

@@ -1,4 +1,6 @@
+pub mod Budget
 pub mod Conditions
 pub mod Contents
+pub mod Parts
 pub mod Repeating
 pub mod Wanted

@@ -1,11 +1,11 @@
-ghost use Rattle.std.specs.Prelude.{◌≡◌, ◌++◌, IfOk, IsTrue, map};
+ghost use Rattle.std.specs.Prelude.{◌≡◌, ◌++◌, IfOk, map};
 ghost use Rattle.odd_forms.specs.Sorted.{AreRising};
 ghost use Rattle.odd_content.specs.ConditionOrder.{condition_cmp};
 ghost use Rattle.compile_contents.specs.Contents.{class_name as the_class_name, condition_name as the_condition_name, condition_pattern as the_condition_pattern, content_pattern as the_content_pattern, define_name as the_define_name, element_pattern as the_element_pattern, holds_element as the_holds_element, holds_macro as the_holds_macro, listed_in, macro_name as the_macro_name, macro_pattern as the_macro_pattern, members_pattern as the_members_pattern, number_of as the_number_of, reference, references_pattern as the_references_pattern};
-ghost use Rattle.compile_contents.specs.Repeating.{repeated as the_repeated};
-ghost use Rattle.rng_patterns.specs.declared.grammar.Expr.TheVariants as expr;
-ghost use Rattle.rng_patterns.specs.declared.grammar.Expr.{Expr as AnExpr};
+ghost use Rattle.compile_contents.specs.Budget.{IsMadeWithin, joined_elements, pattern_elements};
+ghost use Rattle.compile_contents.specs.Parts.{bounds_of as the_bounds_of, is_never as the_is_never, part_pattern as the_part_pattern};
 
+use crate::budget::{Budget, MakeRefusal};
 use crate::conditions::Conditions;
 use crate::repeating::{choice_pattern, group_pattern, repeated};
 use crate::words::picked;
@@ -19,7 +19,10 @@ use rng_values::Bounds;
 use std::alloc::Global;
 
 /// The pattern of a content in the schema of a library, whose conditions these are, in rising order, and of whose classes these
-/// are the members.
+/// are the members. Its elements are taken of the budget.
+///
+/// TooLarge comes where it has more elements than are left, before more than these are made. NoMemory is answered for want of
+/// memory. What is left of the budget after an error is not said.
 #[cycle(content_pattern)]
 pub fn content_pattern(
     alloc: Global,
@@ -27,52 +30,89 @@ pub fn content_pattern(
     conditions: &Conditions,
     members: &MemberTable,
     content: &Content,
-) -> Result<Expr, NoMemory>
+    budget: &mut Budget,
+) -> Result<Expr, MakeRefusal>
     requires { AreRising condition_cmp conditions.now }
-    ensures { IfOk result (λ pattern. pattern ≡ the_content_pattern library.now conditions.now (listed_in members.now) content.now) }
+    ensures { IsMadeWithin pattern_elements (the_content_pattern library.now conditions.now (listed_in members.now) content.now) budget.old budget.new result }
+{
+    let bounds = bounds_of(content);
+    if is_never(bounds) {
+        return single(Expr::Empty, budget);
+    }
+    let had = budget.left;
+    let part = part_pattern(alloc, library, conditions, members, content, budget)?;
+    let elements = had - budget.left;
+    budget.left = had;
+    repeated(alloc, part, elements, bounds, budget)
+}
+
+// How often the part of a content stands.
+fn bounds_of(content: &Content) -> Bounds
+    ensures { result ≡ the_bounds_of content.now }
 {
     match content {
-        Content::Empty => Ok(Expr::Empty),
-        Content::Text => Ok(Expr::Text),
-        Content::Element { key, bounds } => {
-            repeated(alloc, element_pattern(alloc, library, key)?, *bounds)
-        }
-        Content::Class { key, pick, bounds } => {
-            repeated(alloc, members_pattern(alloc, members, key, pick)?, *bounds)
-        }
-        Content::Macro { key, bounds } => {
-            repeated(alloc, macro_pattern(alloc, library, key)?, *bounds)
-        }
-        Content::Any { condition, bounds } => {
-            let element = condition_pattern(alloc, conditions, condition)?;
-            repeated(alloc, element, *bounds)
-        }
-        Content::Sequence { parts, bounds } => {
-            if is_never(*bounds) {
-                return Ok(Expr::Empty);
-            }
-            let patterns = part_patterns(alloc, library, conditions, members, parts)?;
-            repeated(alloc, group_pattern(patterns), *bounds)
-        }
-        Content::Alternate { parts, bounds } => {
-            if is_never(*bounds) {
-                return Ok(Expr::Empty);
-            }
-            let patterns = part_patterns(alloc, library, conditions, members, parts)?;
-            repeated(alloc, choice_pattern(patterns), *bounds)
-        }
+        Content::Empty | Content::Text => Bounds {
+            min: 1,
+            max: Some(1),
+        },
+        Content::Element { bounds, .. }
+        | Content::Class { bounds, .. }
+        | Content::Macro { bounds, .. }
+        | Content::Any { bounds, .. }
+        | Content::Sequence { bounds, .. }
+        | Content::Alternate { bounds, .. } => *bounds,
     }
 }
 
 // Whether a part stands at no time, so that its pattern is `empty` whatever it is. None is made of it then, as it may be
 // larger than any schema.
 fn is_never(bounds: Bounds) -> bool
-    ensures { IsTrue result → (part : AnExpr) → the_repeated part bounds ≡ expr.Empty }
+    ensures { result ≡ the_is_never bounds }
 {
     matches!((bounds.min, bounds.max), (0, Some(0)))
 }
 
-// The patterns of some parts.
+// A pattern of one element.
+fn single(pattern: Expr, budget: &mut Budget) -> Result<Expr, MakeRefusal>
+    requires { pattern_elements pattern ≡ 1 }
+    ensures { IsMadeWithin pattern_elements pattern budget.old budget.new result }
+{
+    budget.take(1)?;
+    Ok(pattern)
+}
+
+// The pattern of what a content says may stand, however often.
+#[cycle(content_pattern)]
+fn part_pattern(
+    alloc: Global,
+    library: &Library,
+    conditions: &Conditions,
+    members: &MemberTable,
+    content: &Content,
+    budget: &mut Budget,
+) -> Result<Expr, MakeRefusal>
+    requires { AreRising condition_cmp conditions.now }
+    ensures { IsMadeWithin pattern_elements (the_part_pattern library.now conditions.now (listed_in members.now) content.now) budget.old budget.new result }
+{
+    match content {
+        Content::Empty => single(Expr::Empty, budget),
+        Content::Text => single(Expr::Text, budget),
+        Content::Element { key, .. } => element_pattern(alloc, library, key, budget),
+        Content::Class { key, pick, .. } => members_pattern(alloc, members, key, pick, budget),
+        Content::Macro { key, .. } => macro_pattern(alloc, library, key, budget),
+        Content::Any { condition, .. } => condition_pattern(alloc, conditions, condition, budget),
+        Content::Sequence { parts, .. } => {
+            let patterns = part_patterns(alloc, library, conditions, members, parts, budget)?;
+            Ok(group_pattern(patterns))
+        }
+        Content::Alternate { parts, .. } => {
+            let patterns = part_patterns(alloc, library, conditions, members, parts, budget)?;
+            Ok(choice_pattern(patterns))
+        }
+    }
+}
+
+// The patterns of some parts. The element of a group or a choice of them is taken too.
 #[cycle(content_pattern)]
 fn part_patterns(
     alloc: Global,
@@ -80,36 +120,48 @@ fn part_patterns(
     conditions: &Conditions,
     members: &MemberTable,
     parts: &Contents,
-) -> Result<Exprs, NoMemory>
+    budget: &mut Budget,
+) -> Result<Exprs, MakeRefusal>
     requires { AreRising condition_cmp conditions.now }
-    ensures { IfOk result (λ made. made ≡ map (the_content_pattern library.now conditions.now (listed_in members.now)) parts.now) }
+    ensures { IsMadeWithin joined_elements (map (the_content_pattern library.now conditions.now (listed_in members.now)) parts.now) budget.old budget.new result }
 {
     let mut made = Exprs::new(alloc);
     for part in parts.as_slice() {
-        made.push(content_pattern(alloc, library, conditions, members, part)?)?;
+        made.push(content_pattern(alloc, library, conditions, members, part, budget)?)?;
     }
+    budget.take_joint(made.len())?;
     Ok(made)
 }
 
 // The pattern of an element by its ident.
-fn element_pattern(alloc: Global, library: &Library, ident: &Text) -> Result<Expr, NoMemory>
-    ensures { IfOk result (λ pattern. pattern ≡ the_element_pattern library.now ident.now) }
+fn element_pattern(
+    alloc: Global,
+    library: &Library,
+    ident: &Text,
+    budget: &mut Budget,
+) -> Result<Expr, MakeRefusal>
+    ensures { IsMadeWithin pattern_elements (the_element_pattern library.now ident.now) budget.old budget.new result }
 {
     if holds_element(library, ident) {
-        Ok(Expr::Ref(define_name(alloc, ident)?))
+        single(Expr::Ref(define_name(alloc, ident)?), budget)
     } else {
-        Ok(Expr::NotAllowed)
+        single(Expr::NotAllowed, budget)
     }
 }
 
 // The pattern of a macro by its ident.
-fn macro_pattern(alloc: Global, library: &Library, ident: &Text) -> Result<Expr, NoMemory>
-    ensures { IfOk result (λ pattern. pattern ≡ the_macro_pattern library.now ident.now) }
+fn macro_pattern(
+    alloc: Global,
+    library: &Library,
+    ident: &Text,
+    budget: &mut Budget,
+) -> Result<Expr, MakeRefusal>
+    ensures { IsMadeWithin pattern_elements (the_macro_pattern library.now ident.now) budget.old budget.new result }
 {
     if holds_macro(library, ident) {
-        Ok(Expr::Ref(macro_name(alloc, ident)?))
+        single(Expr::Ref(macro_name(alloc, ident)?), budget)
     } else {
-        Ok(Expr::NotAllowed)
+        single(Expr::NotAllowed, budget)
     }
 }
 
@@ -139,16 +191,17 @@ fn members_pattern(
     members: &MemberTable,
     class: &Text,
     pick: &Pick,
-) -> Result<Expr, NoMemory>
-    ensures { IfOk result (λ pattern. pattern ≡ the_members_pattern class.now pick.now (listed_in members.now class.now)) }
+    budget: &mut Budget,
+) -> Result<Expr, MakeRefusal>
+    ensures { IsMadeWithin pattern_elements (the_members_pattern class.now pick.now (listed_in members.now class.now)) budget.old budget.new result }
 {
     let Some(idents) = members.find(class) else {
-        return Ok(Expr::NotAllowed);
+        return single(Expr::NotAllowed, budget);
     };
     match pick {
-        Pick::All => Ok(Expr::Ref(class_name(alloc, class)?)),
+        Pick::All => single(Expr::Ref(class_name(alloc, class)?), budget),
         Pick::Include(_) | Pick::Except(_) => {
-            references_pattern(alloc, &picked(alloc, idents, pick)?)
+            references_pattern(alloc, &picked(alloc, idents, pick)?, budget)
         }
     }
 }
@@ -158,17 +211,29 @@ fn condition_pattern(
     alloc: Global,
     conditions: &Conditions,
     condition: &Condition,
-) -> Result<Expr, NoMemory>
+    budget: &mut Budget,
+) -> Result<Expr, MakeRefusal>
     requires { AreRising condition_cmp conditions.now }
-    ensures { IfOk result (λ pattern. pattern ≡ the_condition_pattern conditions.now condition.now) }
+    ensures { IsMadeWithin pattern_elements (the_condition_pattern conditions.now condition.now) budget.old budget.new result }
 {
-    Ok(Expr::Ref(condition_name(alloc, conditions, condition)?))
+    let name = condition_name(alloc, conditions, condition)?;
+    single(Expr::Ref(name), budget)
 }
 
-/// A choice of references to elements of these idents. The only error is NoMemory, for want of memory.
-pub fn references_pattern(alloc: Global, idents: &Words) -> Result<Expr, NoMemory>
-    ensures { IfOk result (λ pattern. pattern ≡ the_references_pattern idents.now) }
+/// A choice of references to elements of these idents. Its elements are taken of the budget: one for each ident, and one more
+/// where there is not one ident.
+///
+/// TooLarge comes where fewer are left, before a reference is made. NoMemory is answered for want of memory. What is left of the
+/// budget after an error is not said.
+pub fn references_pattern(
+    alloc: Global,
+    idents: &Words,
+    budget: &mut Budget,
+) -> Result<Expr, MakeRefusal>
+    ensures { IsMadeWithin pattern_elements (the_references_pattern idents.now) budget.old budget.new result }
 {
+    budget.take(idents.len() as u64)?;
+    budget.take_joint(idents.len())?;
     Ok(choice_pattern(references(alloc, idents)?))
 }
 

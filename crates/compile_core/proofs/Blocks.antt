@@ -9,7 +9,7 @@ use Rattle.compile_contents.proofs.Standing.{found, stands_left, stands_right}
 use Rattle.odd_content.specs.ConditionOrder.{condition_cmp}
 use Rattle.compile_contents.specs.Conditions.{IsConditionOf}
 use Rattle.compile_contents.specs.Contents.{class_name, define_name, macro_name}
-use Rattle.compile_counts.proofs.MacroAdded.{entries_rise, made_rise, IsFrom, IsUpTo, letter, letters_rise}
+use Rattle.compile_core.proofs.Rising.{entries_rise, made_rise, IsFrom, IsUpTo, letter, letters_rise}
 use Rattle.compile_defines.proofs.NamedDefines.{define_total, entry_stands, listed_is}
 use Rattle.compile_defines.specs.Blocks.{class_defines, element_defines, listed_defines, macro_defines, IsConditionDefine, component_defines, grammar_with}
 use Rattle.compile_defines.specs.Compiled.{IsDefineOf, define_cmp, class_define, element_define, macro_define, IsGrammarOf}

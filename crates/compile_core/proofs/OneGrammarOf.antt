@@ -4,7 +4,7 @@ use Rattle.std.proofs.lemmas.Bool.{and_from}
 use Rattle.std.proofs.lemmas.Cmp.{nat_list_cmp_total}
 use Rattle.std.specs.Borrow.{Bor}
 use Rattle.std.specs.Option.{option_copied}
-use Rattle.std.specs.FinMap.{find, is_sorted, slice_cmp-IsAntisymmetric, nat_cmp-IsAntisymmetric}
+use Rattle.std.specs.FinMap.{is_sorted}
 use Rattle.std.specs.FinMap.Entries.{below_all}
 use Rattle.std.specs.Ordering.{is_lt}
 use Rattle.std.specs.Prelude.{IsTrue}
@@ -20,8 +20,7 @@ use Rattle.odd_library.specs.declared.library.Library.{Library}
 use Rattle.odd_meaning.specs.Classes.{AreMembers, IsElementOf, IsListed, Members}
 use Rattle.odd_text.specs.Lesser.{lesser_of}
 use Rattle.odd_text.specs.Text.{text_cmp}
-use Rattle.odd_tree.proofs.InList.{stands_push, map_stands}
-use Rattle.odd_tree.specs.Elements.{StandsIn}
+use Rattle.odd_tree.proofs.InList.{stands_push}
 use Rattle.rng_patterns.specs.Denoting.{entry_of}
 use Rattle.rng_patterns.specs.declared.grammar.Define.{Define}
 use Rattle.rng_patterns.specs.declared.grammar.Grammar.{Grammar}
@@ -131,9 +130,3 @@ pub rising_sorted : (ds : List Define) → AreRising define_cmp ds → Rises ds
 rising_sorted [] r = refl
 rising_sorted (d ∷ []) r = refl
 rising_sorted (d ∷ e ∷ ds) r = and_from _ _ (below_later d.name e ds (r [] ds d e refl) (later_rise d (e ∷ ds) r)) (rising_sorted (e ∷ ds) (later_rise d (e ∷ ds) r))
-
--- and the body of each is found at its name
-pub found : (ds : List Define) → AreRising define_cmp ds → (d : Define) → StandsIn ds d → find text_cmp d.name (map entry_of ds) ≡ Some d.body
-found ds r d s =
-    let exact = slice_cmp-IsAntisymmetric nat_cmp-IsAntisymmetric in
-    standing.found text_cmp nat_list_cmp_total exact d.name d.body (map entry_of ds) (rising_sorted ds r) (map_stands entry_of ds d s)

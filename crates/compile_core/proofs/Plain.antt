@@ -6,7 +6,7 @@ use Rattle.std.specs.Option.{is_some}
 use Rattle.compile_contents.proofs.Standing.{stands_filter, macro_found, each_stands, found}
 use Rattle.compile_contents.specs.Conditions.{conditions_in, conditions_of}
 use Rattle.compile_contents.specs.Contents.{macro_name, class_name, condition_name, content_pattern, define_name, references_pattern}
-use Rattle.compile_counts.proofs.ConditionNodes.{references_good, IsBodyOf, condition_body_is, element, nothing}
+use Rattle.compile_core.proofs.Closed.{references_good, IsBodyOf, condition_body_is, element, nothing}
 use Rattle.compile_defines.proofs.NamedDefines.{listed_is}
 use Rattle.compile_defines.specs.Compiled as compiled
 use Rattle.compile_defines.specs.Compiled.{IsDefineOf, IsGrammarOf, class_define, condition_body, element_define, macro_define, HoldsStart}

@@ -13,7 +13,7 @@ use Rattle.odd_content.specs.ConditionOrder.{condition_cmp}
 use Rattle.compile_contents.specs.Conditions.{conditions_in, conditions_in_parts, IsConditionOf, conditions_of}
 use Rattle.compile_contents.specs.Contents.{class_name, condition_pattern, content_pattern, element_pattern, holds_element, holds_macro, macro_name, macro_pattern, members_pattern, part_patterns, reference, condition_name, references_pattern, define_name, number_of}
 use Rattle.compile_contents.specs.Repeating.{choice_pattern, group_pattern}
-use Rattle.compile_counts.proofs.ConditionNodes.{IsClosed, choice_good, group_good, references_good, repeated_good, IsBodyOf, condition_body_is, element, nothing, throughout_good}
+use Rattle.compile_core.proofs.Closed.{IsClosed, choice_good, group_good, references_good, repeated_good, IsBodyOf, condition_body_is, element, nothing, throughout_good}
 use Rattle.compile_defines.proofs.NamedDefines.{entry_stands, listed_is}
 use Rattle.compile_defines.specs.Compiled as compiled
 use Rattle.compile_defines.specs.Compiled.{HoldsStart, IsDefineOf, class_define, condition_body, condition_define, element_define, macro_define}

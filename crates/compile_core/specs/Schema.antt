@@ -10,6 +10,8 @@ use Rattle.rng_patterns.specs.declared.grammar.Grammar.{Grammar}
 use Rattle.rng_emit.specs.Nodes.{text_nodes}
 use Rattle.std.specs.declared.cmp.Ordering.TheVariants.{Less}
 use Rattle.compile_defines.specs.Compiled.{HoldsStart, IsGrammarOf, IsMissing}
+use Rattle.compile_contents.specs.declared.budget.MakeRefusal.{MakeRefusal}
+use Rattle.compile_contents.specs.declared.budget.MakeRefusal.TheVariants as made
 use Rattle.compile_core.specs.declared.compiling.CompileRefusal.{CompileRefusal}
 use Rattle.compile_core.specs.declared.compiling.CompileRefusal.TheVariants as refusal
 
@@ -49,8 +51,7 @@ pub record HasLargeSchema (library : Library) (start : List (List ℕ)) : Type 0
   pub is_grammar : IsGrammarOf library start grammar
   pub too_large : IsTooLarge grammar
 
--- the members of classes are too many, or memory is wanting
-abbrev pub IsOfMembers : CompileRefusal → Type 0
-IsOfMembers (refusal.Offence offence) = ⊥
-IsOfMembers refusal.TooLarge = Unit {0}
-IsOfMembers refusal.NoMemory = Unit {0}
+-- why a library has no schema, where its grammar is not made
+abbrev pub as_refusal : MakeRefusal → CompileRefusal
+as_refusal made.TooLarge = refusal.TooLarge
+as_refusal made.NoMemory = refusal.NoMemory

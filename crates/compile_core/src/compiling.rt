@@ -1,32 +1,26 @@
-ghost use Rattle.std.specs.Prelude.{◌≡◌, ◌↔◌, ◌<◌, ℕ, List, IfErr, IfOk, Some, Err, IsOk, IsTrue};
-ghost use Rattle.std.specs.FinMap.{is_sorted};
+ghost use Rattle.std.specs.Prelude.{◌≡◌, ◌↔◌, ◌≤◌, ◌<◌, ℕ, IfOk, Some, Err, IsOk};
 ghost use Rattle.std.specs.Option.{option_copied};
 ghost use Rattle.odd_tree.specs.declared.tree.Tree.{Tree as ATree};
-ghost use Rattle.odd_text.specs.Key.{key_cmp};
 ghost use Rattle.odd_text.specs.declared.key.Key.{Key as AKey};
 ghost use Rattle.odd_text.specs.declared.offence.Offence.{Offence as AnOffence};
-ghost use Rattle.odd_content.specs.declared.content.Condition.{Condition as ACondition};
-ghost use Rattle.odd_forms.specs.Sorted.{IsSet};
 ghost use Rattle.odd_meaning.specs.Admission.{Admits};
 ghost use Rattle.odd_meaning.specs.Classes.{AreMembers, Members, members_count};
 ghost use Rattle.odd_meaning.specs.Rules.{Breaks};
 ghost use Rattle.rng_patterns.specs.Acceptance.{Accepts};
+ghost use Rattle.rng_emit.specs.Nodes.{text_nodes};
 ghost use Rattle.rng_emit.specs.Plain.{IsPlain};
-ghost use Rattle.compile_defines.specs.Blocks.{IsConditionDefine, grammar_with};
-ghost use Rattle.compile_defines.specs.Compiled.{HoldsStart, IsGrammarOf, define_cmp};
-ghost use Rattle.odd_content.specs.ConditionOrder.{condition_cmp};
-ghost use Rattle.compile_contents.specs.Conditions.{IsConditionOf};
 ghost use Rattle.compile_contents.specs.Contents.{listed_in};
+ghost use Rattle.compile_contents.specs.declared.budget.MakeRefusal.TheVariants as refused;
+ghost use Rattle.compile_defines.specs.Compiled.{HoldsStart, IsGrammarOf};
 ghost use Rattle.compile_defines.specs.Formed.{IsFormed};
-ghost use Rattle.compile_core.specs.Schema.{HasLargeSchema, IsLeast, IsOfMembers, IsStartOffence, IsTooLarge};
+ghost use Rattle.compile_core.specs.Schema.{HasLargeSchema, IsLeast, IsStartOffence, IsTooLarge};
 
-use compile_contents::{conditions_of, holds_element, references_pattern};
-use compile_counts::{linked_nodes, text_nodes};
+use compile_contents::{Budget, MakeRefusal, conditions_of, holds_element, references_pattern};
 use compile_defines::{condition_defines, library_defines};
 use odd_classes::{MemberTable, TableRefusal, members_by_class};
 use odd_library::Library;
 use odd_text::{NoMemory, Offence, Text, TryCopy, Who, Words, lesser};
-use rng_patterns::{Defines, Grammar};
+use rng_patterns::{Grammar, linked_nodes};
 use std::alloc::Global;
 
 /// Why a library has no schema.
@@ -49,6 +43,19 @@ impl From<NoMemory> for CompileRefusal {
     }
 }
 
+impl From<MakeRefusal> for CompileRefusal {
+    ghost use Rattle.compile_core.specs.Schema.{as_refusal};
+
+    ghost from_gives = { λ refusal made. made ≡ as_refusal refusal };
+
+    fn from(refusal: MakeRefusal) -> CompileRefusal {
+        match refusal {
+            MakeRefusal::TooLarge => CompileRefusal::TooLarge,
+            MakeRefusal::NoMemory => CompileRefusal::NoMemory,
+        }
+    }
+}
+
 // The rule that each start word is a held element.
 const START_RULE: u8 = 20;
 
@@ -65,7 +72,7 @@ const MOST_NODES: u64 = 4_000_000;
 ///
 /// Offence comes where a start word is no held element, and only there. It names the least of these words in the order
 /// of bytes, and its file is 0. TooLarge comes where each is one and the schema's text has more than 1,000,000 elements or
-/// the grammar more than 4,000,000 nodes after linking; these are counted before a pattern is made of any content.
+/// the grammar more than 4,000,000 nodes after linking; nothing larger than that text is made.
 /// NoMemory is answered for want of memory.
 pub fn compile(alloc: Global, library: &Library, start: &Words) -> Result<Grammar, CompileRefusal>
     requires { (key : AKey) (rule : ℕ) → Breaks library.now key rule → ⊥ }
@@ -85,45 +92,42 @@ pub fn compile(alloc: Global, library: &Library, start: &Words) -> Result<Gramma
             rule: START_RULE,
         }));
     }
-    let conditions = conditions_of(alloc, library)?;
-    let before = condition_defines(alloc, &conditions)?;
-    let members = listed_members(alloc, library)?;
-    if is_too_large(alloc, library, start, &before, &members)? {
+    let grammar = grammar_within(alloc, library, start)?;
+    if linked_nodes(alloc, &grammar)? > MOST_NODES {
         return Err(CompileRefusal::TooLarge);
     }
-    let start = references_pattern(alloc, start)?;
-    let defines = library_defines(alloc, before, library, &conditions, &members)?;
+    Ok(grammar)
+}
+
+// The grammar of a library and a list of start words, made under the budget of its text: `grammar` and `start` are two elements.
+fn grammar_within(alloc: Global, library: &Library, start: &Words) -> Result<Grammar, MakeRefusal>
+    requires { (key : AKey) (rule : ℕ) → Breaks library.now key rule → ⊥ }
+    ensures grammar { IfOk result (IsGrammarOf library.now start.now) }
+    ensures within { IfOk result (λ grammar. text_nodes grammar ≤ 1000000) }
+    ensures too_large { result ≡ Err refused.TooLarge → HoldsStart library.now start.now → HasLargeSchema library.now start.now }
+{
+    let mut budget = Budget {
+        left: MOST_ELEMENTS,
+    };
+    budget.take(2)?;
+    let conditions = conditions_of(alloc, library)?;
+    let before = condition_defines(alloc, &conditions, &mut budget)?;
+    let members = listed_members(alloc, library)?;
+    let start = references_pattern(alloc, start, &mut budget)?;
+    let defines = library_defines(alloc, before, library, &conditions, &members, &mut budget)?;
     Ok(Grammar { start, defines })
 }
 
 // The members of the classes of a library. Where they are more than a schema may have elements, the schema is too large.
-fn listed_members(alloc: Global, library: &Library) -> Result<MemberTable, CompileRefusal>
+fn listed_members(alloc: Global, library: &Library) -> Result<MemberTable, MakeRefusal>
     ensures members { IfOk result (λ table. AreMembers library.now (listed_in table)) }
-    ensures more { result ≡ Err CompileRefusal.TooLarge → (members : Members) → AreMembers library.now members → 1000000 < members_count members library.now }
-    ensures err { IfErr result IsOfMembers }
+    ensures more { result ≡ Err refused.TooLarge → (members : Members) → AreMembers library.now members → 1000000 < members_count members library.now }
 {
     match members_by_class(alloc, library, MOST_ELEMENTS as usize) {
         Ok(members) => Ok(members),
-        Err(TableRefusal::More) => Err(CompileRefusal::TooLarge),
-        Err(TableRefusal::NoMemory) => Err(CompileRefusal::NoMemory),
+        Err(TableRefusal::More) => Err(MakeRefusal::TooLarge),
+        Err(TableRefusal::NoMemory) => Err(MakeRefusal::NoMemory),
     }
-}
-
-// Whether the schema passes a limit.
-fn is_too_large(
-    alloc: Global,
-    library: &Library,
-    start: &Words,
-    before: &Defines,
-    members: &MemberTable,
-) -> Result<bool, NoMemory>
-    requires { (key : AKey) (rule : ℕ) → Breaks library.now key rule → ⊥ }
-    ensures { IfOk result (λ large. (conditions : List ACondition) → IsTrue (is_sorted key_cmp library.now.parts) → HoldsStart library.now start.now → AreMembers library.now (listed_in members.now) → IsSet condition_cmp (IsConditionOf library.now) conditions → IsSet define_cmp (IsConditionDefine conditions) before.now → IsTrue large ↔ IsTooLarge (grammar_with library.now start.now conditions (listed_in members.now) before.now)) }
-{
-    if text_nodes(alloc, library, start, before, members)? > MOST_ELEMENTS {
-        return Ok(true);
-    }
-    Ok(linked_nodes(alloc, library, start, before, members)? > MOST_NODES)
 }
 
 // The least of the start words that are no held element.

@@ -1,2 +1,4 @@
 pub mod BySpace
+pub mod NameElements
 pub mod NamedDefines
+pub mod PutDefines

@@ -1,7 +1,7 @@
 -- The defines of what a library holds, and those of conditions, which have distinct names and rise.
-use Rattle.std.proofs.Common.{◌≡◌, ℕ, List, Some, ◌<◌, ◌≤◌, ◌+◌, ◌^◌, suc, Bool, true, false, cond, [], ◌∷◌, ◌++◌, get_or, length, map, refl, sym, ap, subst, ◌∙◌, arith}
+use Rattle.std.proofs.Common.{◌≡◌, ℕ, List, Some, inl, inr, ◌<◌, ◌≤◌, ◌+◌, ◌^◌, suc, Bool, true, false, cond, [], ◌∷◌, ◌++◌, get_or, length, map, refl, sym, ap, subst, ◌∙◌, arith}
 use Rattle.std.proofs.lemmas.Bool.{false_from_ne_true}
-use Rattle.std.proofs.lemmas.Cmp.{eq_by_cmp_equiv, nat_list_cmp_total, on_total}
+use Rattle.std.proofs.lemmas.Cmp.{eq_by_cmp_equiv, nat_list_cmp_total, on_total, then_total}
 use Rattle.std.proofs.lemmas.Fmt.{decimal_injective}
 use Rattle.std.proofs.lemmas.List.{append_cancel_left}
 use Rattle.std.proofs.lemmas.List.Sorted.{Contains-permutation, IsPermutation-sym, ranks_by}
@@ -9,19 +9,19 @@ use Rattle.std.proofs.lemmas.List.Sums.{count_by-le-length, sum_by-append, sum_b
 use Rattle.std.proofs.lemmas.Map.Keys.{IsDistinct-IsPermutation}
 use Rattle.std.specs.Cmp.{IsStrictWeakOrder, IsTotalOrder, tied_itself}
 use Rattle.std.specs.Cmp.Lexicographic.{same_text, texts_ties}
-use Rattle.std.specs.FinMap.{find}
+use Rattle.std.specs.FinMap.{find, nat_cmp-IsAntisymmetric, slice_cmp-IsAntisymmetric}
 use Rattle.std.specs.List.{AllByRecursion, IsDistinct}
 use Rattle.std.specs.List.Sorted.{IsPermutation, IsSorted}
-use Rattle.std.specs.Ordering.{eq_by_cmp, is_eq, is_lt, ordering_reverse}
+use Rattle.std.specs.Ordering.{eq_by_cmp, is_eq, is_lt, ordering_reverse, ordering_then}
 use Rattle.std.specs.Prelude.{codes, sum_by}
 use Rattle.std.specs.declared.cmp.Ordering.{Ordering}
 use Rattle.std.specs.declared.cmp.Ordering.TheVariants.{Less, Equal, Greater}
-use Rattle.compile_contents.proofs.Standing.{HoldsElementAt, held_stands, is_less}
-use Rattle.odd_content.specs.ConditionOrder.{condition_cmp, condition_total}
+use Rattle.compile_contents.proofs.Standing.{HoldsElementAt, held_stands, is_less, stands_either, stands_left, stands_right}
+use Rattle.odd_content.specs.ConditionOrder.{condition_cmp, condition_exact, condition_total}
 use Rattle.compile_contents.specs.Contents.{condition_name, number_of}
 use Rattle.odd_content.specs.declared.content.Condition.{Condition}
-use Rattle.odd_forms.proofs.SetOf.{first_below, rest_rising}
-use Rattle.odd_forms.specs.Sorted.{AreRising, IsSet}
+use Rattle.odd_forms.proofs.SetOf.{first_below, none_rising, rest_rising, rising_more, set_of_is}
+use Rattle.odd_forms.specs.Sorted.{AreRising, IsSet, set_of}
 use Rattle.odd_graph.proofs.Chains.{first_step}
 use Rattle.odd_library.specs.Odd.{element_key}
 use Rattle.odd_library.specs.declared.library.Component.{Component}
@@ -30,9 +30,9 @@ use Rattle.odd_library.specs.declared.library.Library.{Library}
 use Rattle.odd_meaning.specs.Classes.{AreMembers, IsElementOf, IsListed, IsMember, Members}
 use Rattle.odd_meaning.specs.Links.{IsLinked, class_key, classes_of}
 use Rattle.odd_text.specs.Key.{key_cmp}
-use Rattle.odd_text.specs.KeyOrder.{key_total, key_exact}
+use Rattle.odd_text.specs.KeyOrder.{both_equal, key_total, key_exact}
 use Rattle.odd_text.specs.declared.key.Key.{Key}
-use Rattle.odd_tree.proofs.InList.{contained, map_stands, standing, stands_first, stands_later, stands_map}
+use Rattle.odd_tree.proofs.InList.{contained, first_or_later, map_stands, standing, stands_first, stands_later, stands_map}
 use Rattle.odd_tree.specs.Elements.{StandsIn}
 use Rattle.rng_patterns.specs.declared.grammar.Define.{Define}
 use Rattle.compile_defines.specs.Blocks.{IsConditionDefine}
@@ -102,6 +102,13 @@ lower_ranks = ranks_by nat_list_cmp_total (λ (d : Define). d.name)
 pub define_total : IsTotalOrder define_cmp
 define_total = on_total (λ (d : Define). d.name) nat_list_cmp_total
 
+-- what stands in a list and is not a certain item stands there without it
+left_standing : {A : Type 0} (before after : List A) (x y : A) → StandsIn (before ++ x ∷ after) y → (y ≡ x → ⊥) → StandsIn (before ++ after) y
+left_standing before after x y s other = elim (stands_either before (x ∷ after) y s) [
+  | inl here ↦ stands_left before after y here
+  | inr there ↦ elim (first_or_later x y after there) [ inl e ↦ absurd (other e) | inr later ↦ stands_right before after y later ]
+]
+
 module _ (conditions : List Condition) (rising : AreRising condition_cmp conditions) (small : length conditions + 1 < 2 ^ 64) where
   -- one for what is below a condition
   abbrev below : Condition → Condition → ℕ
@@ -147,6 +154,29 @@ module _ (conditions : List Condition) (rising : AreRising condition_cmp conditi
     defines_apart xs (λ c s. among c (stands_later x c xs s)) (rest_rising condition_cmp condition_total x xs up),
   )
 
+  -- where the defines of some conditions stand, there stand as many elements
+  within_held : (f : Define → ℕ) (xs : List Condition) (held : List Define) → ((c : Condition) → StandsIn xs c → StandsIn conditions c) → AreRising condition_cmp xs
+      → ((c : Condition) → StandsIn xs c → StandsIn held (define c)) → sum_by f (map define xs) ≤ sum_by f held
+  within_held f [] held among up each = omega arith
+  within_held f (x ∷ xs) held among up each =
+      let at = each x (stands_first x xs) in
+      let other = λ (c : Condition) (s : StandsIn xs c) (e : define c ≡ define x).
+      names_apart x c (among x (stands_first x xs)) (first_below condition_cmp condition_total x xs up c s) (ap (λ (d : Define). d.name) (sym e)) in
+      let rest = within_held f xs (at.0 ++ at.1) (λ c s. among c (stands_later x c xs s)) (rest_rising condition_cmp condition_total x xs up) (λ c s.
+      left_standing at.0 at.1 (define x) (define c) (subst (λ ds. StandsIn ds (define c)) at.2 (each c (stands_later x c xs s))) (other c s)) in
+      omega (
+        arith,
+        rest,
+        ap (sum_by f) at.2,
+        sum_by-cons f (define x) (map define xs),
+        sum_by-append f at.0 (define x ∷ at.1),
+        sum_by-cons f (define x) at.1,
+        sum_by-append f at.0 at.1,
+      )
+
+  pub within_set : (f : Define → ℕ) (set : List Define) → IsSet define_cmp (IsConditionDefine conditions) set → sum_by f (map define conditions) ≤ sum_by f set
+  within_set f set is = within_held f conditions set (λ c s. s) rising (λ c s. is.each (define c) (c, s, refl))
+
   -- the defines of the conditions, sorted by name, are the set of them
   pub defines_set : (made sorted : List Define) → made ≡ map define conditions → IsPermutation made sorted → IsSorted define_cmp sorted → IsSet define_cmp (IsConditionDefine conditions) sorted
   defines_set made sorted is moved up =
@@ -159,3 +189,44 @@ module _ (conditions : List Condition) (rising : AreRising condition_cmp conditi
         each = λ d h. standing sorted d (Contains-permutation made sorted d moved (contained made d
             (subst (λ ds. StandsIn ds d) (sym is) (subst (StandsIn (map define conditions)) (sym h.2) (map_stands define conditions h.0 h.1)))));
       }
+
+  -- conditions by the names of their defines
+  abbrev by_name : Condition → Condition → Ordering
+  by_name a b = ordering_then (define_cmp (define a) (define b)) (condition_cmp a b)
+
+  by_name_total : IsTotalOrder by_name
+  by_name_total = then_total (on_total define define_total) condition_total
+
+  by_name_exact : (a b : Condition) → by_name a b ≡ Equal → a ≡ b
+  by_name_exact a b e = condition_exact a b (both_equal (define_cmp (define a) (define b)) (condition_cmp a b) e).1
+
+  -- of a lesser one the name is less
+  name_less : (a b : Condition) → StandsIn conditions a → by_name a b ≡ Less → define_cmp (define a) (define b) ≡ Less
+  name_less a b s e =
+      elim (define_cmp (define a) (define b)) as (λ o. define_cmp (define a) (define b) ≡ o → ordering_then o (condition_cmp a b) ≡ Less → define_cmp (define a) (define b) ≡ Less) [
+        | Less ↦ λ is less. is
+        | Equal ↦ λ is less. absurd (names_apart a b s less (slice_cmp-IsAntisymmetric nat_cmp-IsAntisymmetric _ _ is))
+        | Greater ↦ λ is less. cc
+      ] refl e
+
+  made_rise : (xs : List Condition) → ((c : Condition) → StandsIn xs c → StandsIn conditions c) → AreRising by_name xs → AreRising define_cmp (map define xs)
+  made_rise [] among up = none_rising define_cmp
+  made_rise (x ∷ xs) among up =
+      rising_more define_cmp (define x) (map define xs)
+      (λ d s.
+      let at = stands_map define xs d s in
+      subst (λ e. define_cmp (define x) e ≡ Less) (sym at.2) (name_less x at.0 (among x (stands_first x xs)) (first_below by_name by_name_total x xs up at.0 at.1)))
+      (made_rise xs (λ c s. among c (stands_later x c xs s)) (rest_rising by_name by_name_total x xs up))
+
+  -- so there is a set of their defines
+  pub defines_exist : (defines : List Define) × IsSet define_cmp (IsConditionDefine conditions) defines
+  defines_exist =
+      let set = set_of_is by_name by_name_total by_name_exact conditions in
+      let xs = set_of by_name conditions in (
+        map define xs,
+        record {
+          rising = made_rise xs set.none_else set.rising;
+          none_else = λ d s. let at = stands_map define xs d s in (at.0, set.none_else at.0 at.1, at.2);
+          each = λ d h. subst (StandsIn (map define xs)) (sym h.2) (map_stands define xs h.0 (set.each h.0 h.1));
+        },
+      )

@@ -57,11 +57,11 @@ space_part c space = record { ns = space; but = filter (λ n. is_same n.ns space
 abbrev pub spaces_left : Condition → List (List ℕ)
 spaces_left c = filter (λ space. not (list_any (is_same space) c.spaces)) c.require
 
-abbrev body_within : List ℕ → List NsPart → Body
+abbrev pub body_within : List ℕ → List NsPart → Body
 body_within name [] = body.Part expr.NotAllowed
 body_within name (part ∷ parts) = body.Element (class.Within (part ∷ parts)) attributes.AnyAttributes (content_throughout name)
 
-abbrev body_requiring : List ℕ → Condition → List (List ℕ) → Body
+abbrev pub body_requiring : List ℕ → Condition → List (List ℕ) → Body
 body_requiring name c [] = body.Element (class.AnyBut c.spaces c.names) attributes.AnyAttributes (content_throughout name)
 body_requiring name c (space ∷ spaces) = body_within name (map (space_part c) (spaces_left c))
 

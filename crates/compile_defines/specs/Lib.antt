@@ -1,4 +1,5 @@
 pub mod Blocks
 pub mod Compiled
+pub mod Elements
 pub mod Formed
 pub mod OrderedBounds

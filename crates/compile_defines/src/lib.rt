@@ -1,6 +1,8 @@
 //! The defines of a library's schema: one for each condition in its contents, and one for each component.
 #![tactic(auto)]
 
+mod conditions;
 mod defines;
 
-pub use defines::{condition_defines, library_defines};
+pub use conditions::condition_defines;
+pub use defines::library_defines;

@@ -1,5 +1,5 @@
 -- The library that files give is formed, and what the trees of a chain come to.
-use Rattle.std.proofs.Common.{◌≡◌, ℕ, List, [], ◌∷◌, Option, Some, None, refl, ap, subst, sym, ◌∙◌, length, Result, Ok, Err, inl, inr}
+use Rattle.std.proofs.Common.{◌≡◌, ℕ, List, [], ◌∷◌, Option, Some, None, refl, ap, subst, sym, ◌∙◌, length, Result, Ok, Err, inl, inr, false}
 use Rattle.std.proofs.lemmas.List.Elements.{All-nil, All-cons}
 use Rattle.std.specs.Option.{IfSome}
 use Rattle.std.specs.Prelude.{All, IfErr, IfOk, OnOk}
@@ -11,10 +11,13 @@ use Rattle.odd_chain.specs.Reading.{IsChainOf}
 use Rattle.odd_chain.specs.declared.chain.Chain.{Chain}
 use Rattle.odd_content.specs.Giving.{IsContentOf}
 use Rattle.odd_content.specs.declared.content.Content.{Content}
+use Rattle.odd_decls.proofs.ItemElements.{each_item}
 use Rattle.odd_decls.proofs.Searched.{IsFormedSomewhere, found_formed}
 use Rattle.odd_decls.specs.Declares.{Declares, IsEntryOf, IsReadAs}
 use Rattle.odd_decls.specs.Offences.{IsItem, ItemFault, ItemOffends, Offends, kind_declared}
 use Rattle.odd_forms.specs.Children.{GivesOne}
+use Rattle.odd_forms.specs.Deep.{DeepFault, is_level, left_inside}
+use Rattle.odd_forms.specs.Table.{form_at}
 use Rattle.odd_forms.specs.declared.element.Element.{Element}
 use Rattle.odd_forms.specs.declared.element.Element.TheVariants as element
 use Rattle.odd_library.specs.declared.library.Library.{Library}
@@ -48,6 +51,10 @@ declares_none element.ClassSpec h = cc
 declares_none element.MacroSpec h = cc
 declares_none e h = cc
 
+-- an item is no level
+never_level : (item : Tree) (e : Element) → IsItem e item → is_level (form_at e) item ≡ false
+never_level item e is = each_item (λ k. is_level (form_at k) item ≡ false) refl refl refl refl refl refl refl refl item e is
+
 -- what an item of a file declares
 module _ (t : Tree) (doc : OddDoc) (formed : IsFormedSomewhere t) (d : Declares t doc) where
   -- the `schemaSpec`
@@ -73,7 +80,8 @@ module _ (t : Tree) (doc : OddDoc) (formed : IsFormedSomewhere t) (d : Declares 
       let f = child_formed item_formed.2 child among in
       record {
         conditions = conditions_formed (within around item) child f.0 f.1 c (within_legal around schema_legal item_formed.2) f.2 of;
-        ordered = bounds_ordered (within around item) child c of (λ rule k. item_unbroken item s rule (ItemFault.content e is (child, among, (content, k))));
+        ordered = bounds_ordered (within around item) child c of (λ rule k. item_unbroken item s rule (ItemFault.deep e is (DeepFault.inside element.Content child among content
+            (subst (λ b. DeepFault element.Content (left_inside b 60) (within around item) child rule) (sym (never_level item e is)) k))));
       }
 
   -- an item that is read as a spec

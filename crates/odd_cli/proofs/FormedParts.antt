@@ -1,24 +1,31 @@
 -- What the declarations, attributes, specs and conditions of a formed tree give is formed.
-use Rattle.std.proofs.Common.{◌≡◌, ℕ, true, false, List, [], ◌∷◌, Option, Some, None, cond, refl, subst, Bool, if◌then◌else◌, codes, ⊎_elim, sym}
+use Rattle.std.proofs.Common.{◌≡◌, ℕ, true, false, List, [], ◌∷◌, Option, Some, None, cond, refl, subst, Bool, if◌then◌else◌, codes, ⊎_elim, sym, ◌&&◌}
 use Rattle.std.proofs.lemmas.List.{append-nil}
 use Rattle.std.proofs.lemmas.List.Elements.{All-append, All-contains, All-head, All-tail, All-nil, All-cons}
 use Rattle.std.proofs.lemmas.Option.{same_Some}
 use Rattle.std.specs.Option.{IfSome}
 use Rattle.std.specs.Prelude.{All, unwrap_or, flat_map}
 use Rattle.compile_contents.proofs.Collected.{alternate_conditions, sequence_conditions}
-use Rattle.compile_contents.proofs.Standing.{stands_either, each_stands, filter_stands}
+use Rattle.compile_contents.proofs.Standing.{stands_either, each_stands}
 use Rattle.compile_contents.specs.Conditions.{conditions_in}
 use Rattle.compile_defines.specs.Formed.{IsFormedCondition, IsFormedContent, IsFormedPart}
-use Rattle.odd_content.specs.Excepting.{IsConditionOf, IsExceptedName}
-use Rattle.odd_content.specs.Giving.{AreParts, IsContentOf, IsPart, bounds_given, joined_parts, parts_of}
-use Rattle.odd_content.specs.declared.content.Condition.{Condition}
+use Rattle.odd_content.proofs.Conditions.{condition_sets}
+use Rattle.odd_content.proofs.EachPart.{AreParts, IsPart, parts_given}
+use Rattle.odd_content.specs.Condition.{condition_of}
+use Rattle.odd_content.specs.Giving.{IsContentOf, bounds_in, joined_parts, parts_in}
 use Rattle.odd_content.specs.declared.content.Content.{Content}
 use Rattle.odd_content.specs.declared.content.Content.TheVariants as content
 use Rattle.odd_decls.proofs.Searched.{IsFormedSomewhere, children_formed}
 use Rattle.odd_decls.specs.Declares.{mode_given, namespace_given, namespace_in, namespace_declared}
 use Rattle.odd_decls.specs.Search as search
 use Rattle.odd_decls.specs.Search.{Finds, FindsAmong, Found}
+use Rattle.odd_forms.proofs.Colon.{name_parts}
 use Rattle.odd_forms.proofs.Spaced.{words_legal}
+use Rattle.odd_forms.specs.Excepting.{excepted_of, is_colon, is_name, named_in}
+use Rattle.odd_forms.specs.declared.element.Element.TheVariants as parts
+use Rattle.odd_forms.specs.declared.excepted.Excepted.TheVariants as excepted
+use Rattle.odd_tree.specs.Names.{in_force}
+use Rattle.std.specs.List.{after_first, before_first}
 use Rattle.odd_forms.specs.Names.{is_one_of, tei_namespace}
 use Rattle.odd_forms.specs.Words.{words_given, words_of}
 use Rattle.odd_library.specs.Library.{component_as, component_of}
@@ -181,40 +188,51 @@ abbrev HoldsFormed : Content → Type 0
 HoldsFormed c = All IsFormedCondition (conditions_in c)
 
 -- a name that `except` gives is plain
-name_formed : (binds : List Bind) (t : Tree) (name : Name) → BindLegally binds → IsExceptedName binds t name → IsPlainName name
-name_formed binds t name h e = record { named = e.2.prefixed.local_named; legal = in_force_legal binds e.2.prefix name.ns h e.2.bound }
+name_formed : (binds : List Bind) (word : List ℕ) (name : Name) → BindLegally binds → excepted_of binds word ≡ excepted.Name name → IsPlainName name
+name_formed binds word name h read = let parts = name_parts binds word name read in record { named = parts.1; legal = in_force_legal binds (before_first is_colon word) name.ns h parts.0 }
+
+-- and a namespace is the word
+space_itself : (binds : List Bind) (word space : List ℕ) → excepted_of binds word ≡ excepted.Space space → word ≡ space
+space_itself binds word space read =
+    elim (is_name (before_first is_colon word) && is_name (after_first is_colon word))
+    as (λ b. (if b then named_in (in_force binds (before_first is_colon word)) (after_first is_colon word) else excepted.Space word) ≡ excepted.Space space → word ≡ space) [
+      | true ↦ λ e. never (in_force binds (before_first is_colon word)) e
+      | false ↦ λ e. cc
+    ] read
+  where
+    never : (o : Option (List ℕ)) → named_in o (after_first is_colon word) ≡ excepted.Space space → word ≡ space
+    never None e = cc
+    never (Some ns) e = cc
 
 -- the condition of a formed `anyElement` is formed
-condition_formed : {first end : ℕ} {t : Tree} (binds : List Bind) (c : Condition) → BindLegally binds → IsFormedTree first end t → IsConditionOf binds t c
-    → IsFormedCondition c
-condition_formed {t = t} binds c h f is = record {
-  required = each_stands IsLegal c.require (λ word s. word_legal t _ word (tag_formed f) (is.require.none_else word s));
-  spaces = each_stands IsLegal c.spaces (λ word s. word_legal t _ word (tag_formed f) (is.spaces.none_else word s).0);
-  names = each_stands IsPlainName c.names (λ name s. name_formed binds t name h (is.names.none_else name s));
-}
-
--- the parts of a formed element are formed
-parts_formed : {first end : ℕ} {t : Tree} → IsFormedTree first end t → (u : Tree) → StandsIn (parts_of t) u → IsFormedSomewhere u
-parts_formed {t = t} f u s = child_formed f u (filter_stands _ (children_of t) u s)
+condition_formed : {first end : ℕ} {t : Tree} (binds : List Bind) → BindLegally binds → IsFormedTree first end t
+    → IsFormedCondition (condition_of binds (words_given t (codes "require")) (words_given t (codes "except")))
+condition_formed {t = t} binds h f =
+    let required = words_given t (codes "require") in
+    let except = words_given t (codes "except") in
+    let c = condition_of binds required except in
+    let is = condition_sets binds required except in
+    record {
+      required = each_stands IsLegal c.require (λ word s. word_legal t _ word (tag_formed f) (is.require.none_else word s));
+      spaces = each_stands IsLegal c.spaces (λ space s. (let from = is.spaces.none_else space s in subst IsLegal (space_itself binds from.0 space from.2) (word_legal t _ from.0 (tag_formed f) from.1)));
+      names = each_stands IsPlainName c.names (λ name s. (let from = is.names.none_else name s in name_formed binds from.0 name h from.2));
+    }
 
 -- the conditions in a part are formed, and so are those in several parts
 mutual
   part_formed : {around : List Bind} {first end : ℕ} {t : Tree} {c : Content} → BindLegally around → IsFormedTree first end t → IsPart around t c → HoldsFormed c
-  part_formed h f (IsPart.empty e) = All-nil IsFormedCondition
-  part_formed h f (IsPart.text e) = All-nil IsFormedCondition
-  part_formed h f (IsPart.element e) = All-nil IsFormedCondition
-  part_formed h f (IsPart.«class» e) = All-nil IsFormedCondition
-  part_formed h f (IsPart.«macro» e) = All-nil IsFormedCondition
-  part_formed {around = around} h f (IsPart.any {condition = condition} e is) =
-      All-cons IsFormedCondition condition [] (condition_formed _ condition (within_legal around h f) f is) (All-nil IsFormedCondition)
-  part_formed {around = around} {t = t} h f (IsPart.sequence {parts = parts} e are) =
-      subst (All IsFormedCondition) (sym (sequence_conditions parts (bounds_given t))) (each_formed (within_legal around h f) (parts_formed f) are)
-  part_formed {around = around} {t = t} h f (IsPart.alternate {parts = parts} e are) =
-      subst (All IsFormedCondition) (sym (alternate_conditions parts (bounds_given t))) (each_formed (within_legal around h f) (parts_formed f) are)
+  part_formed {around = around} {t = t} h f (IsPart.part parts.AnyElement e are) =
+      All-cons IsFormedCondition (condition_of (within around t) (words_given t (codes "require")) (words_given t (codes "except"))) [] (condition_formed (within around t) (within_legal around h f) f) (All-nil IsFormedCondition)
+  part_formed {around = around} {t = t} h f (IsPart.part {parts = inner} parts.Sequence e are) =
+      subst (All IsFormedCondition) (sym (sequence_conditions inner (bounds_in (out-Tree t).attrs))) (each_formed (within_legal around h f) (child_formed f) are)
+  part_formed {around = around} {t = t} h f (IsPart.part {parts = inner} parts.Alternate e are) =
+      subst (All IsFormedCondition) (sym (alternate_conditions inner (bounds_in (out-Tree t).attrs))) (each_formed (within_legal around h f) (child_formed f) are)
+  part_formed h f (IsPart.part other e are) = All-nil IsFormedCondition
 
   each_formed : {around : List Bind} {ts : List Tree} {cs : List Content} → BindLegally around → ((u : Tree) → StandsIn ts u → IsFormedSomewhere u) → AreParts around ts cs
       → All IsFormedCondition (flat_map conditions_in cs)
   each_formed h f AreParts.nothing = All-nil IsFormedCondition
+  each_formed h f (AreParts.other {t = t} {ts = ts} none later) = each_formed h (λ u s. f u (stands_later t u ts s)) later
   each_formed h f (AreParts.more {t = t} {ts = ts} {c = c} {cs = cs} one later) =
       All-append IsFormedCondition (conditions_in c) (flat_map conditions_in cs) (part_formed h (f t (stands_first t ts)).2 one)
       (each_formed h (λ u s. f u (stands_later t u ts s)) later)
@@ -229,4 +247,4 @@ joined_formed (part ∷ next ∷ parts) h = subst (All IsFormedCondition) (sym (
 pub conditions_formed : (around : List Bind) (t : Tree) (first end : ℕ) (c : Content) → All (λ (b : Bind). IsLegal b.ns) around → IsFormedTree first end t → IsContentOf around t c
     → All IsFormedCondition (conditions_in c)
 conditions_formed around t first end c h f is =
-    subst HoldsFormed (sym is.joined) (joined_formed is.parts (each_formed (within_legal around h f) (parts_formed f) is.given))
+    subst HoldsFormed (sym is) (joined_formed (parts_in (within around t) (out-Tree t).children) (each_formed (within_legal around h f) (child_formed f) (parts_given around t)))

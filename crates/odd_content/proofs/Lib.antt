@@ -1,3 +1,3 @@
-pub mod Faults
+pub mod Conditions
+pub mod EachPart
 pub mod Parts
-pub mod Sorting

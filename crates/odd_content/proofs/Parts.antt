@@ -1,69 +1,58 @@
--- The parts of an element, read one after the other.
-use Rattle.std.proofs.Common.{◌≡◌, ℕ, ◌+◌, ◌<◌, true, cond, filter, List, [], ◌∷◌, ◌++◌, Option, None, sym, ap, subst, ◌∙◌, append_assoc, drop, get_or, length}
-use Rattle.std.specs.Prelude.{is_some}
+-- The parts among nodes, read one after the other.
+use Rattle.std.proofs.Common.{◌≡◌, ℕ, ◌+◌, ◌<◌, List, [], ◌∷◌, ◌++◌, Some, None, rules, sym, ap, ◌∙◌, append_assoc, drop, get_or, length}
 use Rattle.std.proofs.lemmas.List.{append-nil}
 use Rattle.odd_text.specs.declared.name.Bind.{Bind}
-use Rattle.odd_tree.specs.Elements.{children_of, elements_of}
-use Rattle.odd_tree.specs.declared.tree.Node.{Node, Element}
-use Rattle.odd_tree.specs.declared.tree.Tree.{Tree}
-use Rattle.odd_tree.proofs.InList.{element_shown, begins, nothing_stands}
-use Rattle.odd_forms.specs.Least.{IsLeast}
-use Rattle.odd_forms.proofs.Least.{least_more, lesser_rule}
-use Rattle.odd_content.specs.Breaking.{PartFault, PartsFault}
-use Rattle.odd_content.specs.Giving.{AreParts, IsPart, part_of, parts_of}
+use Rattle.odd_tree.specs.Elements.{within}
+use Rattle.odd_tree.specs.declared.tree.Node.{Node, Element, Text, fold-Node}
+use Rattle.odd_tree.specs.declared.tree.Node as N
+use Rattle.odd_tree.specs.declared.tree.Tree.{Tree, fold-Tree, out-Tree}
+use Rattle.odd_tree.specs.declared.tree.Tree as T
+use Rattle.odd_tree.proofs.InList.{begins}
+use Rattle.odd_forms.specs.declared.element.Element.{Element as Kind}
+use Rattle.odd_content.specs.Giving.{Given, given_by, node_gives, part_content, part_named, parts_in, tree_gives}
 use Rattle.odd_content.specs.declared.content.Content.{Content}
 
--- the parts among some elements
-abbrev pub parts_among : List Tree → List Tree
-parts_among = filter (λ child. is_some (part_of child))
+-- what a node gives
+abbrev gives : Node → Given
+gives = fold-Node Given Given node_gives tree_gives
 
-parts_more : (around : List Bind) (ts : List Tree) (cs : List Content) (t : Tree) (c : Content) → AreParts around ts cs → IsPart around t c → AreParts around (ts ++ t ∷ []) (cs ++ c ∷ [])
-parts_more around [] [] t c AreParts.nothing is = AreParts.more is AreParts.nothing
-parts_more around (u ∷ ts) (d ∷ cs) t c (AreParts.more first rest) is = AreParts.more first (parts_more around ts cs t c rest is)
-parts_more around [] (d ∷ cs) t c given is = elim given [ ]
-parts_more around (u ∷ ts) [] t c given is = elim given [ ]
+-- an element gives what its kind does with the parts in it
+pub element_gives : (around : List Bind) (t : Tree) → gives (Element t) around ≡ given_by (part_named (out-Tree t).name) (within around t) (out-Tree t).attrs (parts_in (within around t) (out-Tree t).children)
+element_gives around t = ap (λ g. g around) (shown ∙ opened)
+  where
+    shown : gives (Element t) ≡ fold-Tree Given Given node_gives tree_gives t
+    shown = search (rules, N.the_lemmas, T.the_lemmas)
 
--- what the parts that were passed give and break, where some children are still to come
-pub record PartsSoFar (left : ℕ) (around : List Bind) (t : Tree) (rest : List Tree) (parts : List Content) (least : Option ℕ) : Type 0 where
-  pub passed : List Tree
-  pub parted : parts_of t ≡ passed ++ parts_among rest
-  pub given : AreParts around passed parts
-  pub found : IsLeast (PartsFault left around passed) least
+    opened : fold-Tree Given Given node_gives tree_gives t
+        ≡ (λ binds. given_by (part_named (out-Tree t).name) (within binds t) (out-Tree t).attrs (parts_in (within binds t) (out-Tree t).children))
+    opened = search (rules, N.the_lemmas, T.the_lemmas)
 
--- at first none was passed
-pub none_read : (left : ℕ) (around : List Bind) (t : Tree) (rest : List Tree) (parts : List Content) → rest ≡ children_of t → parts ≡ [] → PartsSoFar left around t rest parts None
-none_read left around t rest parts all none = record {
-  passed = [];
-  parted = ap parts_among (sym all);
-  given = subst (AreParts around []) (sym none) AreParts.nothing;
-  found = λ rule f. nothing_stands f.0 f.1;
-}
+-- a text gives nothing
+pub text_gives : (around : List Bind) (text : List ℕ) → gives (Text text) around ≡ []
+text_gives around text = search (rules, N.the_lemmas, T.the_lemmas)
 
--- a child that is a part
-first_part : (child : Tree) (later : List Tree) → is_some (part_of child) ≡ true → parts_among (child ∷ later) ≡ child ∷ parts_among later
-first_part child later h = ap (λ b. cond b (child ∷ parts_among later) (parts_among later)) h
+module _ (around : List Bind) (ns : List Node) (i : ℕ) (n : Node) (parts all : List Content) (h : i < length ns) (at : n ≡ get_or ns i n)
+    (before : parts ++ parts_in around (drop i ns) ≡ all) where
+  -- a node is passed
+  node_passed : (more gained : List Content) → gives n around ≡ gained → more ≡ parts ++ gained → more ++ parts_in around (drop (i + 1) ns) ≡ all
+  node_passed more gained is e =
+      ap (λ ps. ps ++ parts_in around (drop (i + 1) ns)) e ∙ append_assoc parts gained (parts_in around (drop (i + 1) ns))
+      ∙ ap (λ g. parts ++ (g ++ parts_in around (drop (i + 1) ns))) (sym is) ∙ ap (λ xs. parts ++ parts_in around xs) (sym (begins ns i n h at)) ∙ before
 
-pub part_read : (left : ℕ) (around : List Bind) (t : Tree) (rest later : List Tree) (child : Tree) (parts more : List Content) (part : Content) (a b new : Option ℕ)
-    → PartsSoFar left around t rest parts a → rest ≡ child ∷ later → is_some (part_of child) ≡ true → IsPart around child part → IsLeast (PartFault left around child) b
-    → more ≡ parts ++ part ∷ [] → new ≡ lesser_rule a b → PartsSoFar left around t later more new
-part_read left around t rest later child parts more part a b new before is passes gives breaks e f = record {
-  passed = before.passed ++ child ∷ [];
-  parted = before.parted ∙ ap (λ xs. before.passed ++ xs) (ap parts_among is ∙ first_part child later passes) ∙ sym (append_assoc before.passed (child ∷ []) (parts_among later));
-  given = subst (AreParts around (before.passed ++ child ∷ [])) (sym e) (parts_more around before.passed parts child part before.given gives);
-  found = subst (IsLeast (PartsFault left around (before.passed ++ child ∷ []))) (sym f) (least_more (PartFault left around) before.passed child a b before.found breaks);
-}
+  -- a part is
+  pub part_passed : (t : Tree) (kind : Kind) (part : Content) (more : List Content) → n ≡ Element t → part_named (out-Tree t).name ≡ Some kind
+      → part ≡ part_content kind (within around t) (out-Tree t).attrs (parts_in (within around t) (out-Tree t).children) → more ≡ parts ++ part ∷ []
+      → more ++ parts_in around (drop (i + 1) ns) ≡ all
+  part_passed t kind part more is named e pushed =
+      node_passed more _ (ap (λ m. gives m around) is ∙ element_gives around t ∙ ap (λ k. given_by k (within around t) (out-Tree t).attrs (parts_in (within around t) (out-Tree t).children)) named)
+      (pushed ∙ ap (λ c. parts ++ c ∷ []) e)
 
--- the elements from a place on, where an element stands there
-pub element_first : (ns : List Node) (i : ℕ) (n : Node) (t : Tree) → i < length ns → n ≡ get_or ns i n → n ≡ Element t → elements_of (drop i ns) ≡ t ∷ elements_of (drop (i + 1) ns)
-element_first ns i n t h at is = ap elements_of (begins ns i n h at) ∙ ap (λ xs. xs ++ elements_of (drop (i + 1) ns)) (element_shown n t is)
+  -- an element that is no part is
+  pub other_passed : (t : Tree) → n ≡ Element t → part_named (out-Tree t).name ≡ None → parts ++ parts_in around (drop (i + 1) ns) ≡ all
+  other_passed t is named =
+      node_passed parts [] (ap (λ m. gives m around) is ∙ element_gives around t ∙ ap (λ k. given_by k (within around t) (out-Tree t).attrs (parts_in (within around t) (out-Tree t).children)) named)
+      (sym (append-nil parts))
 
--- at the end all were
-all_passed : (left : ℕ) (around : List Bind) (t : Tree) (rest : List Tree) (parts : List Content) (a : Option ℕ) (so_far : PartsSoFar left around t rest parts a) → rest ≡ [] → so_far.passed ≡ parts_of t
-all_passed left around t rest parts a so_far is = sym (so_far.parted ∙ ap (λ xs. so_far.passed ++ parts_among xs) is ∙ append-nil so_far.passed)
-
-pub all_given : (left : ℕ) (around : List Bind) (t : Tree) (rest : List Tree) (parts : List Content) (a : Option ℕ) → PartsSoFar left around t rest parts a → rest ≡ [] → AreParts around (parts_of t) parts
-all_given left around t rest parts a so_far is = subst (λ ts. AreParts around ts parts) (all_passed left around t rest parts a so_far is) so_far.given
-
-pub all_found : (left : ℕ) (around : List Bind) (t : Tree) (rest : List Tree) (parts : List Content) (a : Option ℕ) → PartsSoFar left around t rest parts a → rest ≡ []
-    → IsLeast (PartsFault left around (parts_of t)) a
-all_found left around t rest parts a so_far is = subst (λ ts. IsLeast (PartsFault left around ts) a) (all_passed left around t rest parts a so_far is) so_far.found
+  -- a text is
+  pub text_passed : (text : List ℕ) → n ≡ Text text → parts ++ parts_in around (drop (i + 1) ns) ≡ all
+  text_passed text is = node_passed parts [] (ap (λ m. gives m around) is ∙ text_gives around text) (sym (append-nil parts))

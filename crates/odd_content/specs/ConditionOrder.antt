@@ -17,7 +17,7 @@ use Rattle.odd_content.specs.declared.content.Condition.{Condition}
 abbrev pub condition_cmp : Condition → Condition → Ordering
 condition_cmp a b = ordering_then (slice_cmp text_cmp a.require b.require) (ordering_then (slice_cmp text_cmp a.spaces b.spaces) (slice_cmp name_cmp a.names b.names))
 
-name_total : IsTotalOrder name_cmp
+pub name_total : IsTotalOrder name_cmp
 name_total = then_total (on_total (λ (n : Name). n.ns) nat_list_cmp_total) (on_total (λ (n : Name). n.local) nat_list_cmp_total)
 
 pub condition_total : IsTotalOrder condition_cmp

@@ -1,34 +1,33 @@
--- The content model that a `content` says (TEI Guidelines, the chapter Documentation Elements).
-use Rattle.std.specs.Prelude.{◌≡◌, ℕ, List, [], ◌∷◌, filter, Option, Some, None, if◌then◌else◌, is_some, codes, unwrap_or}
+-- The content model that a `content` says (TEI Guidelines, the chapter Documentation Elements), by recursion on its tree.
+use Rattle.std.specs.Prelude.{◌≡◌, ℕ, List, [], ◌∷◌, ◌++◌, ◌&&◌, map, find, Option, Some, None, if◌then◌else◌, codes, unwrap_or}
 use Rattle.odd_text.specs.declared.name.Bind.{Bind}
+use Rattle.odd_text.specs.declared.name.Name.{Name}
 use Rattle.odd_tokens.specs.Same.{is_same}
-use Rattle.odd_tree.specs.Elements.{children_of, given, within}
-use Rattle.odd_tree.specs.declared.tree.Tree.{Tree}
+use Rattle.odd_tree.specs.Elements.{attribute_value, within}
+use Rattle.odd_tree.specs.declared.tree.Attr.{Attr}
+use Rattle.odd_tree.specs.declared.tree.Node.{Node, Node-F, fold-Node}
+use Rattle.odd_tree.specs.declared.tree.Node.TheOpen.{Element, Text}
+use Rattle.odd_tree.specs.declared.tree.Tree.{Tree, Tree-F, out-Tree}
 use Rattle.rng_values.specs.declared.bounds.Bounds.{Bounds}
-use Rattle.odd_forms.specs.Faults.{child_in}
 use Rattle.odd_forms.specs.Form.{number_told}
+use Rattle.odd_forms.specs.Names.{tei_namespace}
 use Rattle.odd_forms.specs.Table.{form_at}
-use Rattle.odd_forms.specs.Words.{words_given}
-use Rattle.odd_forms.specs.declared.element.Element.{Element}
+use Rattle.odd_forms.specs.Words.{is_among, words_of}
+use Rattle.odd_forms.specs.declared.element.Element.{Element as Kind}
 use Rattle.odd_forms.specs.declared.element.Element.TheVariants as kind
-use Rattle.odd_content.specs.Excepting.{IsConditionOf}
+use Rattle.odd_content.specs.Condition.{condition_of}
 use Rattle.odd_content.specs.declared.content.Content.{Content}
 use Rattle.odd_content.specs.declared.content.Content.TheVariants as content
-use Rattle.odd_content.specs.declared.content.Condition.{Condition}
 use Rattle.odd_content.specs.declared.content.Pick.{Pick}
 use Rattle.odd_content.specs.declared.content.Pick.TheVariants as pick
 
--- which part of a content a child is, if it is one
-abbrev pub part_of : Tree → Option Element
-part_of t = child_in (form_at kind.Content) t
-
--- the parts among the children of an element
-abbrev pub parts_of : Tree → List Tree
-parts_of t = filter (λ child. is_some (part_of child)) (children_of t)
+-- which part of a content an element of the name is, if it is one
+abbrev pub part_named : Name → Option Kind
+part_named name = find (λ e. is_same name.ns tei_namespace && is_among ((form_at e).name ∷ []) name.local) ((form_at kind.Content).many ++ (form_at kind.Content).once)
 
 -- the ident that a reference gives
-abbrev pub key_given : Tree → List ℕ
-key_given t = unwrap_or (given t (codes "key")) []
+abbrev pub key_in : List Attr → List ℕ
+key_in attrs = unwrap_or (attribute_value attrs (codes "key")) []
 
 -- no maximum where it is `unbounded`
 abbrev pub maximum_told : Option (List ℕ) → Option ℕ
@@ -36,8 +35,11 @@ maximum_told None = Some 1
 maximum_told (Some value) = if is_same value (codes "unbounded") then None else Some (unwrap_or (number_told (Some value)) 1)
 
 -- how often a part stands: once, where nothing is given
-abbrev pub bounds_given : Tree → Bounds
-bounds_given t = record { min = unwrap_or (number_told (given t (codes "minOccurs"))) 1; max = maximum_told (given t (codes "maxOccurs")) }
+abbrev pub bounds_in : List Attr → Bounds
+bounds_in attrs = record {
+  min = unwrap_or (number_told (attribute_value attrs (codes "minOccurs"))) 1;
+  max = maximum_told (attribute_value attrs (codes "maxOccurs"));
+}
 
 -- Which elements a reference names, by the words of `include` and those of `except`: one without a word is as if it were absent.
 abbrev pub pick_of : List (List ℕ) → List (List ℕ) → Pick
@@ -45,27 +47,49 @@ pick_of [] [] = pick.All
 pick_of [] (word ∷ words) = pick.Except (word ∷ words)
 pick_of (word ∷ words) excepted = pick.Include (word ∷ words)
 
+abbrev pub words_in : List Attr → List ℕ → List (List ℕ)
+words_in attrs local = words_of (unwrap_or (attribute_value attrs local) [])
+
+abbrev pub pick_in : List Attr → Pick
+pick_in attrs = pick_of (words_in attrs (codes "include")) (words_in attrs (codes "except"))
+
 abbrev pub pick_given : Tree → Pick
-pick_given t = pick_of (words_given t (codes "include")) (words_given t (codes "except"))
+pick_given t = pick_in (out-Tree t).attrs
 
-mutual
-  -- the content that a part gives, under the declarations around it
-  pub data IsPart : List Bind → Tree → Content → Type 0 where
-    empty : {around : List Bind} {t : Tree} → part_of t ≡ Some kind.Empty → IsPart around t content.Empty
-    text : {around : List Bind} {t : Tree} → part_of t ≡ Some kind.TextNode → IsPart around t content.Text
-    element : {around : List Bind} {t : Tree} → part_of t ≡ Some kind.ElementRef → IsPart around t (content.Element (key_given t) (bounds_given t))
-    «class» : {around : List Bind} {t : Tree} → part_of t ≡ Some kind.ClassRef → IsPart around t (content.Class (key_given t) (pick_given t) (bounds_given t))
-    «macro» : {around : List Bind} {t : Tree} → part_of t ≡ Some kind.MacroRef → IsPart around t (content.Macro (key_given t) (bounds_given t))
-    any : {around : List Bind} {t : Tree} {condition : Condition} → part_of t ≡ Some kind.AnyElement → IsConditionOf (within around t) t condition
-        → IsPart around t (content.Any condition (bounds_given t))
-    sequence : {around : List Bind} {t : Tree} {parts : List Content} → part_of t ≡ Some kind.Sequence → AreParts (within around t) (parts_of t) parts
-        → IsPart around t (content.Sequence parts (bounds_given t))
-    alternate : {around : List Bind} {t : Tree} {parts : List Content} → part_of t ≡ Some kind.Alternate → AreParts (within around t) (parts_of t) parts
-        → IsPart around t (content.Alternate parts (bounds_given t))
+-- the content of a part with these attributes and parts, under the declarations in force in it
+abbrev pub part_content : Kind → List Bind → List Attr → List Content → Content
+part_content kind.TextNode binds attrs parts = content.Text
+part_content kind.ElementRef binds attrs parts = content.Element (key_in attrs) (bounds_in attrs)
+part_content kind.ClassRef binds attrs parts = content.Class (key_in attrs) (pick_in attrs) (bounds_in attrs)
+part_content kind.MacroRef binds attrs parts = content.Macro (key_in attrs) (bounds_in attrs)
+part_content kind.AnyElement binds attrs parts = content.Any (condition_of binds (words_in attrs (codes "require")) (words_in attrs (codes "except"))) (bounds_in attrs)
+part_content kind.Sequence binds attrs parts = content.Sequence parts (bounds_in attrs)
+part_content kind.Alternate binds attrs parts = content.Alternate parts (bounds_in attrs)
+part_content other binds attrs parts = content.Empty
 
-  pub data AreParts : List Bind → List Tree → List Content → Type 0 where
-    nothing : {around : List Bind} → AreParts around [] []
-    more : {around : List Bind} {t : Tree} {ts : List Tree} {c : Content} {cs : List Content} → IsPart around t c → AreParts around ts cs → AreParts around (t ∷ ts) (c ∷ cs)
+-- what is no part gives nothing
+abbrev pub given_by : Option Kind → List Bind → List Attr → List Content → List Content
+given_by None binds attrs parts = []
+given_by (Some e) binds attrs parts = part_content e binds attrs parts ∷ []
+
+-- what a child of a content gives under the declarations around it: one content, or none
+abbrev pub Given : Type 0
+Given = List Bind → List Content
+
+abbrev pub all_given : List Given → List Bind → List Content
+all_given [] around = []
+all_given (given ∷ others) around = given around ++ all_given others around
+
+abbrev pub node_gives : Node-F Given Given → Given
+node_gives (Element given) = given
+node_gives (Text text) = λ around. []
+
+abbrev pub tree_gives : Tree-F Given Given → Given
+tree_gives t = λ around. given_by (part_named t.name) (around ++ t.binds) t.attrs (all_given t.children (around ++ t.binds))
+
+-- the parts among nodes
+abbrev pub parts_in : List Bind → List Node → List Content
+parts_in around nodes = all_given (map (fold-Node Given Given node_gives tree_gives) nodes) around
 
 -- the content of several parts is a sequence, and that of none is empty
 abbrev pub joined_parts : List Content → Content
@@ -73,8 +97,10 @@ joined_parts [] = content.Empty
 joined_parts (part ∷ []) = part
 joined_parts (part ∷ next ∷ parts) = content.Sequence (part ∷ next ∷ parts) (record { min = 1; max = Some 1 })
 
--- the content model that a `content` says
-pub record IsContentOf (around : List Bind) (t : Tree) (c : Content) : Type 0 where
-  pub parts : List Content
-  pub given : AreParts (within around t) (parts_of t) parts
-  pub joined : c ≡ joined_parts parts
+-- the content model that a `content` says, under the declarations around it
+abbrev pub content_of : List Bind → Tree → Content
+content_of around t = joined_parts (parts_in (within around t) (out-Tree t).children)
+
+-- it is the content model that a `content` says
+abbrev pub IsContentOf : List Bind → Tree → Content → Type 0
+IsContentOf around t made = made ≡ content_of around t

@@ -1,5 +1,5 @@
 pub mod Breaking
+pub mod Condition
 pub mod ConditionOrder
-pub mod Excepting
 pub mod Giving
 pub mod Picking

@@ -1,50 +1,39 @@
-ghost use Rattle.std.specs.Prelude.{◌↔◌, map, IfOk, IsTrue};
+ghost use Rattle.std.specs.Prelude.{◌≡◌, map, codes, IfOk};
 ghost use Rattle.odd_tree.specs.Elements.{all_binds};
-ghost use Rattle.odd_content.specs.Excepting.{HasUnbound, IsConditionOf};
+ghost use Rattle.odd_forms.specs.Words.{words_given as the_words_given};
+ghost use Rattle.odd_content.specs.Condition.{condition_of};
 
 use crate::content::Condition;
-use crate::excepted::{Excepted, read_excepted};
-use odd_forms::{sorted, words_given};
+use odd_forms::{Excepted, read_excepted, sorted, words_given};
 use odd_text::{Names, NoMemory, Words};
 use odd_tree::{Bindings, Tree};
 use std::alloc::Global;
 
-/// A condition, and whether a prefix in it is not bound.
-#[derive(Drop)]
-pub struct ReadCondition {
-    pub condition: Condition,
-    pub has_unbound: bool,
-}
-
-/// The condition of an `anyElement` under these declarations, its own among them.
+/// The condition of an `anyElement` under the declarations in force in it, level by level. The only error is NoMemory, for
+/// want of memory.
 pub fn read_condition(
     alloc: Global,
     tree: &Tree,
-    around: &[&Bindings],
-) -> Result<ReadCondition, NoMemory>
-    ensures condition { IfOk result (λ read. IsConditionOf (all_binds (map (λ b. b.now) around.now)) tree.now read.condition) }
-    ensures unbound { IfOk result (λ read. IsTrue read.has_unbound ↔ HasUnbound (all_binds (map (λ b. b.now) around.now)) tree.now) }
+    inside: &[&Bindings],
+) -> Result<Condition, NoMemory>
+    ensures { IfOk result (λ made. made ≡ condition_of (all_binds (map (λ b. b.now) inside.now)) (the_words_given tree.now (codes "require")) (the_words_given tree.now (codes "except"))) }
 {
     let require = sorted(alloc, words_given(alloc, tree, "require")?)?;
     let except = words_given(alloc, tree, "except")?;
     let mut spaces = Words::new(alloc);
     let mut names = Names::new(alloc);
-    let mut has_unbound = false;
     for word in except.as_slice() {
-        match read_excepted(alloc, around, word)? {
+        match read_excepted(alloc, inside, word)? {
             Excepted::Space(space) => spaces.push(space)?,
             Excepted::Name(name) => names.push(name)?,
-            Excepted::Unbound => has_unbound = true,
+            Excepted::Unbound => {}
         }
     }
     let spaces = sorted(alloc, spaces)?;
     let names = sorted(alloc, names)?;
-    Ok(ReadCondition {
-        condition: Condition {
-            require,
-            spaces,
-            names,
-        },
-        has_unbound,
+    Ok(Condition {
+        require,
+        spaces,
+        names,
     })
 }

@@ -1,6 +1,6 @@
 -- A tree declares one doc, item by item.
 use Rattle.std.proofs.Common.{◌≡◌, ◌≤◌, None, [], ◌∷◌, Option, Some, refl, sym, ap, subst, ◌∙◌, List}
-use Rattle.std.proofs.lemmas.Cmp.{nat_cmp_total, on_total}
+use Rattle.std.proofs.lemmas.Cmp.{nat_cmp_total, nat_list_cmp_total, on_total}
 use Rattle.std.proofs.lemmas.Option.{same_Some}
 use Rattle.std.specs.Cmp.{nat_cmp_is}
 use Rattle.std.specs.Option.{option_map}
@@ -8,11 +8,11 @@ use Rattle.std.specs.Ordering.{nat_cmp}
 use Rattle.std.specs.Prelude.{count_by}
 use Rattle.std.specs.declared.cmp.Ordering.{Ordering}
 use Rattle.std.specs.declared.cmp.Ordering.TheVariants.{Less}
-use Rattle.odd_content.proofs.Faults.{one_content, one_texts}
 use Rattle.odd_content.specs.Giving.{IsContentOf, pick_given}
 use Rattle.odd_forms.proofs.Children.{named_one}
 use Rattle.odd_forms.proofs.SetOf.{one_set}
 use Rattle.odd_forms.specs.Children.{GivesOne}
+use Rattle.odd_forms.specs.Deep.{DeepFault}
 use Rattle.odd_forms.specs.Faults.{FormFault}
 use Rattle.odd_forms.specs.Names.{is_one_of}
 use Rattle.odd_forms.specs.Sorted.{IsSet}
@@ -24,8 +24,8 @@ use Rattle.odd_library.specs.declared.odd.Entry.{Entry}
 use Rattle.odd_library.specs.declared.odd.Entry.TheVariants as entry
 use Rattle.odd_library.specs.declared.odd.OddDoc.{OddDoc}
 use Rattle.odd_library.specs.declared.spec.Spec.{Spec}
-use Rattle.odd_members.proofs.OneMembership.{one_membership}
 use Rattle.odd_members.specs.Members.{IsMembershipOf}
+use Rattle.odd_text.specs.Text.{text_cmp}
 use Rattle.odd_text.specs.declared.key.Kind.{Kind}
 use Rattle.odd_tree.specs.Elements.{StandsIn, children_of, within}
 use Rattle.odd_tree.specs.declared.tree.Tree.{Tree, out-Tree}
@@ -71,9 +71,9 @@ one_spec first item a b p few q =
     let modules : a.«module» ≡ b.«module» = p.of_module ∙ sym q.of_module in
     let namespaces : a.ns ≡ b.ns = p.ns ∙ ap (λ k. namespace_declared k.kind first.schema item) keys ∙ sym q.ns in
     let types : a.gives ≡ b.gives = p.gives ∙ ap (λ k. type_given k.kind item) keys ∙ sym q.gives in
-    let memberships : a.classes ≡ b.classes = one_given e element.Classes IsMembershipOf item _ _ is few one_membership p.children.classes given.classes in
+    let memberships : a.classes ≡ b.classes = one_given e element.Classes IsMembershipOf item _ _ is few (λ child x y h k. h.value ∙ sym k.value) p.children.classes given.classes in
     let contents : a.content ≡ b.content =
-    one_given e element.Content (IsContentOf inside) item _ _ is few (one_content inside) p.children.content given.content in
+    one_given e element.Content (IsContentOf inside) item _ _ is few (λ child x y h k. h ∙ sym k) p.children.content given.content in
     λ n. record { key = keys n; mode = modes n; «module» = modules n; ns = namespaces n; gives = types n; classes = memberships n; content = contents n }
 
 -- an item refers to the entry that it is read as, or is a declaration of it
@@ -125,7 +125,7 @@ none_has_two t doc declares item s k is kind once two =
       first = declares.first;
       others = [];
       found = declares.found;
-      offends = Offends.items (ItemOffends.alone item s (ItemFault.form k is (FormFault.twice kind once two)) refl);
+      offends = Offends.items (ItemOffends.alone item s (ItemFault.deep k is (DeepFault.itself (FormFault.twice kind once two))) refl);
     })
 
 -- entries by their places
@@ -151,7 +151,7 @@ entries_set first entries none are rise = record {
 one_doc_of : (first : Found) (d e : OddDoc) → NoneHasTwo first → IsDocOf first d → IsDocOf first e → d ≡ e
 one_doc_of first d e none p q =
     let idents : d.ident ≡ e.ident = same_Some _ _ (sym p.ident ∙ q.ident) in
-    let starts : d.start ≡ e.start = one_texts _ _ _ p.start q.start in
+    let starts : d.start ≡ e.start = one_set text_cmp nat_list_cmp_total _ _ _ p.start q.start in
     let entries : d.entries ≡ e.entries =
     one_set by_place (on_total place_of nat_cmp_total) (IsEntryIn first) _ _ (entries_set first _ none p.entries p.rising) (entries_set first _ none q.entries q.rising) in
     λ n. record { ident = idents n; start = starts n; entries = entries n }

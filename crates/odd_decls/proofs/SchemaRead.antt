@@ -5,7 +5,7 @@ use Rattle.std.proofs.lemmas.List.{map-append}
 use Rattle.std.proofs.lemmas.Option.{same_Some}
 use Rattle.std.specs.Prelude.{codes, unwrap_or}
 use Rattle.odd_forms.specs.Faults.{OwnFault, AttributeFault}
-use Rattle.odd_forms.specs.Form.{name}
+use Rattle.odd_forms.specs.Form.{Form, name}
 use Rattle.odd_forms.specs.Least.{IsLeast}
 use Rattle.odd_forms.specs.Sorted.{IsSet}
 use Rattle.odd_forms.specs.Table.{form_at, needed}
@@ -50,16 +50,17 @@ found_again (f ∷ fs) t s = elim (first_or_later f.schema t (schemas_of fs) s) 
   | inr later ↦ let h = found_again fs t later in (h.0, stands_later f h.0 fs h.1, h.2)
 ]
 
+-- what the `schemaSpec` breaks beside its items
+abbrev pub SchemaFault : Found → ℕ → Type 0
+SchemaFault first = OwnFault (form_at element.SchemaSpec) (within first.around first.schema) first.schema
+
 -- the least rule that the `schemaSpec` itself breaks gives the first fault
-pub own_first : (first : Found) (others : List Found) (schema : Tree) (rule : ℕ) → first.schema ≡ schema → IsLeast (OwnFault (form_at element.SchemaSpec) schema) (Some rule)
+pub own_first : (first : Found) (others : List Found) (schema : Tree) (rule : ℕ) → first.schema ≡ schema → IsLeast (SchemaFault first) (Some rule)
     → IsFirstFault (Offends first others) (AllRise first others) (record { at = (out-Tree schema).at; rule = rule })
-own_first first others schema rule is broken =
+own_first first others schema rule is least =
     subst (λ t. IsFirstFault (Offends first others) (AllRise first others) (record { at = (out-Tree t).at; rule = rule })) is
     (first_fault (Offends first others) (AllRise first others) (record { at = (out-Tree first.schema).at; rule = rule }) (offences.itself least.0 refl) not_after)
   where
-    least : IsLeast (OwnFault (form_at element.SchemaSpec) first.schema) (Some rule)
-    least = subst (λ t. IsLeast (OwnFault (form_at element.SchemaSpec) t) (Some rule)) (sym is) broken
-
     not_after : AllRise first others → (other others_rule : ℕ) → Offends first others other others_rule → IsNotAfter (out-Tree first.schema).at rule other others_rule
     not_after r other others_rule (offences.itself f p) = inr (sym p, least.1 others_rule f)
     not_after r other others_rule (offences.again t s p) = own_before (out-Tree first.schema).at (schemas_of others) rule other others_rule r.0 (t.schema, schema_stands others t s, p)
@@ -85,7 +86,7 @@ next_again (t ∷ ts) other e =
 
 -- the `schemaSpec` breaks nothing by itself
 abbrev pub IsSound : Found → Type 0
-IsSound first = (rule : ℕ) → OwnFault (form_at element.SchemaSpec) first.schema rule → ⊥
+IsSound first = (rule : ℕ) → SchemaFault first rule → ⊥
 
 -- what its items break
 abbrev pub ItemsOffend : Found → ℕ → ℕ → Type 0
@@ -139,12 +140,19 @@ earlier_first first others one other fault sound items again both =
     is_one = ⊎_elim (λ e. subst (λ f. Offends first others f.at f.rule) (sym e) (offences.items items.is_one))
         (λ e. subst (λ f. Offends first others f.at f.rule) (sym e) (again_offends first others other.at other.rule again.is_one)) both.0
 
--- what is read of a `schemaSpec` and those after it is read of what was found
+-- what is broken by a `schemaSpec` is broken by what was found
+pub schema_least : (first : Found) (schema : Tree) (form : Form) (binds : List Bind) (o : Option ℕ) → first.schema ≡ schema → form ≡ form_at element.SchemaSpec
+    → binds ≡ first.around ++ (out-Tree schema).binds → IsLeast (OwnFault form binds schema) o → IsLeast (SchemaFault first) o
+schema_least first schema form binds o is shown around least =
+    subst (λ t. IsLeast (OwnFault (form_at element.SchemaSpec) (within first.around t) t) o) (sym is)
+    (subst (λ bs. IsLeast (OwnFault (form_at element.SchemaSpec) bs schema) o) around (subst (λ f. IsLeast (OwnFault f binds schema) o) shown least))
+
+-- and what is read of it and those after it is read of what was found
 pub parts_read : (first : Found) (others : List Found) (schema : Tree) (later : List Tree) (binds : List Bind) (own : ReadItems) (next : Option Fault)
-    → first.schema ≡ schema → schemas_of others ≡ later → binds ≡ first.around ++ (out-Tree schema).binds → IsLeast (OwnFault (form_at element.SchemaSpec) schema) None
+    → first.schema ≡ schema → schemas_of others ≡ later → binds ≡ first.around ++ (out-Tree schema).binds → IsLeast (SchemaFault first) None
     → AreItemsRead schema binds own → IsFirstIn (StandsAgain later) (Rises 0 later) next → ArePartsRead first others own next
 parts_read first others schema later binds own next is after around sound items again = record {
-  sound = subst (λ t. IsLeast (OwnFault (form_at element.SchemaSpec) t) None) (sym is) sound;
+  sound = sound;
   items = subst (λ t. AreItemsRead t (within first.around t) own) (sym is) (subst (λ bs. AreItemsRead schema bs own) around items);
   next = subst (λ ts. IsFirstIn (StandsAgain ts) (Rises 0 ts) next) (sym after) again;
 }
@@ -155,8 +163,8 @@ none_after [] none = refl
 none_after (f ∷ fs) none = absurd (none (out-Tree f.schema).at 4 (f.schema, stands_first f.schema (schemas_of fs), refl, refl))
 
 -- a `schemaSpec` that breaks nothing by itself has an ident
-ident_given : (t : Tree) → ((rule : ℕ) → OwnFault (form_at element.SchemaSpec) t rule → ⊥) → given t (codes "ident") ≡ Some (unwrap_or (given t (codes "ident")) [])
-ident_given t sound = by_value (given t (codes "ident")) refl
+ident_given : (binds : List Bind) (t : Tree) → ((rule : ℕ) → OwnFault (form_at element.SchemaSpec) binds t rule → ⊥) → given t (codes "ident") ≡ Some (unwrap_or (given t (codes "ident")) [])
+ident_given binds t sound = by_value (given t (codes "ident")) refl
   where
     by_value : (value : Option (List ℕ)) → given t (codes "ident") ≡ value → value ≡ Some (unwrap_or value [])
     by_value None e = absurd (sound 1 (OwnFault.attribute (needed (codes "ident") name) (stands_first _ _) (AttributeFault.absent refl e)))
@@ -175,7 +183,7 @@ doc_read first others schema entries doc is parts made =
       none_after others parts.next,
       λ place rule h. ⊎_elim (parts.items.0 place rule) (parts.next place rule) (offends_else first others place rule parts.sound h),
       λ r. record {
-        ident = ident_given first.schema parts.sound ∙ ap Some (sym own.1);
+        ident = ident_given (within first.around first.schema) first.schema parts.sound ∙ ap Some (sym own.1);
         start = own.2;
         entries = subst (AreEntriesOf first (children_of first.schema)) (sym own.0) all.are;
         rising = subst PlacesRise (sym own.0) (all.rising (items_rise first others r));

@@ -1,43 +1,21 @@
 -- What the parts of the reading of an item answer.
-use Rattle.std.specs.Prelude.{◌≡◌, ◌⊎◌, ℕ, List, [], Option, Some, None, codes, unwrap_or}
+use Rattle.std.specs.Prelude.{◌≡◌, List, [], Option, Some, None, codes, unwrap_or}
 use Rattle.std.specs.Option.{option_map}
 use Rattle.odd_text.specs.declared.key.Key.{Key}
 use Rattle.odd_text.specs.declared.key.Kind.{Kind}
 use Rattle.odd_text.specs.declared.name.Bind.{Bind}
-use Rattle.odd_tree.specs.Elements.{children_of, given, within}
+use Rattle.odd_tree.specs.Elements.{given, within}
 use Rattle.odd_tree.specs.declared.tree.Tree.{Tree, out-Tree}
-use Rattle.odd_content.specs.Breaking.{ContentFault}
 use Rattle.odd_content.specs.declared.content.Content.{Content}
-use Rattle.odd_forms.specs.Children.{ChildOfFault}
-use Rattle.odd_forms.specs.Faults.{FormFault}
-use Rattle.odd_forms.specs.Least.{Among}
-use Rattle.odd_forms.specs.Table.{form_at}
 use Rattle.odd_forms.specs.declared.element.Element.{Element}
 use Rattle.odd_forms.specs.declared.element.Element.TheVariants as element
 use Rattle.odd_content.specs.Giving.{pick_given}
-use Rattle.odd_members.specs.Members.{ClassesFault}
 use Rattle.odd_members.specs.declared.membership.Membership.{Membership}
-use Rattle.odd_decls.specs.Declares.{IsEntryOf, kind_taken, mode_given, namespace_declared, type_given}
+use Rattle.odd_decls.specs.Declares.{ChildrenGive, IsEntryOf, kind_taken, mode_given, namespace_declared, type_given}
 use Rattle.odd_decls.specs.Offences.{IsItem, IsSpecOf}
 use Rattle.odd_decls.specs.Search.{Found}
 use Rattle.odd_library.specs.declared.odd.Entry.TheVariants as entry
 use Rattle.odd_library.specs.declared.odd.Entry.{Entry}
-
--- what the contents of a declaration break
-abbrev pub ContentsFault : List Bind → Element → Tree → ℕ → Type 0
-ContentsFault around e spec = Among (ChildOfFault e element.Content (ContentFault (within around spec))) (children_of spec)
-
--- what its `classes` break
-abbrev pub MembershipsFault : Element → Tree → ℕ → Type 0
-MembershipsFault e spec = Among (ChildOfFault e element.Classes ClassesFault) (children_of spec)
-
--- what a declaration breaks inside
-abbrev pub InnerFault : List Bind → Element → Tree → ℕ → Type 0
-InnerFault around e spec rule = ContentsFault around e spec rule ⊎ MembershipsFault e spec rule
-
--- what it breaks by its form or inside
-abbrev pub SpecFault : List Bind → Element → Tree → ℕ → Type 0
-SpecFault around e spec rule = FormFault (form_at e) spec rule ⊎ InnerFault around e spec rule
 
 -- the entry of a declaration with this key, and with what its children give
 abbrev pub entry_made : Tree → Tree → Key → Option Content → Option Membership → Entry
@@ -55,6 +33,10 @@ entry_made schema item key content classes = entry.Spec (out-Tree item).at (reco
 abbrev pub IsEntryMade : Tree → Tree → Option Content → Option Membership → Option Entry → Type 0
 IsEntryMade schema item c m None = (key : Key) → IsSpecOf key item → ⊥
 IsEntryMade schema item c m (Some made) = (key : Key) × IsSpecOf key item × (made ≡ entry_made schema item key c m)
+
+-- what a declaration gives, by what its children do
+abbrev pub IsSpecRead : Tree → List Bind → Element → Tree → Option Entry → Type 0
+IsSpecRead schema around e item made = (c : Option Content) × (m : Option Membership) × ChildrenGive around e item c m × IsEntryMade schema item c m made
 
 -- the entry of an item that refers to a component of the kind, where it has a key
 abbrev pub taken_of : Option Kind → Tree → Option Entry

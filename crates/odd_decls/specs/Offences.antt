@@ -11,14 +11,13 @@ use Rattle.odd_text.specs.declared.offence.Who.TheVariants as who
 use Rattle.odd_tokens.specs.Characters.{IsNCName}
 use Rattle.odd_tree.specs.Elements.{StandsIn, children_of, given, within}
 use Rattle.odd_tree.specs.declared.tree.Tree.{Tree, out-Tree}
-use Rattle.odd_forms.specs.Children.{ChildOfFault, IsChild, StandsTwice}
-use Rattle.odd_forms.specs.Faults.{ChildFault, FormFault, OwnFault}
-use Rattle.odd_forms.specs.Least.{Among}
+use Rattle.odd_forms.specs.Children.{IsChild}
+use Rattle.odd_forms.specs.Deep.{DeepFault}
+use Rattle.odd_forms.specs.Faults.{ChildFault, OwnFault}
+use Rattle.odd_forms.specs.Standing.{StandsTwice}
 use Rattle.odd_forms.specs.Table.{form_at}
 use Rattle.odd_forms.specs.declared.element.Element.{Element}
 use Rattle.odd_forms.specs.declared.element.Element.TheVariants as element
-use Rattle.odd_content.specs.Breaking.{ContentFault}
-use Rattle.odd_members.specs.Members.{ClassesFault}
 use Rattle.odd_library.specs.First.{IsNotAfter}
 use Rattle.odd_decls.specs.Pending.{IsPending}
 use Rattle.odd_decls.specs.Search.{Finds, Found}
@@ -34,12 +33,10 @@ kind_declared element.ClassSpec = Some kind.Class
 kind_declared element.MacroSpec = Some kind.Macro
 kind_declared e = None
 
--- what an item breaks, by standing there, by its form, in its contents and in its `classes`
+-- what an item breaks: by standing there, or at any depth, where it may
 pub data ItemFault (around : List Bind) (item : Tree) : ℕ → Type 0 where
   misplaced : {rule : ℕ} → ChildFault (form_at element.SchemaSpec) item rule → ItemFault around item rule
-  form : {rule : ℕ} (e : Element) → IsItem e item → FormFault (form_at e) item rule → ItemFault around item rule
-  content : {rule : ℕ} (e : Element) → IsItem e item → Among (ChildOfFault e element.Content (ContentFault (within around item))) (children_of item) rule → ItemFault around item rule
-  classes : {rule : ℕ} (e : Element) → IsItem e item → Among (ChildOfFault e element.Classes ClassesFault) (children_of item) rule → ItemFault around item rule
+  deep : {rule : ℕ} (e : Element) → IsItem e item → DeepFault e 60 around item rule → ItemFault around item rule
 
 -- the item declares the component of this key
 pub record IsSpecOf (key : Key) (item : Tree) : Type 0 where
@@ -56,7 +53,7 @@ pub data ItemOffends (around : List Bind) (items : List Tree) : ℕ → ℕ → 
 
 -- what a `schemaSpec`, its items and those that come after it in the file break
 pub data Offends (first : Found) (others : List Found) : ℕ → ℕ → Type 0 where
-  itself : {place rule : ℕ} → OwnFault (form_at element.SchemaSpec) first.schema rule → place ≡ (out-Tree first.schema).at → Offends first others place rule
+  itself : {place rule : ℕ} → OwnFault (form_at element.SchemaSpec) (within first.around first.schema) first.schema rule → place ≡ (out-Tree first.schema).at → Offends first others place rule
   again : {place : ℕ} (other : Found) → StandsIn others other → place ≡ (out-Tree other.schema).at → Offends first others place 4
   items : {place rule : ℕ} → ItemOffends (within first.around first.schema) (children_of first.schema) place rule → Offends first others place rule
 

@@ -55,7 +55,7 @@ AreItemsRead schema inside (items.Entries es) =
 
 -- a `schemaSpec` that breaks nothing by itself, with what its items are read as and the next one
 pub record ArePartsRead (first : Found) (others : List Found) (own : ReadItems) (other : Option Fault) : Type 0 where
-  pub sound : (rule : ℕ) → OwnFault (form_at element.SchemaSpec) first.schema rule → ⊥
+  pub sound : (rule : ℕ) → OwnFault (form_at element.SchemaSpec) (within first.around first.schema) first.schema rule → ⊥
   pub items : AreItemsRead first.schema (within first.around first.schema) own
   pub next : IsFirstIn (StandsAgain (map (λ f. f.schema) others)) (Rises 0 (map (λ f. f.schema) others)) other
 

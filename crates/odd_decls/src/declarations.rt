@@ -1,103 +1,64 @@
-ghost use Rattle.std.specs.Prelude.{◌≡◌, map, IfOk, IsSome, None};
+ghost use Rattle.std.specs.Prelude.{◌≡◌, map, IfOk};
 ghost use Rattle.odd_forms.specs.Children.{GivesOne};
 ghost use Rattle.odd_tree.specs.Elements.{all_binds, children_of, within};
-ghost use Rattle.odd_forms.specs.Least.{IsLeast};
 ghost use Rattle.odd_forms.specs.declared.element.Element.TheVariants as the_element;
 ghost use Rattle.odd_content.specs.Giving.{IsContentOf};
-ghost use Rattle.odd_decls.specs.Declares.{ChildrenGive, mode_given, mode_named as the_mode_named, namespace_in, namespace_declared as the_namespace_declared, type_given};
-ghost use Rattle.odd_decls.specs.Offences.{IsItem, kind_declared as the_kind_declared};
-ghost use Rattle.odd_decls.specs.ItemReading.{ContentsFault, GivesEntry, InnerFault, IsEntryMade, IsKeyOf, SpecFault};
+ghost use Rattle.odd_decls.specs.Declares.{mode_given, mode_named as the_mode_named, namespace_in, namespace_declared as the_namespace_declared, type_given};
+ghost use Rattle.odd_decls.specs.Offences.{kind_declared as the_kind_declared};
+ghost use Rattle.odd_decls.specs.ItemReading.{IsEntryMade, IsKeyOf, IsSpecRead};
 
-use crate::items::ReadItem;
-use odd_content::{Content, ContentRefusal, read_content_in};
-use odd_forms::{Element, TEI, child_of, form_fault, is_child};
+use odd_content::{Content, content_in};
+use odd_forms::{Element, TEI, child_of, child_of_kind};
 use odd_library::{Entry, Mode, Spec};
-use odd_members::{Membership, read_classes};
-use odd_text::{Key, Kind, NoMemory, Text, TryCopy, lesser};
-use odd_tree::{Bindings, Tree, attribute, elements, entered, is_ncname};
+use odd_members::{Membership, classes_given};
+use odd_text::{Key, Kind, NoMemory, Text, TryCopy};
+use odd_tree::{Bindings, Tree, attribute, entered, is_ncname};
 use std::alloc::Global;
 
-// What the contents of a declaration give, and the least rule that they break.
-#[derive(Drop)]
-struct ReadContents {
-    content: Option<Content>,
-    fault: Option<u8>,
-}
-
-// What the children of a declaration give, and the least rule that they break.
-#[derive(Drop)]
-struct Given {
-    content: Option<Content>,
-    classes: Option<Membership>,
-    fault: Option<u8>,
-}
-
-/// What a declaration declares, and the least rule that it breaks by its form, in its contents or in its `classes`.
-pub fn read_spec(
+/// What a declaration declares, where it has a key. `around` are the declarations around it, level by level.
+pub fn spec_entry(
     alloc: Global,
     schema: &Tree,
     element: Element,
     spec: &Tree,
     around: &[&Bindings],
-) -> Result<ReadItem, NoMemory>
-    ensures fault { IfOk result (λ read. IsLeast (SpecFault (all_binds (map (λ b. b.now) around.now)) element spec.now) read.fault) }
-    ensures entry { IsItem element spec.now → IsSome (the_kind_declared element) → IfOk result (λ read. read.fault ≡ None → GivesEntry schema.now (all_binds (map (λ b. b.now) around.now)) spec.now read.entry) }
+) -> Result<Option<Entry>, NoMemory>
+    ensures { IfOk result (IsSpecRead schema.now (all_binds (map (λ b. b.now) around.now)) element spec.now) }
 {
-    let form = form_fault(alloc, element.form(), spec)?;
-    let given = read_children(alloc, element, spec, around)?;
-    let fault = lesser(form, given.fault);
-    let entry = entry(alloc, schema, spec, given)?;
-    Ok(ReadItem { entry, fault })
+    let content = content_given(alloc, element, spec, around)?;
+    let classes = classes_given(alloc, element, spec)?;
+    entry(alloc, schema, spec, content, classes)
 }
 
-// What the children of a declaration give, and the least rule that they break.
-fn read_children(
+// The content that a declaration gives, where it gives one.
+fn content_given(
     alloc: Global,
     element: Element,
     spec: &Tree,
     around: &[&Bindings],
-) -> Result<Given, NoMemory>
-    ensures fault { IfOk result (λ read. IsLeast (InnerFault (all_binds (map (λ b. b.now) around.now)) element spec.now) read.fault) }
-    ensures gives { IfOk result (λ read. read.fault ≡ None → ChildrenGive (all_binds (map (λ b. b.now) around.now)) element spec.now read.content read.classes) }
+) -> Result<Option<Content>, NoMemory>
+    ensures { IfOk result (GivesOne element the_element.Content (IsContentOf (within (all_binds (map (λ b. b.now) around.now)) spec.now)) (children_of spec.now)) }
 {
-    let of_content = read_contents(alloc, element, spec, around)?;
-    let of_classes = read_classes(alloc, element, spec)?;
-    Ok(Given {
-        content: of_content.content,
-        classes: of_classes.classes,
-        fault: lesser(of_content.fault, of_classes.fault),
-    })
-}
-
-// What the contents of a declaration give, and the least rule that they break.
-fn read_contents(
-    alloc: Global,
-    element: Element,
-    spec: &Tree,
-    around: &[&Bindings],
-) -> Result<ReadContents, NoMemory>
-    ensures fault { IfOk result (λ read. IsLeast (ContentsFault (all_binds (map (λ b. b.now) around.now)) element spec.now) read.fault) }
-    ensures content { IfOk result (λ read. read.fault ≡ None → GivesOne element the_element.Content (IsContentOf (within (all_binds (map (λ b. b.now) around.now)) spec.now)) (children_of spec.now) read.content) }
-{
+    let Some(content) = child_of_kind(element, Element::Content, spec) else {
+        return Ok(None);
+    };
+    if spec.binds.is_empty() {
+        return Ok(Some(content_in(alloc, content, around)?));
+    }
     let own = Bindings::new(alloc, spec.binds.copy(alloc)?)?;
     let inside = entered(alloc, around, &own)?;
-    let mut content = None;
-    let mut fault = None;
-    for child in elements(spec) {
-        if is_child(element, Element::Content, child) {
-            match read_content_in(alloc, child, inside.as_slice()) {
-                Ok(read) => content = Some(read),
-                Err(ContentRefusal::Rule(rule)) => fault = lesser(fault, Some(rule)),
-                Err(ContentRefusal::NoMemory) => return Err(NoMemory),
-            }
-        }
-    }
-    Ok(ReadContents { content, fault })
+    Ok(Some(content_in(alloc, content, inside.as_slice())?))
 }
 
 // The entry of a declaration with what its children give, where it has a key.
-fn entry(alloc: Global, schema: &Tree, item: &Tree, given: Given) -> Result<Option<Entry>, NoMemory>
-    ensures { IfOk result (IsEntryMade schema.now item.now given.content given.classes) }
+fn entry(
+    alloc: Global,
+    schema: &Tree,
+    item: &Tree,
+    content: Option<Content>,
+    classes: Option<Membership>,
+) -> Result<Option<Entry>, NoMemory>
+    ensures { IfOk result (IsEntryMade schema.now item.now content classes) }
 {
     let Some(key) = key_declared(alloc, item)? else {
         return Ok(None);
@@ -108,11 +69,6 @@ fn entry(alloc: Global, schema: &Tree, item: &Tree, given: Given) -> Result<Opti
     };
     let ns = namespace_declared(alloc, key.kind, schema, item)?;
     let gives = type_of(key.kind, item);
-    let Given {
-        content,
-        classes,
-        ..
-    } = given;
     Ok(Some(Entry::Spec {
         at: item.at,
         spec: Spec {

@@ -14,7 +14,7 @@ ghost use Rattle.odd_decls.specs.Search.{Finds, Found as AFound};
 ghost use Rattle.odd_decls.specs.Reading.{AreItemsRead, IsFirstIn, IsJoined, IsReadOrBroken, Rises};
 
 use crate::declarations::key_declared;
-use crate::items::{ReadItem, read_item};
+use crate::items::{item_entry, item_fault};
 use crate::pending::is_pending;
 use crate::searching::{binds_along, find_schemas, path_to_first};
 use odd_forms::{Element, fault_where, own_fault, sorted, words_of};
@@ -75,15 +75,16 @@ fn read_schema(
 ) -> Result<Read, NoMemory>
     ensures { IfOk result (λ read. (first : AFound) (rest : List AFound) → Finds [] tree.now (first ∷ rest) → first.schema ≡ schema.now → map (λ f. f.schema) rest ≡ map (λ t. t.now) others.now → IsReadOrBroken first rest read) }
 {
-    if let Some(rule) = own_fault(alloc, Element::SchemaSpec.form(), schema)? {
+    let outside = around_first(alloc, tree)?;
+    let own = Bindings::new(alloc, schema.binds.copy(alloc)?)?;
+    let inside = [&outside, &own];
+    if let Some(rule) = own_fault(alloc, Element::SchemaSpec.form(), schema, &inside)? {
         return Ok(Read::Broken(Fault {
             at: schema.at,
             rule,
         }));
     }
-    let outside = around_first(alloc, tree)?;
-    let own = Bindings::new(alloc, schema.binds.copy(alloc)?)?;
-    let items = read_items(alloc, schema, &[&outside, &own])?;
+    let items = read_items(alloc, schema, &inside)?;
     joined(alloc, schema, items, next_schema(others))
 }
 
@@ -123,12 +124,12 @@ fn read_items(alloc: Global, schema: &Tree, around: &[&Bindings]) -> Result<Read
     let mut keys = BTreeSet::new(alloc);
     let mut entries = Entries::new(alloc);
     for item in elements(schema) {
-        let ReadItem { entry, fault } = read_item(alloc, schema, item, around)?;
+        let fault = item_fault(alloc, item, around)?;
         let again = is_again(alloc, &mut keys, item)?;
         if let Some(rule) = lesser(fault, fault_where(again, TWICE)) {
             return Ok(ReadItems::Broken(Fault { at: item.at, rule }));
         }
-        if let Some(entry) = entry {
+        if let Some(entry) = item_entry(alloc, schema, item, around)? {
             entries.push(entry)?;
         }
     }

@@ -1,10 +1,13 @@
 -- What an element breaks by its form: rule 1, a needed attribute is absent or one is malformed; 2, a form that is left out; 3, a child that may not
 -- stand there, a `mode` or a `type` that is unknown, or what contradicts itself; 4, twice in one place.
-use Rattle.std.specs.Prelude.{◌≡◌, ◌≢◌, ◌≤◌, ◌<◌, ℕ, true, false, ◌||◌, List, [], ◌∷◌, ◌++◌, find, count_by, Option, Some, None, IsSome, IsTrue}
+use Rattle.std.specs.Prelude.{◌≡◌, ◌≢◌, ◌≤◌, ◌<◌, ℕ, true, false, ◌||◌, List, [], ◌∷◌, ◌++◌, find, count_by, Option, Some, None, IsSome, IsTrue, if◌then◌else◌}
+use Rattle.odd_text.specs.declared.name.Bind.{Bind}
 use Rattle.odd_tree.specs.Elements.{StandsIn, children_of, given}
 use Rattle.odd_tree.specs.declared.tree.Tree.{Tree}
-use Rattle.odd_forms.specs.Form.{AttributeForm, Demand, Form, Suits, in_order, needed_unless, not_both, number_told}
+use Rattle.odd_forms.specs.Excepting.{has_unbound}
+use Rattle.odd_forms.specs.Form.{AttributeForm, Demand, Form, Suits, in_order, needed_unless, not_both, bound, apart, number_told}
 use Rattle.odd_forms.specs.Names.{is_one_of, is_passed_over, is_relax_ng, is_tei}
+use Rattle.odd_forms.specs.Standing.{StandsTwice}
 use Rattle.odd_forms.specs.Table.{form_at}
 use Rattle.odd_forms.specs.Words.{is_among, is_given_among, words_given}
 use Rattle.odd_forms.specs.declared.element.Element.{Element}
@@ -27,18 +30,25 @@ pub data AttributeFault (a : AttributeForm) (t : Tree) : ℕ → Type 0 where
   absent : a.needed ≡ true → given t a.local ≡ None → AttributeFault a t 1
   value : {rule : ℕ} (value : List ℕ) → given t a.local ≡ Some value → ValueFault a value rule → AttributeFault a t rule
 
--- what it breaks by what must also hold of it
-pub data DemandFault : Demand → Tree → ℕ → Type 0 where
-  out_of_order : {least most : List ℕ} {t : Tree} (m n : ℕ) → number_told (given t least) ≡ Some m → number_told (given t most) ≡ Some n → n < m → DemandFault (in_order least most) t 3
-  both : {one other : List ℕ} {t : Tree} → words_given t one ≢ [] → words_given t other ≢ [] → DemandFault (not_both one other) t 3
-  missing : {local by : List ℕ} {words : List (List ℕ)} {t : Tree} → given t local ≡ None → is_given_among words (given t by) ≡ false
-      → DemandFault (needed_unless local by words) t 1
+-- the value of an attribute, in a child of this name
+abbrev pub value_in : Element → List ℕ → Tree → Option (List ℕ)
+value_in e local child = if is_one_of ((form_at e).name ∷ []) child then given child local else None
+
+-- What it breaks by what must also hold of it, under the namespace declarations in force in it: a number below another, words in both of two attributes,
+-- an attribute that is absent, a prefix that is not bound, or one value of the attribute in two children.
+pub data DemandFault (binds : List Bind) (t : Tree) : Demand → ℕ → Type 0 where
+  out_of_order : {least most : List ℕ} (m n : ℕ) → number_told (given t least) ≡ Some m → number_told (given t most) ≡ Some n → n < m → DemandFault binds t (in_order least most) 3
+  both : {one other : List ℕ} → words_given t one ≢ [] → words_given t other ≢ [] → DemandFault binds t (not_both one other) 3
+  missing : {local by : List ℕ} {words : List (List ℕ)} → given t local ≡ None → is_given_among words (given t by) ≡ false
+      → DemandFault binds t (needed_unless local by words) 1
+  unbound : {local : List ℕ} → has_unbound binds (words_given t local) ≡ true → DemandFault binds t (bound local) 1
+  twice : {e : Element} {local : List ℕ} (value : List ℕ) → StandsTwice (λ child. value_in e local child ≡ Some value) (children_of t) → DemandFault binds t (apart e local) 4
 
 -- what it breaks beside its children
-pub data OwnFault (form : Form) (t : Tree) : ℕ → Type 0 where
-  attribute : {rule : ℕ} (a : AttributeForm) → StandsIn form.attributes a → AttributeFault a t rule → OwnFault form t rule
-  left_out : (local : List ℕ) → StandsIn form.left_out local → IsSome (given t local) → OwnFault form t 2
-  demand : {rule : ℕ} (d : Demand) → StandsIn form.demands d → DemandFault d t rule → OwnFault form t rule
+pub data OwnFault (form : Form) (binds : List Bind) (t : Tree) : ℕ → Type 0 where
+  attribute : {rule : ℕ} (a : AttributeForm) → StandsIn form.attributes a → AttributeFault a t rule → OwnFault form binds t rule
+  left_out : (local : List ℕ) → StandsIn form.left_out local → IsSome (given t local) → OwnFault form binds t 2
+  demand : {rule : ℕ} (d : Demand) → StandsIn form.demands d → DemandFault binds t d rule → OwnFault form binds t rule
 
 -- What a child breaks by standing there: it is RELAX NG's or left out; or it is neither named nor passed over, and it is TEI's, or nothing else may
 -- stand there.
@@ -49,7 +59,7 @@ pub data ChildFault (form : Form) (child : Tree) : ℕ → Type 0 where
       → (is_passed_over child || is_one_of form.passed_over child) ≡ false → ChildFault form child 3
 
 -- what an element breaks by its form
-pub data FormFault (form : Form) (t : Tree) : ℕ → Type 0 where
-  own : {rule : ℕ} → OwnFault form t rule → FormFault form t rule
-  child : {rule : ℕ} (child : Tree) → StandsIn (children_of t) child → ChildFault form child rule → FormFault form t rule
-  twice : (e : Element) → StandsIn form.once e → 2 ≤ count_by (is_one_of ((form_at e).name ∷ [])) (children_of t) → FormFault form t 4
+pub data FormFault (form : Form) (binds : List Bind) (t : Tree) : ℕ → Type 0 where
+  own : {rule : ℕ} → OwnFault form binds t rule → FormFault form binds t rule
+  child : {rule : ℕ} (child : Tree) → StandsIn (children_of t) child → ChildFault form child rule → FormFault form binds t rule
+  twice : (e : Element) → StandsIn form.once e → 2 ≤ count_by (is_one_of ((form_at e).name ∷ [])) (children_of t) → FormFault form binds t 4

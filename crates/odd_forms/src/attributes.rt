@@ -1,19 +1,17 @@
-ghost use Rattle.std.specs.Prelude.{◌≡◌, ◌≢◌, ◌↔◌, All, IfOk, IsTrue, Some, [], is_some, map};
+ghost use Rattle.std.specs.Prelude.{◌≡◌, ◌↔◌, All, IfOk, IsTrue, Some};
 ghost use Rattle.std.specs.Char.{is_ascii_digit};
 ghost use Rattle.std.specs.List.{list_all};
 ghost use Rattle.odd_tree.specs.Elements.{given};
-ghost use Rattle.odd_forms.specs.Faults.{AttributeFault, DemandFault, ValueFault};
+ghost use Rattle.odd_forms.specs.Faults.{AttributeFault, ValueFault};
 ghost use Rattle.odd_forms.specs.Form.{Suits, are_digits as the_are_digits, number_told};
 ghost use Rattle.odd_forms.specs.Least.{IsLeast};
 ghost use Rattle.odd_forms.specs.Seen as seen;
-ghost use Rattle.odd_forms.specs.Words.{is_given_among, words_given};
 ghost use Rattle.odd_tokens.specs.Characters.{IsNCName};
 
-use crate::faults::{LEFT_OUT, MALFORMED, UNKNOWN, fault_where};
-use crate::form::{AttributeForm, Demand, Kind};
+use crate::faults::{LEFT_OUT, MALFORMED, fault_where};
+use crate::form::{AttributeForm, Kind};
 use crate::words::{is_among, words_of};
 use odd_text::{NoMemory, Text};
-use odd_tokens::is_space;
 use odd_tree::{Tree, attribute, is_ncname};
 use std::alloc::Global;
 
@@ -105,53 +103,5 @@ fn number_of(value: &Text) -> Option<u32>
         value.as_str().parse::<u32>().ok()
     } else {
         None
-    }
-}
-
-/// The rule that an element breaks by what must also hold of it.
-pub fn demand_fault(demand: &Demand, tree: &Tree) -> Option<u8>
-    ensures { IsLeast (DemandFault (seen.demand demand.now) tree.now) result }
-{
-    match demand {
-        Demand::InOrder(least, most) => match (number(tree, least), number(tree, most)) {
-            (Some(m), Some(n)) => fault_where(n < m, UNKNOWN),
-            _ => None,
-        },
-        Demand::NotBoth(one, other) => {
-            fault_where(has_word(tree, one) && has_word(tree, other), UNKNOWN)
-        }
-        Demand::NeededUnless(local, by, words) => {
-            fault_where(
-                !is_given(tree, local) && !is_one(tree, by, words),
-                MALFORMED,
-            )
-        }
-    }
-}
-
-// Whether an element has a word in an attribute.
-fn has_word(tree: &Tree, local: &str) -> bool
-    ensures { IsTrue result ↔ (words_given tree.now local.now ≢ []) }
-{
-    match attribute(&tree.attrs, local) {
-        Some(value) => value.as_str().chars().any(|c| !is_space(c)),
-        None => false,
-    }
-}
-
-// Whether an element has an attribute.
-fn is_given(tree: &Tree, local: &str) -> bool
-    ensures { result ≡ is_some (given tree.now local.now) }
-{
-    attribute(&tree.attrs, local).is_some()
-}
-
-// Whether the value of an attribute is one of the words.
-fn is_one(tree: &Tree, local: &str, words: &[&str]) -> bool
-    ensures { result ≡ is_given_among (map (λ w. w.now) words.now) (given tree.now local.now) }
-{
-    match attribute(&tree.attrs, local) {
-        Some(value) => is_among(words, value),
-        None => false,
     }
 }

@@ -1,19 +1,21 @@
 ghost use Rattle.std.specs.Prelude.{◌≡◌, ◌↔◌, [], ◌∷◌, count_by, if◌then◌else◌, IfOk, IsTrue, Some, None, map, is_some, nat_le};
 ghost use Rattle.std.specs.List.{list_any};
-ghost use Rattle.odd_tree.specs.Elements.{children_of, given};
-ghost use Rattle.odd_forms.specs.Children.{IsChild};
-ghost use Rattle.odd_forms.specs.Faults.{AttributeFault, ChildFault, DemandFault, FormFault, OwnFault, child_in, element_among as the_element_among};
+ghost use Rattle.std.specs.Option.{option_copied};
+ghost use Rattle.odd_tree.specs.Elements.{all_binds, children_of, given};
+ghost use Rattle.odd_forms.specs.Children.{GivesOne, IsChild};
+ghost use Rattle.odd_forms.specs.Faults.{AttributeFault, ChildFault, DemandFault, OwnFault, child_in, element_among as the_element_among};
 ghost use Rattle.odd_forms.specs.Least.{Among, IsLeast};
 ghost use Rattle.odd_forms.specs.Names.{is_one_of as the_is_one_of};
 ghost use Rattle.odd_forms.specs.Seen as seen;
 ghost use Rattle.odd_forms.specs.Table.{form_at};
 
-use crate::attributes::{attribute_fault, demand_fault};
+use crate::attributes::attribute_fault;
+use crate::demands::demand_fault;
 use crate::element::Element;
 use crate::form::{AttributeForm, Demand, Form};
 use crate::names::{is_one_of, is_passed_over, is_relax_ng, is_tei};
 use odd_text::{NoMemory, lesser};
-use odd_tree::{Tree, attribute, elements};
+use odd_tree::{Bindings, Tree, attribute, elements};
 use std::alloc::Global;
 
 /// A needed attribute is absent, or one is malformed.
@@ -57,23 +59,34 @@ fn has_left_out(locals: &[&str], tree: &Tree) -> bool
 }
 
 // The least rule that an element breaks by what must also hold of it.
-fn demands_fault(demands: &[Demand], tree: &Tree) -> Option<u8>
-    ensures { IsLeast (Among (λ d. DemandFault d tree.now) (map seen.demand demands.now)) result }
+fn demands_fault(
+    alloc: Global,
+    demands: &[Demand],
+    tree: &Tree,
+    inside: &[&Bindings],
+) -> Result<Option<u8>, NoMemory>
+    ensures { IfOk result (IsLeast (Among (DemandFault (all_binds (map (λ b. b.now) inside.now)) tree.now) (map seen.demand demands.now))) }
 {
     let mut least = None;
     for demand in demands {
-        least = lesser(least, demand_fault(demand, tree));
+        least = lesser(least, demand_fault(alloc, demand, tree, inside)?);
     }
-    least
+    Ok(least)
 }
 
-/// The least rule that an element breaks beside its children. NoMemory is answered for want of memory.
-pub fn own_fault(alloc: Global, form: &Form, tree: &Tree) -> Result<Option<u8>, NoMemory>
-    ensures { IfOk result (IsLeast (OwnFault (seen.form form.now) tree.now)) }
+/// The least rule that an element breaks beside its children. `inside` are the declarations in force in it, level by level.
+/// The only error is NoMemory, for want of memory.
+pub fn own_fault(
+    alloc: Global,
+    form: &Form,
+    tree: &Tree,
+    inside: &[&Bindings],
+) -> Result<Option<u8>, NoMemory>
+    ensures { IfOk result (IsLeast (OwnFault (seen.form form.now) (all_binds (map (λ b. b.now) inside.now)) tree.now)) }
 {
     let attributes = attributes_fault(alloc, form.attributes, tree)?;
     let left_out = fault_where(has_left_out(form.left_out, tree), LEFT_OUT);
-    let demands = demands_fault(form.demands, tree);
+    let demands = demands_fault(alloc, form.demands, tree, inside)?;
     Ok(lesser(attributes, lesser(left_out, demands)))
 }
 
@@ -101,31 +114,29 @@ pub fn is_child(parent: Element, kind: Element, child: &Tree) -> bool
     child_of(parent.form(), child) == Some(kind)
 }
 
-/// The least rule that a child breaks by standing there.
-pub fn child_fault(form: &Form, child: &Tree) -> Option<u8>
-    ensures { IsLeast (ChildFault (seen.form form.now) child.now) result }
+/// A child of a kind, where there is one.
+pub fn child_of_kind<'a>(parent: Element, kind: Element, tree: &'a Tree) -> Option<&'a Tree>
+    ensures { GivesOne parent kind (λ child given. given ≡ child) (children_of tree.entry.now) (option_copied result) }
+{
+    for child in elements(tree) {
+        if is_child(parent, kind, child) {
+            return Some(child);
+        }
+    }
+    None
+}
+
+/// The least rule that a child breaks by standing there, of those that are no element of the table there.
+pub fn stray_fault(form: &Form, child: &Tree) -> Option<u8>
+    ensures { child_in (seen.form form.now) child.now ≡ None → IsLeast (ChildFault (seen.form form.now) child.now) result }
 {
     if is_relax_ng(child) || is_one_of(child, form.left_out_children) {
         return Some(LEFT_OUT);
     }
-    if child_of(form, child).is_some()
-        || is_passed_over(child)
-        || is_one_of(child, form.passed_over)
-    {
+    if is_passed_over(child) || is_one_of(child, form.passed_over) {
         return None;
     }
     fault_where(form.closed || is_tei(child), UNKNOWN)
-}
-
-// The least rule that the children of an element break by standing there.
-fn children_fault(form: &Form, tree: &Tree) -> Option<u8>
-    ensures { IsLeast (Among (ChildFault (seen.form form.now)) (children_of tree.now)) result }
-{
-    let mut least = None;
-    for child in elements(tree) {
-        least = lesser(least, child_fault(form, child));
-    }
-    least
 }
 
 // Whether an element has two children or more of this name.
@@ -138,20 +149,10 @@ fn has_two(local: &str, tree: &Tree) -> bool
         .is_some()
 }
 
-// Whether a child that may stand once stands twice.
-fn has_twice(once: &[Element], tree: &Tree) -> bool
+/// Whether a child that may stand once stands twice.
+pub fn has_twice(once: &[Element], tree: &Tree) -> bool
     ensures { result ≡ list_any (λ e. nat_le 2 (count_by (the_is_one_of ((form_at e).name ∷ [])) (children_of tree.now))) once.now }
 {
     once.iter()
         .any(|element| has_two(element.form().name, tree))
-}
-
-/// The least rule that an element breaks by its form. NoMemory is answered for want of memory.
-pub fn form_fault(alloc: Global, form: &Form, tree: &Tree) -> Result<Option<u8>, NoMemory>
-    ensures { IfOk result (IsLeast (FormFault (seen.form form.now) tree.now)) }
-{
-    let own = own_fault(alloc, form, tree)?;
-    let children = children_fault(form, tree);
-    let twice = fault_where(has_twice(form.once, tree), TWICE);
-    Ok(lesser(own, lesser(children, twice)))
 }

@@ -2,7 +2,10 @@
 #![tactic(auto)]
 
 mod attributes;
+mod deep;
+mod demands;
 mod element;
+pub mod excepted;
 mod faults;
 mod form;
 mod names;
@@ -10,11 +13,14 @@ mod sorting;
 mod words;
 
 pub use attributes::number;
+pub use deep::{LEVELS, deep_fault};
 pub use element::Element;
+pub use excepted::{Excepted, read_excepted};
 pub use faults::{
-    LEFT_OUT, MALFORMED, TWICE, child_fault, child_of, fault_where, form_fault, is_child, own_fault,
+    LEFT_OUT, MALFORMED, TWICE, child_of, child_of_kind, fault_where, is_child, own_fault,
+    stray_fault,
 };
-pub use form::{AttributeForm, Demand, Form, Kind};
+pub use form::{AttributeForm, Demand, Form, Kind, Level};
 pub use names::{is_one_of, is_passed_over, is_relax_ng, is_tei};
 pub use sorting::sorted;
 pub use words::{words_given, words_of};

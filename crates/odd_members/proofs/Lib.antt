@@ -1,3 +1,1 @@
-mod Marks
-pub mod MembersRead
-pub mod OneMembership
+pub mod Marks

@@ -1,5 +1,5 @@
 -- Marks in rising order of key: the keys that they add, the words that they keep, and marks that are put one after the other.
-use Rattle.std.proofs.Common.{◌≡◌, ◌⊎◌, inl, inr, Bool, true, false, cond, List, [], ◌∷◌, map, filter, T, Some, ⊎_elim, refl, sym, ap, subst, ◌∙◌, ◌++◌, Option, None, not, ℕ, ◌+◌, ◌<◌, length, take, drop, get_or}
+use Rattle.std.proofs.Common.{◌≡◌, ◌⊎◌, inl, inr, Bool, true, false, cond, List, [], ◌∷◌, map, filter, T, Some, ⊎_elim, refl, sym, ap, subst, ◌∙◌, ◌++◌, Option, None, not, ℕ, ◌+◌, ◌<◌, length, take, drop, get_or, fold, if◌then◌else◌}
 use Rattle.std.proofs.Math.Bool.{beq}
 use Rattle.std.proofs.lemmas.List.{map-append, append-nil, take-append-drop}
 use Rattle.std.proofs.lemmas.List.Elements.{filter-append}
@@ -8,21 +8,21 @@ use Rattle.std.specs.Borrow.{Bor}
 use Rattle.std.specs.Cmp.{IsTotalOrder, Equal-is, tied_itself}
 use Rattle.std.specs.FinMap.{find, is_sorted, put}
 use Rattle.std.specs.FinMap.Entries.{below_all, by_order}
-use Rattle.std.specs.Map.{lookup}
 use Rattle.std.specs.Option.{option_copied, option_eq}
 use Rattle.std.specs.Ordering.{eq_by_cmp, is_eq, ordering_reverse, is_lt, match_ordering}
 use Rattle.std.specs.declared.cmp.Ordering.{Ordering}
 use Rattle.std.specs.declared.cmp.Ordering.TheVariants.{Less, Equal, Greater}
+use Rattle.std.specs.Prelude.{codes}
+use Rattle.odd_tree.specs.Elements.{given}
+use Rattle.odd_tree.specs.declared.tree.Tree.{Tree}
+use Rattle.odd_forms.specs.Names.{is_one_of}
 use Rattle.odd_text.proofs.Entries.{first, is_less, second}
 use Rattle.odd_tree.specs.Elements.{StandsIn}
 use Rattle.odd_tree.proofs.InList.{first_or_later, nothing_stands, stands_first, stands_later, begins, ends}
 use Rattle.odd_forms.specs.Sorted.{IsSet}
 use Rattle.odd_forms.proofs.SetOf.{none_rising, rising_more}
+use Rattle.odd_members.specs.Members.{added_keys, adds, with_child, with_mark}
 use Rattle.odd_members.specs.Membership.{takes}
-
--- the keys with the mark true
-abbrev pub added_keys : {K : Type 0} → List (K × Bool) → List K
-added_keys marks = map (λ mark. mark.0) (filter (λ mark. mark.1) marks)
 
 module _ {K : Type 0} (order : K → K → Ordering) (total : IsTotalOrder order) (exact : (x y : K) → order x y ≡ Equal → x ≡ y) where
   -- what is found among entries is above what is below all of them
@@ -135,7 +135,16 @@ pub inserted_put : {K V : Type 0} (order : K → K → Ordering) (k : K) (v : V)
 inserted_put order k v [] = refl
 inserted_put order k v (e ∷ es) = same_choice (order k e.0) _ _ _ _ (ap (λ fs. e ∷ fs) (inserted_put order k v es))
 
--- what a tree holds at a key is found there
-pub held_found : {K V : Type 0} (order : K → K → Ordering) (k : K) (es : List (K × V)) → lookup (eq_by_cmp order k) es ≡ find order k es
-held_found order k [] = refl
-held_found order k (e ∷ es) = ap (cond (eq_by_cmp order k e.0) (Some e.1)) (held_found order k es)
+-- a child is passed that gives these marks
+pub child_passed : (marks new all : List (List ℕ × Bool)) (rest later : List Tree) (child : Tree) → fold with_child marks rest ≡ all → rest ≡ child ∷ later → with_child marks child ≡ new
+    → fold with_child new later ≡ all
+child_passed marks new all rest later child before is e = ap (λ m. fold with_child m later) (sym e) ∙ sym (ap (fold with_child marks) is) ∙ before
+
+-- the marks with that of a `memberOf`
+pub member_marks : (marks : List (List ℕ × Bool)) (child : Tree) (key : Option (List ℕ)) → is_one_of (codes "memberOf" ∷ []) child ≡ true → given child (codes "key") ≡ key
+    → with_child marks child ≡ with_mark key (adds child) marks
+member_marks marks child key is told = ap (λ b. if b then with_mark (given child (codes "key")) (adds child) marks else marks) is ∙ ap (λ k. with_mark k (adds child) marks) told
+
+-- and with another child
+pub other_marks : (marks : List (List ℕ × Bool)) (child : Tree) → is_one_of (codes "memberOf" ∷ []) child ≡ false → with_child marks child ≡ marks
+other_marks marks child is = ap (λ b. if b then with_mark (given child (codes "key")) (adds child) marks else marks) is

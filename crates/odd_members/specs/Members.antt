@@ -1,16 +1,14 @@
--- The memberships that a `classes` gives by its `memberOf`, and what these break.
-use Rattle.std.specs.Prelude.{◌≡◌, ◌↔◌, ℕ, Bool, true, false, not, List, Some, codes, unwrap_or, IsTrue}
-use Rattle.std.specs.FinMap.{find, is_sorted}
+-- The memberships that a `classes` gives by its `memberOf`, and what it breaks.
+use Rattle.std.specs.Prelude.{◌≡◌, ℕ, Bool, true, not, List, [], ◌∷◌, Option, Some, None, codes, filter, map, unwrap_or, if◌then◌else◌}
+use Rattle.std.specs.FinMap.{find as found, put}
+use Rattle.std.specs.List.{fold}
 use Rattle.odd_text.specs.Text.{text_cmp}
-use Rattle.odd_tokens.specs.Characters.{IsNCName}
 use Rattle.odd_tokens.specs.Same.{is_same}
-use Rattle.odd_tree.specs.Elements.{StandsIn, children_of, given}
+use Rattle.odd_tree.specs.Elements.{children_of, given}
 use Rattle.odd_tree.specs.declared.tree.Tree.{Tree}
-use Rattle.odd_forms.specs.Children.{ChildOfFault, IsChild, StandsTwice}
-use Rattle.odd_forms.specs.Faults.{FormFault}
-use Rattle.odd_forms.specs.Least.{Among}
+use Rattle.odd_forms.specs.Deep.{DeepFault}
+use Rattle.odd_forms.specs.Names.{is_one_of}
 use Rattle.odd_forms.specs.Sorted.{IsSet}
-use Rattle.odd_forms.specs.Table.{form_at}
 use Rattle.odd_forms.specs.declared.element.Element.TheVariants as element
 use Rattle.odd_members.specs.declared.membership.Membership.{Membership}
 use Rattle.odd_members.specs.declared.membership.Membership.TheVariants as membership
@@ -23,41 +21,41 @@ is_change classes = is_same (unwrap_or (given classes (codes "mode")) (codes "re
 abbrev pub adds : Tree → Bool
 adds member = not (is_same (unwrap_or (given member (codes "mode")) (codes "add")) (codes "delete"))
 
--- the child of a `classes` is a `memberOf` of the class; a key that is no name names none
-pub record IsMemberOf (word : List ℕ) (child : Tree) : Type 0 where
-  pub is_member : IsChild element.Classes element.MemberOf child
-  pub key : given child (codes "key") ≡ Some word
-  pub named : IsNCName word
+-- the marks with that of a class
+abbrev pub with_mark : Option (List ℕ) → Bool → List (List ℕ × Bool) → List (List ℕ × Bool)
+with_mark None is_added marks = marks
+with_mark (Some key) is_added marks = put text_cmp key is_added marks
 
--- it adds the class, or takes it away
-abbrev pub IsMarked : List ℕ → Bool → Tree → Type 0
-IsMarked word is_added child = IsMemberOf word child × (adds child ≡ is_added)
+-- the marks with that of a child, where it is a `memberOf`
+abbrev pub with_child : List (List ℕ × Bool) → Tree → List (List ℕ × Bool)
+with_child marks child = if is_one_of (codes "memberOf" ∷ []) child then with_mark (given child (codes "key")) (adds child) marks else marks
 
--- one of the children does
-abbrev pub Names : List Tree → List ℕ → Bool → Type 0
-Names children word is_added = (member : Tree) × StandsIn children member × IsMarked word is_added member
+-- the classes that the `memberOf` of a `classes` name, and whether they are added
+abbrev pub marks_of : Tree → List (List ℕ × Bool)
+marks_of classes = fold with_child [] (children_of classes)
 
--- the marks of the classes that children name, in rising order
-pub record HasMarks (children : List Tree) (marks : List (List ℕ × Bool)) : Type 0 where
-  pub rising : IsTrue (is_sorted text_cmp marks)
-  pub marked : (word : List ℕ) (is_added : Bool) → (find text_cmp word marks ≡ Some is_added) ↔ Names children word is_added
+-- the classes that are added
+abbrev pub added_keys : {K : Type 0} → List (K × Bool) → List K
+added_keys marks = map (λ mark. mark.0) (filter (λ mark. mark.1) marks)
+
+-- the memberships that a `classes` gives
+abbrev pub membership_of : Tree → Membership
+membership_of classes = if is_change classes then membership.Change (marks_of classes) else membership.Replace (added_keys (marks_of classes))
 
 -- a mark adds the class
 abbrev pub IsAddedBy : List (List ℕ × Bool) → List ℕ → Type 0
-IsAddedBy marks word = find text_cmp word marks ≡ Some true
+IsAddedBy marks word = found text_cmp word marks ≡ Some true
+
+-- the words of a membership by replacement are in rising order, each once: those that the marks add, and nothing else
+abbrev pub IsSetOf : List (List ℕ × Bool) → Membership → Type 0
+IsSetOf marks (membership.Replace words) = IsSet text_cmp (IsAddedBy marks) words
+IsSetOf marks (membership.Change others) = Unit {0}
 
 -- what a `classes` gives
-pub data IsMembershipOf (classes : Tree) : Membership → Type 0 where
-  replaced : {words : List (List ℕ)} → is_change classes ≡ false → IsSet text_cmp (λ word. Names (children_of classes) word true) words
-      → IsMembershipOf classes (membership.Replace words)
-  changed : {marks : List (List ℕ × Bool)} → is_change classes ≡ true → HasMarks (children_of classes) marks → IsMembershipOf classes (membership.Change marks)
+pub record IsMembershipOf (classes : Tree) (made : Membership) : Type 0 where
+  pub value : made ≡ membership_of classes
+  pub set : IsSetOf (marks_of classes) made
 
--- what the `memberOf` among children break: each by its form, and one with the class of an earlier one
-pub data MembersFault (children : List Tree) : ℕ → Type 0 where
-  form : {rule : ℕ} → Among (ChildOfFault element.Classes element.MemberOf (FormFault (form_at element.MemberOf))) children rule → MembersFault children rule
-  twice : (word : List ℕ) → StandsTwice (IsMemberOf word) children → MembersFault children 4
-
--- what a `classes` breaks, by its form and by its `memberOf`
-pub data ClassesFault (classes : Tree) : ℕ → Type 0 where
-  itself : {rule : ℕ} → FormFault (form_at element.Classes) classes rule → ClassesFault classes rule
-  members : {rule : ℕ} → MembersFault (children_of classes) rule → ClassesFault classes rule
+-- what it breaks, which the declarations around it do not touch
+abbrev pub ClassesFault : Tree → ℕ → Type 0
+ClassesFault classes = DeepFault element.Classes 60 [] classes

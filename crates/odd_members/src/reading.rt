@@ -1,4 +1,4 @@
-ghost use Rattle.std.specs.Prelude.{◌≡◌, None, IfOk, IsTrue};
+ghost use Rattle.std.specs.Prelude.{◌≡◌, IfOk, IsTrue};
 ghost use Rattle.std.specs.FinMap.{is_sorted};
 ghost use Rattle.odd_text.specs.Text.{text_cmp};
 ghost use Rattle.odd_forms.specs.Children.{ChildOfFault, GivesOne};
@@ -6,73 +6,92 @@ ghost use Rattle.odd_forms.specs.Least.{Among, IsLeast};
 ghost use Rattle.odd_forms.specs.Sorted.{IsSet};
 ghost use Rattle.odd_forms.specs.declared.element.Element.TheVariants as the_element;
 ghost use Rattle.odd_tree.specs.Elements.{children_of};
-ghost use Rattle.odd_members.specs.Members.{ClassesFault, HasMarks, IsAddedBy, IsMembershipOf, MembersFault, adds as the_adds, is_change as the_is_change};
+ghost use Rattle.odd_members.specs.Members.{ClassesFault, IsAddedBy, IsMembershipOf, IsSetOf, added_keys, adds as the_adds, is_change as the_is_change, marks_of as the_marks_of, membership_of as the_membership_of};
 
 use crate::membership::{ClassMarks, Membership};
-use odd_forms::{Element, TWICE, fault_where, form_fault, is_child};
+use odd_forms::{Element, LEVELS, child_of_kind, deep_fault, is_child, is_one_of};
 use odd_text::{NoMemory, Text, TryCopy, Words, lesser};
-use odd_tree::{Tree, attribute, elements, is_ncname};
+use odd_tree::{Tree, attribute, elements};
 use std::alloc::Global;
 use std::collections::BTreeMap;
 
-/// What the `classes` of a declaration give, where they break no rule, and the least rule that they break.
+/// What the `classes` of a declaration give, and the least rule that they break.
 #[derive(Drop)]
 pub struct ReadClasses {
     pub classes: Option<Membership>,
     pub fault: Option<u8>,
 }
 
-// The classes that a `classes` names, and the least rule that its `memberOf` break.
-#[derive(Drop)]
-struct ReadMembers {
-    marks: ClassMarks,
-    fault: Option<u8>,
-}
-
-/// What the `classes` of a declaration of this form give, where they break no rule, and the least rule that they break. Of
-/// two `classes`, which the form of the declaration refuses, one of them gives it. The only error is NoMemory, for want of
-/// memory.
+/// What the `classes` of a declaration of this form give, and the least rule that they break. The only error is NoMemory, for
+/// want of memory.
 pub fn read_classes(alloc: Global, form: Element, spec: &Tree) -> Result<ReadClasses, NoMemory>
     ensures fault { IfOk result (λ read. IsLeast (Among (ChildOfFault form the_element.Classes ClassesFault) (children_of spec.now)) read.fault) }
-    ensures classes { IfOk result (λ read. read.fault ≡ None → GivesOne form the_element.Classes IsMembershipOf (children_of spec.now) read.classes) }
+    ensures classes { IfOk result (λ read. GivesOne form the_element.Classes IsMembershipOf (children_of spec.now) read.classes) }
 {
-    let mut classes = None;
-    let mut fault = None;
-    for child in elements(spec) {
-        if is_child(form, Element::Classes, child) {
-            let members = read_members(alloc, child)?;
-            let own = form_fault(alloc, Element::Classes.form(), child)?;
-            fault = lesser(fault, lesser(own, members.fault));
-            classes = Some(membership(alloc, child, members.marks)?);
-        }
-    }
+    let fault = classes_fault(alloc, form, spec)?;
+    let classes = classes_given(alloc, form, spec)?;
     Ok(ReadClasses { classes, fault })
 }
 
-// The classes that a `classes` names, and the least rule that its `memberOf` break.
-fn read_members(alloc: Global, classes: &Tree) -> Result<ReadMembers, NoMemory>
-    ensures fault { IfOk result (λ read. IsLeast (MembersFault (children_of classes.now)) read.fault) }
-    ensures marks { IfOk result (λ read. read.fault ≡ None → HasMarks (children_of classes.now) read.marks) }
+// The least rule that the `classes` of a declaration break.
+fn classes_fault(alloc: Global, form: Element, spec: &Tree) -> Result<Option<u8>, NoMemory>
+    ensures { IfOk result (IsLeast (Among (ChildOfFault form the_element.Classes ClassesFault) (children_of spec.now))) }
+{
+    let mut least = None;
+    for child in elements(spec) {
+        if is_child(form, Element::Classes, child) {
+            let fault = deep_fault(alloc, Element::Classes, child, LEVELS, &[])?;
+            least = lesser(least, fault);
+        }
+    }
+    Ok(least)
+}
+
+/// What the `classes` of a declaration of this form give. Of two, which the form refuses, one of them gives it. The only error
+/// is NoMemory, for want of memory.
+pub fn classes_given(
+    alloc: Global,
+    form: Element,
+    spec: &Tree,
+) -> Result<Option<Membership>, NoMemory>
+    ensures { IfOk result (GivesOne form the_element.Classes IsMembershipOf (children_of spec.now)) }
+{
+    match child_of_kind(form, Element::Classes, spec) {
+        Some(classes) => Ok(Some(membership_of(alloc, classes)?)),
+        None => Ok(None),
+    }
+}
+
+// What a `classes` gives.
+fn membership_of(alloc: Global, classes: &Tree) -> Result<Membership, NoMemory>
+    ensures value { IfOk result (λ made. made ≡ the_membership_of classes.now) }
+    ensures set { IfOk result (IsSetOf (the_marks_of classes.now)) }
+{
+    let marks = marks_of(alloc, classes)?;
+    if is_change(classes) {
+        Ok(Membership::Change(marks))
+    } else {
+        Ok(Membership::Replace(added(alloc, &marks)?))
+    }
+}
+
+// The classes that the `memberOf` of a `classes` name. A tree takes them in any order, and gives them in rising order.
+fn marks_of(alloc: Global, classes: &Tree) -> Result<ClassMarks, NoMemory>
+    ensures { IfOk result (λ marks. marks ≡ the_marks_of classes.now) }
 {
     let mut named = BTreeMap::new(alloc);
-    let mut fault = None;
     for child in elements(classes) {
-        if is_child(Element::Classes, Element::MemberOf, child) {
-            fault = lesser(fault, form_fault(alloc, Element::MemberOf.form(), child)?);
+        if is_one_of(child, &["memberOf"]) {
             if let Some(key) = attribute(&child.attrs, "key") {
-                if is_ncname(key) {
-                    let earlier = named.insert(key.copy(alloc)?, adds(child))?;
-                    fault = lesser(fault, fault_where(earlier.is_some(), TWICE));
-                }
+                named.insert(key.copy(alloc)?, adds(child))?;
             }
         }
     }
-    let marks = marks_of(alloc, named)?;
-    Ok(ReadMembers { marks, fault })
+    as_marks(alloc, named)
 }
 
 // The named classes as marks. They are put in rising order, each behind those before it.
-fn marks_of(alloc: Global, named: BTreeMap<Text, bool>) -> Result<ClassMarks, NoMemory>
+fn as_marks(alloc: Global, named: BTreeMap<Text, bool>) -> Result<ClassMarks, NoMemory>
     requires { IsTrue (is_sorted text_cmp named.entries) }
     ensures { IfOk result (λ marks. marks ≡ named.entries) }
 {
@@ -83,20 +102,10 @@ fn marks_of(alloc: Global, named: BTreeMap<Text, bool>) -> Result<ClassMarks, No
     Ok(marks)
 }
 
-// What a `classes` gives that names these classes.
-fn membership(alloc: Global, classes: &Tree, marks: ClassMarks) -> Result<Membership, NoMemory>
-    ensures { HasMarks (children_of classes.now) marks → IfOk result (IsMembershipOf classes.now) }
-{
-    if is_change(classes) {
-        Ok(Membership::Change(marks))
-    } else {
-        Ok(Membership::Replace(added(alloc, &marks)?))
-    }
-}
-
 // The classes that are added.
 fn added(alloc: Global, marks: &ClassMarks) -> Result<Words, NoMemory>
-    ensures { IfOk result (IsSet text_cmp (IsAddedBy marks.now)) }
+    ensures value { IfOk result (λ words. words ≡ added_keys marks.now) }
+    ensures set { IfOk result (IsSet text_cmp (IsAddedBy marks.now)) }
 {
     let mut words = Words::new(alloc);
     for (word, is_added) in marks.entries() {

@@ -1,5 +1,6 @@
 pub mod AcceptanceExamples
 pub mod ClassExamples
+pub mod Counting
 pub mod ElementExamples
 pub mod Examples
 pub mod LinkedExamples
@@ -10,3 +11,4 @@ pub mod RepeatExamples
 pub mod RuleExamples
 pub mod SchemaExamples
 pub mod SchemaTrees
+pub mod Weighing

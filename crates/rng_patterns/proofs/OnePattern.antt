@@ -17,6 +17,7 @@ use Rattle.rng_patterns.specs.Linked as linked
 use Rattle.rng_patterns.specs.Names.{relax_ng}
 use Rattle.rng_patterns.specs.Patterns.{AreMatched, DefinesElement, IsDefined, IsMatched, IsRepeated}
 use Rattle.rng_patterns.specs.Patterns as patterns
+pub use Rattle.rng_patterns.specs.Weighing.{parts_in}
 use Rattle.rng_patterns.specs.declared.grammar.Body.TheVariants as body
 use Rattle.rng_patterns.specs.declared.grammar.Expr.{Expr, Expr-F, out-Expr}
 use Rattle.rng_patterns.specs.declared.grammar.Expr as E
@@ -195,16 +196,6 @@ module _ (g : Grammar) (counts : Marking (List ℕ)) where
   told p q children e (patterns.present {part = part} is m) = subst (λ x. Told x children) (sym (ap out-Expr is ∙ optional_shown part) ∙ e) (inr m)
   told p q children e (patterns.zero_or_more {part = part} n is m) = subst (λ x. Told x children) (sym (ap out-Expr is ∙ zero_or_more_shown part) ∙ e) (n, m)
   told p q children e (patterns.one_or_more {part = part} n is m) = subst (λ x. Told x children) (sym (ap out-Expr is ∙ one_or_more_shown part) ∙ e) (n, m)
-
--- the patterns that stand in one
-abbrev pub parts_in : Expr-F Expr → List Expr
-parts_in (shape.List part) = part ∷ []
-parts_in (shape.Group parts) = parts
-parts_in (shape.Choice parts) = parts
-parts_in (shape.Optional part) = part ∷ []
-parts_in (shape.ZeroOrMore part) = part ∷ []
-parts_in (shape.OneOrMore part) = part ∷ []
-parts_in other = []
 
 -- each part of a pattern is one of these
 part_stands : (p part : Expr) → HasPart p part → StandsIn (parts_in (out-Expr p)) part

@@ -1,9 +1,11 @@
 pub mod Acceptance
+pub mod Counted
 pub mod Denoting
 pub mod Linked
 pub mod Names
 pub mod Nodes
 pub mod Patterns
+pub mod Weighing
 pub use Rattle.odd_patterns.specs.Children
 pub use Rattle.odd_patterns.specs.Pieces
 pub use Rattle.odd_patterns.specs.Words

@@ -3,7 +3,7 @@ use Rattle.std.proofs.lemmas.Bool.{false≢true}
 use Rattle.std.proofs.lemmas.List.{drop_all}
 use Rattle.odd_tree.specs.Elements.{children_of, elements_of}
 use Rattle.odd_tree.proofs.InList.{child_stands, nothing_stands}
-use Rattle.odd_content.proofs.Parts.{element_first}
+use Rattle.odd_forms.proofs.Children.{element_first}
 use Rattle.odd_decls.specs.Pending.{HoldsForm, here, inside}
 use Rattle.odd_decls.proofs.Searched.{text_first}
 use Rattle.odd_decls.proofs.Refusing.{SomeHolds, none_held, none_holds}

@@ -9,7 +9,8 @@ use Rattle.odd_tree.proofs.InList.{ends}
 use Rattle.odd_forms.specs.Sorted.{IsSet, set_of}
 use Rattle.odd_forms.proofs.SetOf.{one_set, set_of_is}
 use Rattle.odd_members.specs.Membership.{takes}
-use Rattle.odd_members.proofs.Marks.{added_keys, added_more, added_same, kept_more, kept_same, not_taken}
+use Rattle.odd_members.specs.Members.{added_keys}
+use Rattle.odd_members.proofs.Marks.{added_more, added_same, kept_more, kept_same, not_taken}
 use Rattle.odd_members.proofs.membership.changed.Goals.{then-ne+in_ok-copy+in_ok-push, else-ne, then-is_added+in_ok-copy-2+in_ok-push-2, else-is_added}
 use Rattle.odd_members.proofs.membership.changed.Goals as goal
 

@@ -2,7 +2,7 @@ use Rattle.std.proofs.Common.{◌≡◌, ◌++◌, not, filter, take}
 use Rattle.std.specs.FinMap.{find}
 use Rattle.odd_text.specs.Text.{text_cmp}
 use Rattle.odd_members.specs.Membership.{takes}
-use Rattle.odd_members.proofs.Marks.{added_keys}
+use Rattle.odd_members.specs.Members.{added_keys}
 use Rattle.odd_members.proofs.membership.changed.Given as goal
 
 abbrev pub invariant-loop-word : goal.invariant-loop-word

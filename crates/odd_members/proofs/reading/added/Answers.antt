@@ -6,8 +6,8 @@ use Rattle.odd_text.proofs.Entries.{as_T}
 use Rattle.odd_text.specs.Text.{text_cmp}
 use Rattle.odd_tree.proofs.InList.{ends}
 use Rattle.odd_forms.specs.Sorted.{IsSet}
-use Rattle.odd_members.specs.Members.{IsAddedBy}
-use Rattle.odd_members.proofs.Marks.{added_are, added_keys, added_more, added_same}
+use Rattle.odd_members.specs.Members.{IsAddedBy, added_keys}
+use Rattle.odd_members.proofs.Marks.{added_are, added_more, added_same}
 use Rattle.odd_members.proofs.reading.added.Goals.{then-is_added+in_ok-copy+in_ok-push, else-is_added}
 use Rattle.odd_members.proofs.reading.added.Goals as goal
 
@@ -25,11 +25,16 @@ loop-word-preserved c =
       | else-is_added w ↦ w.words-is ∙ c.loop-word.invariant ∙ sym (added_same (take i c.args.marks.now) item.0 item.1 w.if-is_added.false) ∙ sym next
     ]
 
-pub returns : goal.returns
-returns c =
+pub returns-clause-value : goal.returns-clause-value
+returns-clause-value c =
     let marks = c.args.marks.now in
-    let all = c.entries-word-items.ensures.all in
+    let at_end : c.loop-word.word-index ≡ length c.entries-word-items.result.now = omega arith in
+    c.loop-word.invariant ∙ ap (λ i. added_keys (take i marks)) (at_end ∙ ap length c.entries-word-items.ensures.all) ∙ ap added_keys (take-length marks)
+
+pub returns-clause-set : goal.returns-clause-set
+returns-clause-set c =
+    let marks = c.args.marks.now in
     let at_end : c.loop-word.word-index ≡ length c.entries-word-items.result.now = omega arith in
     let whole : c.loop-word.words ≡ added_keys marks =
-    c.loop-word.invariant ∙ ap (λ i. added_keys (take i marks)) (at_end ∙ ap length all) ∙ ap added_keys (take-length marks) in
+    c.loop-word.invariant ∙ ap (λ i. added_keys (take i marks)) (at_end ∙ ap length c.entries-word-items.ensures.all) ∙ ap added_keys (take-length marks) in
     subst (IsSet text_cmp (IsAddedBy marks)) (sym whole) (added_are text_cmp nat_list_cmp_total (slice_cmp-IsAntisymmetric nat_cmp-IsAntisymmetric) marks (as_T _ c.entries-word-items.ensures.rising))

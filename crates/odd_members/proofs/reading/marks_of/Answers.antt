@@ -1,15 +1,45 @@
-use Rattle.std.proofs.Common.{◌≡◌, [], ◌∷◌, ◌++◌, append_assoc, sym, ap, subst, ◌∙◌}
+use Rattle.std.proofs.Common.{◌≡◌, ap, sym, ◌∙◌, None}
 use Rattle.std.proofs.lemmas.Cmp.{nat_list_cmp_total}
-use Rattle.std.specs.FinMap.{is_sorted}
+use Rattle.std.specs.BTreeMap.{insert_entry}
+use Rattle.std.specs.FinMap.{is_sorted, put}
+use Rattle.std.specs.Option.{option_copied}
+use Rattle.odd_text.proofs.Entries.{put_rises}
 use Rattle.odd_text.specs.Text.{text_cmp}
-use Rattle.odd_text.proofs.Entries.{as_T}
-use Rattle.odd_members.proofs.Marks.{put_last}
+use Rattle.odd_members.specs.Members.{adds}
+use Rattle.odd_members.proofs.Marks.{child_passed, inserted_put, member_marks, other_marks}
 use Rattle.odd_members.proofs.reading.marks_of.Goals as goal
 
-pub loop-word-preserved : goal.loop-word-preserved
-loop-word-preserved c =
-    let marks = c.loop-word.marks in
-    let rest = c.next.new.self in
-    let all = ap (λ es. marks ++ es) (sym c.in-Some.ensures.steps) ∙ c.loop-word.invariant in
-    let up = as_T _ (subst (λ es. is_sorted text_cmp es ≡ _) (sym all) c.requires) in
-    ap (λ es. es ++ rest) (c.in_ok-put.ensures.ok ∙ put_last text_cmp nat_list_cmp_total _ _ marks rest up) ∙ append_assoc marks (_ ∷ []) rest ∙ all
+pub loop-child-init : goal.loop-child-init
+loop-child-init c = (cc, ap (is_sorted text_cmp) c.new-named.ensures.empty)
+
+pub loop-child-preserved-in_ok-insert : goal.loop-child-preserved-in_ok-insert
+loop-child-preserved-in_ok-insert c =
+    let child = c.in-Some.child.now in
+    let old = c.loop-child.named.entries in
+    let key = c.in-Some-attribute.key.now in
+    let inserted : c.insert.new.self.entries ≡ put text_cmp key (adds child) old =
+    c.in_ok-insert.ensures.entries ∙ ap (λ k. insert_entry text_cmp old k c.adds.result) c.in_ok-copy.ensures ∙ ap (insert_entry text_cmp old key) c.adds.ensures
+    ∙ inserted_put text_cmp key (adds child) old in (
+      child_passed old _ _ _ _ child c.loop-child.invariant.0 c.in-Some.ensures.steps
+          (member_marks old child _ (sym c.is_one_of.ensures ∙ c.if-is_one_of.true) (sym c.attribute.ensures ∙ ap option_copied c.in-Some-attribute.is) ∙ sym inserted),
+      put_rises text_cmp nat_list_cmp_total key (adds child) old c.insert.new.self.entries c.loop-child.invariant.1 inserted,
+    )
+
+pub loop-child-preserved-in_default : goal.loop-child-preserved-in_default
+loop-child-preserved-in_default c =
+    let child = c.in-Some.child.now in
+    let old = c.loop-child.named.entries in (
+      child_passed old _ _ _ _ child c.loop-child.invariant.0 c.in-Some.ensures.steps
+          (member_marks old child None (sym c.is_one_of.ensures ∙ c.if-is_one_of.true) (sym c.attribute.ensures ∙ ap option_copied c.in_default.is)),
+      c.loop-child.invariant.1,
+    )
+
+pub loop-child-preserved : goal.loop-child-preserved
+loop-child-preserved c = (
+  child_passed c.loop-child.named.entries _ _ _ _ c.in-Some.child.now c.loop-child.invariant.0 c.in-Some.ensures.steps
+      (other_marks c.loop-child.named.entries c.in-Some.child.now (sym c.is_one_of.ensures ∙ c.if-is_one_of.false)),
+  c.loop-child.invariant.1,
+)
+
+pub as_marks-requires : goal.as_marks-requires
+as_marks-requires c = c.loop-child.invariant.1

@@ -1,5 +1,0 @@
-pub mod ConditionNodes
-pub mod DefineCounts
-pub mod LinkedWeights
-pub mod MacroAdded
-pub mod Sums
