@@ -14,7 +14,7 @@ import sys
 IMPORT = re.compile(r"^\s*(?:ghost )?use (Rattle\.[\w.+]+)\.\{(.*)\};?$")
 ALIAS = re.compile(r"^\s*(?:ghost )?use (Rattle\.[\w.+]+) as (\w+);?$")
 DECLARED = re.compile(r"^(?:abbrev |data |record |pub )*([\w'-]+) :", re.M)
-LAWS = {"accepted_enough", "prefixed_read", "valid_enough"}
+LAWS = {"accepted_enough", "grammar_exists", "least_macros", "prefixed_read", "valid_enough"}
 
 
 def read(path):

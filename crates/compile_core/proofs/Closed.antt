@@ -6,13 +6,13 @@ use Rattle.compile_contents.proofs.Standing.{each_stands}
 use Rattle.compile_contents.specs.Contents.{reference, references_pattern}
 use Rattle.compile_contents.specs.Repeating.{choice_pattern, further, group_pattern, repeated, repeated_within}
 use Rattle.compile_defines.specs.Compiled.{condition_body, content_throughout, space_part, spaces_left}
-use Rattle.compile_defines.specs.Formed.{IsFormedCondition}
+use Rattle.odd_content.specs.Formed.{IsExceptedName, IsExceptedNamespace, IsFormedCondition, IsNamespace}
 use Rattle.odd_content.specs.declared.content.Condition.{Condition}
 use Rattle.odd_text.specs.declared.name.Name.{Name}
 use Rattle.odd_tokens.specs.Characters.{IsLegal}
 use Rattle.odd_tokens.specs.Same.{is_same}
 use Rattle.odd_tree.specs.Elements.{StandsIn}
-use Rattle.rng_emit.specs.Plain.{IsPlainClass, IsPlainName, IsPlainPart}
+use Rattle.rng_emit.proofs.Printable.{IsPlainClass, IsPlainName, IsPlainPart}
 use Rattle.rng_patterns.specs.declared.grammar.AttrPart.TheVariants as attributes
 use Rattle.rng_patterns.specs.declared.grammar.Body.{Body}
 use Rattle.rng_patterns.specs.declared.grammar.Body.TheVariants as body
@@ -72,13 +72,17 @@ module _ (Good : Expr → Type 0) (closed : IsClosed Good) where
   pub repeated_good : (part : Expr) (b : Bounds) → Good part → Good (repeated part b)
   repeated_good part b h = within_good part b.min b.max h
 
+-- the names that a condition excepts
+names_plain : (c : Condition) → IsFormedCondition c → All IsPlainName c.names
+names_plain c f = All-weaker IsExceptedName IsPlainName (λ name n. record { named = n.named; legal = n.legal }) c.names f.names
+
 -- the required namespaces of a condition that are left, each without its excepted names
 parts_plain : (c : Condition) → IsFormedCondition c → All IsPlainPart (map (space_part c) (spaces_left c))
 parts_plain c f =
     let part_plain : (space : List ℕ) → IsLegal space → IsPlainPart (space_part c space) =
-    λ space legal. record { legal = legal; but = All-filter (λ n. is_same n.ns space) IsPlainName c.names f.names } in
+    λ space legal. record { legal = legal; but = All-filter (λ n. is_same n.ns space) IsPlainName c.names (names_plain c f) } in
     All-map IsPlainPart (space_part c) (spaces_left c)
-    (All-weaker IsLegal (λ space. IsPlainPart (space_part c space)) part_plain (spaces_left c) (All-filter _ IsLegal c.require f.required))
+    (All-weaker IsLegal (λ space. IsPlainPart (space_part c space)) part_plain (spaces_left c) (All-filter _ IsLegal c.require (All-weaker IsNamespace IsLegal (λ space n. n.legal) c.require f.require)))
 
 -- what a body is that takes the elements of a condition
 pub data IsBodyOf (name : List ℕ) (c : Condition) (b : Body) : Type 0 where
@@ -91,7 +95,7 @@ condition_body_is name c = by c.require c.spaces c.names
   where
     by : (require spaces : List (List ℕ)) (excepted : List Name)
         → IsBodyOf name (record { require = require; spaces = spaces; names = excepted }) (condition_body name (record { require = require; spaces = spaces; names = excepted }))
-    by [] spaces excepted = element (class.AnyBut spaces excepted) (λ f. (f.spaces, f.names)) refl
+    by [] spaces excepted = element (class.AnyBut spaces excepted) (λ f. (All-weaker IsExceptedNamespace IsLegal (λ space n. n.is_namespace.legal) spaces f.spaces, names_plain _ f)) refl
     by (space ∷ more) spaces excepted = by_parts (map (space_part required) (spaces_left required)) refl
       where
         required : Condition

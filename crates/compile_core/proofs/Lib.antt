@@ -5,4 +5,5 @@ pub mod OneGrammarOf
 pub mod Plain
 pub mod PlainParts
 pub mod Rising
+pub mod SchemaText
 pub mod TooLarge

@@ -9,7 +9,6 @@ use Rattle.std.specs.FinMap.Entries.{below_all}
 use Rattle.std.specs.Ordering.{is_lt}
 use Rattle.std.specs.Prelude.{IsTrue}
 use Rattle.std.specs.declared.cmp.Ordering.TheVariants.{Less, Equal, Greater}
-use Rattle.compile_contents.proofs.Standing as standing
 use Rattle.odd_content.specs.ConditionOrder.{condition_cmp, condition_total}
 use Rattle.compile_contents.specs.Conditions.{IsConditionOf}
 use Rattle.compile_defines.proofs.NamedDefines.{define_total}

@@ -1,17 +1,20 @@
 -- The grammar of a formed library is plain, so its text denotes it: no name reaches itself outside elements.
-use Rattle.std.proofs.Common.{◌≡◌, ◌<◌, ℕ, cond, List, [], ◌∷◌, ◌==◌, sym, ap, subst, ◌∙◌, arith, Some, refl}
-use Rattle.std.proofs.lemmas.List.Elements.{All-contains}
+use Rattle.std.proofs.Common.{◌≡◌, ◌<◌, ◌-◌, ℕ, cond, List, [], ◌∷◌, ◌==◌, sym, ap, subst, ◌∙◌, arith, Some, refl}
+use Rattle.std.proofs.lemmas.List.Elements.{All-append, All-cons, All-contains, All-nil}
+use Rattle.std.specs.Prelude.{All}
 use Rattle.std.specs.FinMap.{find}
 use Rattle.std.specs.Option.{is_some}
 use Rattle.compile_contents.proofs.Standing.{stands_filter, macro_found, each_stands, found}
-use Rattle.compile_contents.specs.Conditions.{conditions_in, conditions_of}
+use Rattle.compile_contents.specs.Conditions.{conditions_in, conditions_in_parts, conditions_of}
 use Rattle.compile_contents.specs.Contents.{macro_name, class_name, condition_name, content_pattern, define_name, references_pattern}
 use Rattle.compile_core.proofs.Closed.{references_good, IsBodyOf, condition_body_is, element, nothing}
 use Rattle.compile_defines.proofs.NamedDefines.{listed_is}
 use Rattle.compile_defines.specs.Compiled as compiled
 use Rattle.compile_defines.specs.Compiled.{IsDefineOf, IsGrammarOf, class_define, condition_body, element_define, macro_define, HoldsStart}
-use Rattle.compile_defines.specs.Formed.{IsFormed, IsFormedCondition, IsFormedPart}
+use Rattle.odd_content.specs.Formed.{AreFormedWithin, IsFormedCondition, IsFormedWithin}
+use Rattle.odd_library.specs.Formed.{IsFormedLibrary, IsFormedPart}
 use Rattle.odd_content.specs.declared.content.Condition.{Condition}
+use Rattle.odd_content.specs.declared.content.Content.{Content, Any, Sequence', Alternate', Row_of-Content, end_of-Content, more_of-Content}
 use Rattle.odd_graph.proofs.Chains.{chained_on}
 use Rattle.odd_graph.specs.Graph as graph
 use Rattle.odd_library.specs.Library.{content_of}
@@ -32,8 +35,10 @@ use Rattle.odd_text.specs.declared.key.Kind.TheVariants as kind
 use Rattle.odd_tokens.specs.Characters.{IsNCName}
 use Rattle.odd_tree.proofs.InList.{contained, map_stands, nothing_stands}
 use Rattle.odd_tree.specs.Elements.{StandsIn}
-use Rattle.rng_emit.specs.Plain as plain_form
-use Rattle.rng_emit.specs.Plain.{IsPlain, IsPlainBody, IsPlainDefine, IsPlainPattern}
+use Rattle.rng_emit.proofs.Plain.{printable_plain}
+use Rattle.rng_emit.proofs.Printable as plain_form
+use Rattle.rng_emit.proofs.Printable.{IsPlainBody, IsPlainDefine, IsPlainPattern}
+use Rattle.rng_emit.specs.Plain.{IsPlain}
 use Rattle.rng_patterns.specs.Linked.{Reaches, at_once, through, names_of, pattern_of}
 use Rattle.rng_patterns.specs.declared.grammar.Body.{Body}
 use Rattle.rng_patterns.specs.declared.grammar.Body.TheVariants as body
@@ -143,14 +148,29 @@ module _ (library : Library) (start : List (List ℕ)) (g : Grammar) (whole : (k
   pub apart : (name : List ℕ) → Reaches g name name → ⊥
   apart name r = none_led library whole name (reach_leads name name r)
 
+mutual
+  -- each condition in a formed content is formed
+  conditions_formed : (left : ℕ) (c : Content) → IsFormedWithin left c → All IsFormedCondition (conditions_in c)
+  conditions_formed left (Any c b) f = All-cons IsFormedCondition c [] f.0 (All-nil IsFormedCondition)
+  conditions_formed left (Sequence' shape parts b) f = all_formed (left - 1) parts f.1
+  conditions_formed left (Alternate' shape parts b) f = all_formed (left - 1) parts f.1
+  conditions_formed left c f = All-nil IsFormedCondition
+
+  -- and so in formed parts
+  all_formed : {n : _} (left : ℕ) (parts : Row_of-Content n) → AreFormedWithin left parts → All IsFormedCondition (conditions_in_parts parts)
+  all_formed left end_of-Content f = All-nil IsFormedCondition
+  all_formed left (more_of-Content part parts) f =
+      All-append IsFormedCondition (conditions_in part) (conditions_in_parts parts) (conditions_formed left part f.0) (all_formed left parts f.1)
+
 -- a condition in a formed component is formed
 condition_formed : (k : Kind) (part : Component) (c : Condition) → IsFormedPart k part → StandsIn (conditions_of (content_of part)) c → IsFormedCondition c
-condition_formed kind.Element (component.Element part) c f s = All-contains IsFormedCondition (conditions_in part.content) c f.content.conditions (contained (conditions_in part.content) c s)
-condition_formed kind.Macro (component.Macro part) c f s = All-contains IsFormedCondition (conditions_in part.content) c f.conditions (contained (conditions_in part.content) c s)
+condition_formed kind.Element (component.Element part) c f s = All-contains IsFormedCondition (conditions_in part.content) c (conditions_formed 60 part.content f.content) (contained (conditions_in part.content) c s)
+condition_formed kind.Macro (component.Macro part) c f s = All-contains IsFormedCondition (conditions_in part.content) c (conditions_formed 60 part.content f.content) (contained (conditions_in part.content) c s)
 condition_formed kind.Class (component.Class part) c f s = absurd (nothing_stands c s)
+condition_formed kind.Datatype (component.Datatype part) c f s = absurd f.content
 condition_formed k part c f s = absurd f
 
-module _ (library : Library) (start : List (List ℕ)) (g : Grammar) (f : IsFormed library) (is : IsGrammarOf library start g) where
+module _ (library : Library) (start : List (List ℕ)) (g : Grammar) (f : IsFormedLibrary library) (is : IsGrammarOf library start g) where
   -- what is a define of the library
   abbrev Is : Define → Type 0
   Is = IsDefineOf library is.conditions is.members
@@ -191,7 +211,7 @@ module _ (library : Library) (start : List (List ℕ)) (g : Grammar) (f : IsForm
   body_plain d (compiled.of_element ident part held e) =
       let at = f.formed (element_key ident) (component.Element part) held in
       subst (λ (x : Define). IsPlainBody x.body) (sym e)
-      (record { named = at.0; legal = at.1.legal }, refl, pattern_plain (element_define library is.conditions is.members ident part) (compiled.of_element ident part held refl))
+      (record { named = at.0; legal = at.1.ns }, refl, pattern_plain (element_define library is.conditions is.members ident part) (compiled.of_element ident part held refl))
   body_plain d (compiled.of_macro ident part held e) =
       subst (λ (x : Define). IsPlainBody x.body) (sym e) (pattern_plain (macro_define library is.conditions is.members ident part) (compiled.of_macro ident part held refl))
 
@@ -203,13 +223,13 @@ module _ (library : Library) (start : List (List ℕ)) (g : Grammar) (f : IsForm
   known d h = refers_known IsKnown d.name (map_stands (λ (x : Define). x.name) g.defines d (is.are_defines.each d h))
 
 -- so the start and the defines are plain, the defines rise, and the references are to defines
-pub plain : (library : Library) (start : List (List ℕ)) (g : Grammar) → IsFormed library → ((key : Key) (rule : ℕ) → Breaks library key rule → ⊥) → HoldsStart library start
+pub plain : (library : Library) (start : List (List ℕ)) (g : Grammar) → IsFormedLibrary library → ((key : Key) (rule : ℕ) → Breaks library key rule → ⊥) → HoldsStart library start
     → IsGrammarOf library start g → IsPlain g
 plain library start g f whole holds is =
     let Known = IsKnown library start g f is in
     let begins = start_good library is.conditions is.members is.are_conditions is.are_members f in
     let patterns = pattern_good library is.conditions is.members is.are_conditions is.are_members f in
-    record {
+    printable_plain g (record {
       start = subst IsPlainPattern (sym is.start_is) (begins IsPlainPattern plain_closed (λ d h. plain_form.reference (named library start g f is d h)) start holds);
       defines = each_stands IsPlainDefine g.defines
           (λ d s. let h = is.are_defines.none_else d s in record { named = named library start g f is d h; body = body_plain library start g f is d h });
@@ -219,4 +239,4 @@ plain library start g f whole holds is =
         patterns = λ name d s. patterns (RefersOnly Known) (refers_closed Known) (known library start g f is) d (is.are_defines.none_else d s) name;
         apart = apart library start g whole is;
       };
-    }
+    })

@@ -17,13 +17,13 @@ use Rattle.compile_core.proofs.Closed.{IsClosed, choice_good, group_good, refere
 use Rattle.compile_defines.proofs.NamedDefines.{entry_stands, listed_is}
 use Rattle.compile_defines.specs.Compiled as compiled
 use Rattle.compile_defines.specs.Compiled.{HoldsStart, IsDefineOf, class_define, condition_body, condition_define, element_define, macro_define}
-use Rattle.compile_defines.specs.Formed.{IsFormed}
 use Rattle.odd_content.specs.Picking.{is_picked}
 use Rattle.odd_content.specs.declared.content.Condition.{Condition}
 use Rattle.odd_content.specs.declared.content.Content.{Content, Empty, Text, Element, Class, Macro, Any, Sequence', Alternate', Row_of-Content, end_of-Content, more_of-Content}
 use Rattle.odd_content.specs.declared.content.Pick.{Pick}
 use Rattle.odd_content.specs.declared.content.Pick.TheVariants as pick
 use Rattle.odd_forms.specs.Sorted.{IsSet}
+use Rattle.odd_library.specs.Formed.{IsFormedLibrary}
 use Rattle.odd_library.specs.Library.{content_of}
 use Rattle.odd_library.specs.Odd.{element_key}
 use Rattle.odd_library.specs.declared.library.Component.{Component}
@@ -37,8 +37,8 @@ use Rattle.odd_tokens.proofs.AttributesLexed.{ncname_chars}
 use Rattle.odd_tokens.specs.Characters.{IsNCName, is_name_char, is_name_start, is_ncname}
 use Rattle.odd_tree.proofs.InList.{stands_first, contained, nothing_stands}
 use Rattle.odd_tree.specs.Elements.{StandsIn}
-use Rattle.rng_emit.specs.Plain as is
-use Rattle.rng_emit.specs.Plain.{ArePlainPatterns, IsPlainPattern}
+use Rattle.rng_emit.proofs.Printable as is
+use Rattle.rng_emit.proofs.Printable.{ArePlainPatterns, IsPlainPattern}
 use Rattle.rng_patterns.proofs.OnePattern.{choice_shown, empty_shown, group_shown, one_or_more_shown, optional_shown, parts_in, ref_shown, refers, text_shown, zero_or_more_shown}
 use Rattle.rng_patterns.specs.Linked.{pattern_of, RefersTo}
 use Rattle.rng_patterns.specs.declared.grammar.Body.{Body}
@@ -115,7 +115,7 @@ module _ (Good : Expr → Type 0) (closed : IsClosed Good) (library : Library) (
         (parts_good parts (fewer others (keys ++ others) rest (cs ++ rest) (λ k. stands_right keys others k) (λ c. stands_right cs rest c) h))
 
 module _ (library : Library) (conditions : List Condition) (members : Members) (are_conditions : IsSet condition_cmp (IsConditionOf library) conditions) (are_members : AreMembers library members)
-    (f : IsFormed library) (Good : Expr → Type 0) (closed : IsClosed Good) (defined : (d : Define) → IsDefineOf library conditions members d → Good (expr.Ref d.name)) where
+    (f : IsFormedLibrary library) (Good : Expr → Type 0) (closed : IsClosed Good) (defined : (d : Define) → IsDefineOf library conditions members d → Good (expr.Ref d.name)) where
   -- a reference to a held element
   held_good : (ident : List ℕ) → HoldsElementAt library ident → Good (reference ident)
   held_good ident at = defined (element_define library conditions members ident at.0) (compiled.of_element ident at.0 at.1 refl)

@@ -12,7 +12,7 @@ ghost use Rattle.rng_emit.specs.Plain.{IsPlain};
 ghost use Rattle.compile_contents.specs.Contents.{listed_in};
 ghost use Rattle.compile_contents.specs.declared.budget.MakeRefusal.TheVariants as refused;
 ghost use Rattle.compile_defines.specs.Compiled.{HoldsStart, IsGrammarOf};
-ghost use Rattle.compile_defines.specs.Formed.{IsFormed};
+ghost use Rattle.odd_library.specs.Formed.{IsFormedLibrary};
 ghost use Rattle.compile_core.specs.Schema.{HasLargeSchema, IsLeast, IsStartOffence, IsTooLarge};
 
 use compile_contents::{Budget, MakeRefusal, conditions_of, holds_element, references_pattern};
@@ -77,8 +77,8 @@ const MOST_NODES: u64 = 4_000_000;
 pub fn compile(alloc: Global, library: &Library, start: &Words) -> Result<Grammar, CompileRefusal>
     requires { (key : AKey) (rule : ℕ) → Breaks library.now key rule → ⊥ }
     ensures grammar { IfOk result (IsGrammarOf library.now start.now) }
-    ensures plain { IfOk result (λ grammar. IsFormed library.now → IsPlain grammar) }
-    ensures accepts { IfOk result (λ grammar. IsFormed library.now → (t : ATree) → Accepts grammar t ↔ Admits library.now start.now t) }
+    ensures plain { IfOk result (λ grammar. IsFormedLibrary library.now → IsPlain grammar) }
+    ensures accepts { IfOk result (λ grammar. IsFormedLibrary library.now → (t : ATree) → Accepts grammar t ↔ Admits library.now start.now t) }
     ensures held { IsOk result → HoldsStart library.now start.now }
     ensures within { IfOk result (λ grammar. IsTooLarge grammar → ⊥) }
     ensures offence { (offence : AnOffence) → result ≡ Err (CompileRefusal.Offence offence) → IsStartOffence library.now start.now offence }
@@ -121,6 +121,7 @@ fn grammar_within(alloc: Global, library: &Library, start: &Words) -> Result<Gra
 // The members of the classes of a library. Where they are more than a schema may have elements, the schema is too large.
 fn listed_members(alloc: Global, library: &Library) -> Result<MemberTable, MakeRefusal>
     ensures members { IfOk result (λ table. AreMembers library.now (listed_in table)) }
+    ensures within { IfOk result (λ table. members_count (listed_in table) library.now ≤ 1000000) }
     ensures more { result ≡ Err refused.TooLarge → (members : Members) → AreMembers library.now members → 1000000 < members_count members library.now }
 {
     match members_by_class(alloc, library, MOST_ELEMENTS as usize) {

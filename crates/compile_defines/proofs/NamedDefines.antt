@@ -23,6 +23,7 @@ use Rattle.odd_content.specs.declared.content.Condition.{Condition}
 use Rattle.odd_forms.proofs.SetOf.{first_below, none_rising, rest_rising, rising_more, set_of_is}
 use Rattle.odd_forms.specs.Sorted.{AreRising, IsSet, set_of}
 use Rattle.odd_graph.proofs.Chains.{first_step}
+use Rattle.odd_library.specs.Formed.{IsFormedLibrary}
 use Rattle.odd_library.specs.Odd.{element_key}
 use Rattle.odd_library.specs.declared.library.Component.{Component}
 use Rattle.odd_library.specs.declared.library.Component.TheVariants as component
@@ -37,7 +38,6 @@ use Rattle.odd_tree.specs.Elements.{StandsIn}
 use Rattle.rng_patterns.specs.declared.grammar.Define.{Define}
 use Rattle.compile_defines.specs.Blocks.{IsConditionDefine}
 use Rattle.compile_defines.specs.Compiled.{condition_define, define_cmp}
-use Rattle.compile_defines.specs.Formed.{IsFormed}
 
 -- what is found at a key is an entry of the library
 pub entry_stands : (library : Library) (key : Key) (part : Component) → find key_cmp key library.parts ≡ Some part → StandsIn library.parts (key, part)
@@ -48,7 +48,7 @@ pub listed_is : (library : Library) (members : Members) (class : List ℕ) (iden
 listed_is library members class idents are e = rw e at (are class)
 
 -- a member of a class of a formed library is a held element
-member_held : (library : Library) (class ident : List ℕ) → IsFormed library → IsMember library class (element_key ident) → HoldsElementAt library ident
+member_held : (library : Library) (class ident : List ℕ) → IsFormedLibrary library → IsMember library class (element_key ident) → HoldsElementAt library ident
 member_held library class ident f m =
     let first = first_step (IsLinked classes_of library) (element_key ident) (class_key class) m in
     of_kind first.1.part first.1.held
@@ -60,7 +60,7 @@ member_held library class ident f m =
     of_kind (component.Datatype part) e = absurd (f.formed (element_key ident) (component.Datatype part) e).1
 
 -- and so one of its elements
-pub element_of : (library : Library) (class ident : List ℕ) → IsFormed library → IsMember library class (element_key ident) → IsElementOf library class ident
+pub element_of : (library : Library) (class ident : List ℕ) → IsFormedLibrary library → IsMember library class (element_key ident) → IsElementOf library class ident
 element_of library class ident f m = let h = member_held library class ident f m in record { part = h.0; held = h.1; member = m }
 
 -- what neither falls nor ties is less

@@ -1,5 +1,3 @@
 pub mod Blocks
 pub mod Compiled
 pub mod Elements
-pub mod Formed
-pub mod OrderedBounds

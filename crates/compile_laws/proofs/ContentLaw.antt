@@ -5,7 +5,7 @@ use Rattle.compile_contents.proofs.Standing.{stands_left, stands_right}
 use Rattle.compile_contents.specs.Conditions.{conditions_in, conditions_in_parts}
 use Rattle.compile_contents.specs.Contents.{condition_pattern, content_pattern, element_pattern, macro_pattern, members_pattern, part_patterns}
 use Rattle.compile_contents.specs.Repeating.{further, group_pattern, repeated, repeated_within, choice_pattern}
-use Rattle.compile_defines.specs.OrderedBounds.{IsOrdered, AreAllOrdered, AreBoundsOrdered}
+use Rattle.odd_content.specs.Formed.{AreFormedWithin, IsFormedWithin}
 use Rattle.odd_content.specs.declared.content.Condition.{Condition}
 use Rattle.odd_content.specs.declared.content.Content.{Content, Empty, Text, Element, Class, Macro, Any, Sequence', Alternate', Row_of-Content, end_of-Content, more_of-Content}
 use Rattle.odd_content.specs.declared.content.Pick.{Pick}
@@ -28,6 +28,7 @@ use Rattle.rng_patterns.specs.declared.grammar.Expr.{Expr}
 use Rattle.rng_patterns.specs.declared.grammar.Expr.TheOpen as shape
 use Rattle.rng_patterns.specs.declared.grammar.Expr.TheVariants as expr
 use Rattle.rng_patterns.specs.declared.grammar.Grammar.{Grammar}
+use Rattle.rng_values.specs.Bounds.{IsFormedBounds}
 use Rattle.rng_values.specs.declared.bounds.Bounds.{Bounds}
 use Rattle.compile_laws.proofs.Pieces.{Same, at_most_more, counted_same, counts_same, none_same, one_more, swap, then_end, then_same, trans, InChoice, choice_law, or_same, same}
 
@@ -119,10 +120,15 @@ module _ (Q : Node → Type 0) (g : Grammar) (marks : Marking (List ℕ)) where
     written (suc zero) None o = swap Q one_or_more_law
     written min max o = trans Q (swap Q (listed min max o)) (group_law (replicate min p ++ further p min max))
 
-  -- a repetition within bounds in order matches what splits into a number of pieces within them
-  pub repeated_law : (A : List Node → Type 0) (p : Expr) (b : Bounds) → IsOrdered b → ((w : List Node) → All Q w → A w ↔ IsMatched g marks p w)
+  -- the least number of formed bounds is up to the greatest
+  in_bounds : (max : Option ℕ) (min : ℕ) → ((n : ℕ) → max ≡ Some n → min ≤ n) → IsUpTo max min
+  in_bounds None min h = tt
+  in_bounds (Some n) min h = h n refl
+
+  -- a repetition within formed bounds matches what splits into a number of pieces within them
+  pub repeated_law : (A : List Node → Type 0) (p : Expr) (b : Bounds) → IsFormedBounds b → ((w : List Node) → All Q w → A w ↔ IsMatched g marks p w)
       → (w : List Node) → All Q w → Counted (IsWithin b) A w ↔ IsMatched g marks (repeated p b) w
-  repeated_law A p b o h = trans Q (counted_same Q h) (written p b.min b.max o)
+  repeated_law A p b f h = trans Q (counted_same Q h) (written p b.min b.max (in_bounds b.max b.min f.ordered))
 
 module _ (library : Library) (numbered : List Condition) (members : Members) (g : Grammar) (counts : Marking Label) (marks : Marking (List ℕ)) (Q : Node → Type 0) where
   -- what an element, a class and a condition admit is what their patterns match, of children of which each is such
@@ -155,35 +161,35 @@ module _ (library : Library) (numbered : List Condition) (members : Members) (g 
     }
 
     mutual
-      -- each content whose bounds are in order, and whose names are kept, admits what its pattern matches
-      pub content_law : (k : Content) → AreBoundsOrdered k → AreNamesKept macros (named_in k) (conditions_in k)
+      -- each formed content whose names are kept admits what its pattern matches
+      pub content_law : (left : ℕ) (k : Content) → IsFormedWithin left k → AreNamesKept macros (named_in k) (conditions_in k)
           → Same Q (AdmitsBy macros library counts k) (IsMatched g marks (content_pattern library numbered members k))
-      content_law Empty o a = group_law Q g marks []
-      content_law Text o a = λ w q. (patterns.text, told g marks expr.Text shape.Text w text_shown)
-      content_law (Element key b) o a = repeated_law Q g marks (IsOne counts (element key)) (element_pattern library key) b o (kept.elements key)
-      content_law (Class key p b) o a =
-          repeated_law Q g marks (IsOneMember library counts key p) (members_pattern key p (members key)) b o (kept.classes key p (a.classes key (stands_first (class_key key) [])))
-      content_law (Macro key b) o a = repeated_law Q g marks (macros key) (macro_pattern library key) b o (a.macros key (stands_first (macro_key key) []))
-      content_law (Any c b) o a = repeated_law Q g marks (IsOne counts (condition c)) (condition_pattern numbered c) b o (kept.conditions c (a.conditions c (stands_first c [])))
-      content_law (Sequence' shape parts b) o a =
+      content_law left Empty f a = group_law Q g marks []
+      content_law left Text f a = λ w q. (patterns.text, told g marks expr.Text shape.Text w text_shown)
+      content_law left (Element key b) f a = repeated_law Q g marks (IsOne counts (element key)) (element_pattern library key) b f.1 (kept.elements key)
+      content_law left (Class key p b) f a =
+          repeated_law Q g marks (IsOneMember library counts key p) (members_pattern key p (members key)) b f.2 (kept.classes key p (a.classes key (stands_first (class_key key) [])))
+      content_law left (Macro key b) f a = repeated_law Q g marks (macros key) (macro_pattern library key) b f.1 (a.macros key (stands_first (macro_key key) []))
+      content_law left (Any c b) f a = repeated_law Q g marks (IsOne counts (condition c)) (condition_pattern numbered c) b f.1 (kept.conditions c (a.conditions c (stands_first c [])))
+      content_law left (Sequence' shape parts b) f a =
           let ps = part_patterns library numbered members parts in
-          repeated_law Q g marks (InOrder macros library counts parts) (group_pattern ps) b o.0 (trans Q (in_order parts o.1 a) (group_law Q g marks ps))
-      content_law (Alternate' shape parts b) o a =
+          repeated_law Q g marks (InOrder macros library counts parts) (group_pattern ps) b f.2 (trans Q (in_order (left - 1) parts f.1 a) (group_law Q g marks ps))
+      content_law left (Alternate' shape parts b) f a =
           let ps = part_patterns library numbered members parts in
-          repeated_law Q g marks (ByOne macros library counts parts) (choice_pattern ps) b o.0 (trans Q (by_one parts o.1 a) (choice_law g marks Q ps))
+          repeated_law Q g marks (ByOne macros library counts parts) (choice_pattern ps) b f.2 (trans Q (by_one (left - 1) parts f.1 a) (choice_law g marks Q ps))
 
       -- the parts of a sequence
-      in_order : {n : _} (parts : Row_of-Content n) → AreAllOrdered parts → AreNamesKept macros (named_in_parts parts) (conditions_in_parts parts)
+      in_order : {n : _} (left : ℕ) (parts : Row_of-Content n) → AreFormedWithin left parts → AreNamesKept macros (named_in_parts parts) (conditions_in_parts parts)
           → Same Q (InOrder macros library counts parts) (InGroup Q g marks (part_patterns library numbered members parts))
-      in_order end_of-Content o a = same Q _
-      in_order (more_of-Content part parts) o a =
-          then_same Q (content_law part o.0 (first_kept (named_in part) (named_in_parts parts) (conditions_in part) (conditions_in_parts parts) a))
-          (in_order parts o.1 (rest_kept (named_in part) (named_in_parts parts) (conditions_in part) (conditions_in_parts parts) a))
+      in_order left end_of-Content f a = same Q _
+      in_order left (more_of-Content part parts) f a =
+          then_same Q (content_law left part f.0 (first_kept (named_in part) (named_in_parts parts) (conditions_in part) (conditions_in_parts parts) a))
+          (in_order left parts f.1 (rest_kept (named_in part) (named_in_parts parts) (conditions_in part) (conditions_in_parts parts) a))
 
       -- the parts of an alternate
-      by_one : {n : _} (parts : Row_of-Content n) → AreAllOrdered parts → AreNamesKept macros (named_in_parts parts) (conditions_in_parts parts)
+      by_one : {n : _} (left : ℕ) (parts : Row_of-Content n) → AreFormedWithin left parts → AreNamesKept macros (named_in_parts parts) (conditions_in_parts parts)
           → Same Q (ByOne macros library counts parts) (InChoice g marks (part_patterns library numbered members parts))
-      by_one end_of-Content o a = same Q _
-      by_one (more_of-Content part parts) o a =
-          or_same Q (content_law part o.0 (first_kept (named_in part) (named_in_parts parts) (conditions_in part) (conditions_in_parts parts) a))
-          (by_one parts o.1 (rest_kept (named_in part) (named_in_parts parts) (conditions_in part) (conditions_in_parts parts) a))
+      by_one left end_of-Content f a = same Q _
+      by_one left (more_of-Content part parts) f a =
+          or_same Q (content_law left part f.0 (first_kept (named_in part) (named_in_parts parts) (conditions_in part) (conditions_in_parts parts) a))
+          (by_one left parts f.1 (rest_kept (named_in part) (named_in_parts parts) (conditions_in part) (conditions_in_parts parts) a))

@@ -3,6 +3,7 @@ use Rattle.std.proofs.Common.{◌↔◌, ℕ, List, [], ◌∷◌, sym, subst, a
 use Rattle.odd_tree.specs.Significant.{Marking, depth}
 use Rattle.odd_tree.specs.declared.tree.Node.{Element}
 use Rattle.odd_tree.specs.declared.tree.Tree.{Tree}
+use Rattle.odd_library.specs.Formed.{IsFormedLibrary}
 use Rattle.odd_library.specs.declared.library.Library.{Library}
 use Rattle.odd_meaning.specs.Admission.{Admits}
 use Rattle.rng_patterns.specs.Acceptance.{Accepts, IsAcceptedWithin}
@@ -10,13 +11,12 @@ use Rattle.rng_patterns.specs.Patterns.{IsMatched}
 use Rattle.rng_patterns.specs.declared.grammar.Grammar.{Grammar}
 use Rattle.compile_defines.specs.Compiled.{IsGrammarOf}
 use Rattle.compile_contents.specs.Contents.{define_name}
-use Rattle.compile_defines.specs.Formed.{IsFormed}
 use Rattle.compile_laws.proofs.HeldDefines.{hold_elements, start_law}
 use Rattle.compile_laws.proofs.Joining.{joined, accepted_defined}
 use Rattle.compile_laws.proofs.MacroLaw.{BreaksNone}
 
 -- by the start law for the root, and the joining induction for what is in it
-pub accepts_admitted : (library : Library) (start : List (List ℕ)) (g : Grammar) → IsFormed library → BreaksNone library → IsGrammarOf library start g
+pub accepts_admitted : (library : Library) (start : List (List ℕ)) (g : Grammar) → IsFormedLibrary library → BreaksNone library → IsGrammarOf library start g
     → (t : Tree) → Accepts g t ↔ Admits library start t
 accepts_admitted library start g f none is t =
     let counts : Marking (List ℕ) = λ u name. IsAcceptedWithin (depth u) g u name in

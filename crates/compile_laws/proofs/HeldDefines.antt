@@ -8,13 +8,13 @@ use Rattle.compile_contents.specs.Contents.{define_name, reference, references_p
 use Rattle.compile_defines.proofs.NamedDefines.{element_of}
 use Rattle.compile_defines.specs.Compiled as compiled
 use Rattle.compile_defines.specs.Compiled.{IsDefineOf, IsGrammarOf, class_define, element_body, element_define, macro_define}
-use Rattle.compile_defines.specs.Formed.{IsFormed}
 use Rattle.odd_classes.proofs.Linked.{held}
 use Rattle.odd_content.specs.Picking.{is_picked}
 use Rattle.odd_content.specs.declared.content.Condition.{Condition}
 use Rattle.odd_content.specs.declared.content.Pick.{Pick}
 use Rattle.odd_content.specs.declared.content.Pick.TheVariants as pick
 use Rattle.odd_graph.proofs.Chains.{last_step}
+use Rattle.odd_library.specs.Formed.{IsFormedLibrary}
 use Rattle.odd_library.specs.Odd.{element_key}
 use Rattle.odd_library.specs.declared.library.ClassPart.{ClassPart}
 use Rattle.odd_library.specs.declared.library.Component.{Component}
@@ -162,7 +162,7 @@ module _ (library : Library) (start : List (List ℕ)) (g : Grammar) (is : IsGra
         (is.are_defines.each (macro_define library is.conditions is.members ident part) (compiled.of_macro ident part held refl))
 
 -- in a formed library a class that has a member, and is none of attributes, is of type `model`
-member_model : (library : Library) → IsFormed library → (class ident : List ℕ) → (IsOfAttributes library class → ⊥) → IsMember library class (element_key ident) → IsModel library class
+member_model : (library : Library) → IsFormedLibrary library → (class ident : List ℕ) → (IsOfAttributes library class → ⊥) → IsMember library class (element_key ident) → IsModel library class
 member_model library f class ident other m =
     let s = (last_step (IsLinked classes_of library) (element_key ident) (class_key class) m).1 in
     let h = held (class_key class) library s.other_held in
@@ -210,7 +210,7 @@ module _ (library : Library) (start : List (List ℕ)) (g : Grammar) (is : IsGra
   members_law class (pick.Include words) idents listed w = picked_law (pick.Include words) idents w
   members_law class (pick.Except words) idents listed w = picked_law (pick.Except words) idents w
 
-  module _ (f : IsFormed library) (counts : Marking Label) (Q : Node → Type 0) (referred : (key : List ℕ) → Same Q (IsOne counts (element key)) (IsMatched g marks (reference key))) where
+  module _ (f : IsFormedLibrary library) (counts : Marking Label) (Q : Node → Type 0) (referred : (key : List ℕ) → Same Q (IsOne counts (element key)) (IsMatched g marks (reference key))) where
     -- and so one element that counts for such a member
     pub class_kept : (class : List ℕ) (p : Pick) → (IsOfAttributes library class → ⊥)
         → Same Q (IsOneMember library counts class p) (IsMatched g marks (members_pattern class p (is.members class)))

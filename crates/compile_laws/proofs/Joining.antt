@@ -6,8 +6,8 @@ use Rattle.std.specs.Prelude.{All}
 use Rattle.compile_contents.proofs.Standing.{element_held, IsElementAt}
 use Rattle.compile_contents.specs.Contents.{condition_name, condition_pattern, define_name, element_pattern, holds_element, reference, content_pattern}
 use Rattle.compile_defines.specs.Compiled.{IsGrammarOf, element_body}
-use Rattle.compile_defines.specs.Formed.{IsFormed}
 use Rattle.odd_content.specs.declared.content.Condition.{Condition}
+use Rattle.odd_library.specs.Formed.{IsFormedLibrary}
 use Rattle.odd_library.specs.Odd.{element_key}
 use Rattle.odd_library.specs.declared.library.Component.TheVariants as component
 use Rattle.odd_library.specs.declared.library.ElementPart.{ElementPart}
@@ -67,7 +67,7 @@ valid_held : (levels : ℕ) (library : Library) (t : Tree) (ident : List ℕ) �
 valid_held zero library t ident lacks v = v
 valid_held (suc levels) library t ident lacks v = false≢true (sym lacks ∙ element_held library ident v.part v.held)
 
-module _ (library : Library) (start : List (List ℕ)) (g : Grammar) (is : IsGrammarOf library start g) (f : IsFormed library) (levels : ℕ) (Q : Node → Type 0)
+module _ (library : Library) (start : List (List ℕ)) (g : Grammar) (is : IsGrammarOf library start g) (f : IsFormedLibrary library) (levels : ℕ) (Q : Node → Type 0)
     (under : (t : Tree) → Q (Element t) → depth t ≤ levels)
     (join : (t : Tree) → depth t ≤ levels → (ident : List ℕ) → IsValidWithin levels library t ident ↔ IsAcceptedWithin levels g t (define_name ident)) where
   -- the markings of the children
@@ -125,7 +125,7 @@ module _ (library : Library) (start : List (List ℕ)) (g : Grammar) (is : IsGra
 child_under : (levels : ℕ) (t : Tree) → depth t ≤ suc levels → (u : Tree) → StandsIn (out-Tree t).children (Element u) → depth u ≤ levels
 child_under levels t h u s = let less : depth u < depth t = child_less t u s in omega arith
 
-module _ (library : Library) (start : List (List ℕ)) (g : Grammar) (is : IsGrammarOf library start g) (f : IsFormed library) (none : BreaksNone library) where
+module _ (library : Library) (start : List (List ℕ)) (g : Grammar) (is : IsGrammarOf library start g) (f : IsFormedLibrary library) (none : BreaksNone library) where
   -- a step of the induction for an element, from markings of its children by which the leaves are kept
   module _ (t : Tree) (ident : List ℕ) (counts : Marking Label) (marks : Marking (List ℕ))
       (kept : AreLeavesKept library is.conditions is.members g counts marks (StandsIn (out-Tree t).children)) where
@@ -135,10 +135,10 @@ module _ (library : Library) (start : List (List ℕ)) (g : Grammar) (is : IsGra
     held_law part held children s =
         let Q : Node → Type 0 = StandsIn (out-Tree t).children in
         let key = element_key ident in
-        let ordered = (f.formed key (component.Element part) held).1.content.ordered in
+        let formed = (f.formed key (component.Element part) held).1.content in
         let macros = macro_kept library start g is f none counts marks Q kept in
         let named = names_kept library start g is f none counts marks Q (IsOfMacro library counts) key (component.Element part) held (λ other among. macros other) in
-        content_law library is.conditions is.members g counts marks Q kept (IsOfMacro library counts) part.content ordered named children (all_kept t children s)
+        content_law library is.conditions is.members g counts marks Q kept (IsOfMacro library counts) 60 part.content formed named children (all_kept t children s)
 
     -- a valid element is accepted by the define of the held element
     valid_accepted : IsValidBy counts library t ident → IsAcceptedBy marks g t (define_name ident)

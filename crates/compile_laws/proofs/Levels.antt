@@ -13,7 +13,7 @@ use Rattle.odd_meaning.specs.Labels.{Label, condition, element}
 use Rattle.odd_tree.proofs.InList.{first_or_later, map_stands, nothing_stands}
 use Rattle.rng_patterns.specs.Acceptance.{IsAcceptedWithin}
 use Rattle.rng_patterns.specs.declared.grammar.Grammar.{Grammar}
-use Rattle.compile_laws.proofs.SameMarkings.{admits_same, matched_on}
+use Rattle.compile_laws.proofs.SameMarkings.{admits_into, matched_on}
 use Rattle.compile_contents.proofs.Standing.{each_stands, filter_stands}
 
 -- the greatest of some numbers is none less
@@ -79,34 +79,32 @@ accepted_more (suc m) (suc n) g t name h k a = record {
 pub accepted_enough : (n : ℕ) (g : Grammar) (t : Tree) (name : List ℕ) → depth t ≤ n → IsAcceptedWithin n g t name ↔ IsAcceptedWithin (depth t) g t name
 accepted_enough n g t name h = (accepted_more n (depth t) g t name h (omega arith), accepted_more (depth t) n g t name (omega arith) h)
 
--- what counts for the same held elements counts for the same labels
-counting_same : (a b : Marking (List ℕ)) (t : Tree) → ((ident : List ℕ) → a t ident ↔ b t ident) → (l : Label) → counting a t l ↔ counting b t l
-counting_same a b t h (element ident) = h ident
-counting_same a b t h (condition c) = (λ m. m, λ m. m)
+-- what counts for an element that it counts for by another marking counts for the same labels
+counting_into : (a b : Marking (List ℕ)) (t : Tree) → ((ident : List ℕ) → a t ident → b t ident) → (l : Label) → counting a t l → counting b t l
+counting_into a b t h (element ident) = h ident
+counting_into a b t h (condition c) = λ m. m
 
--- an element that is valid by one marking is valid by another that agrees on its children
-valid_on : (a b : Marking Label) (library : Library) (t : Tree) (ident : List ℕ) → ((u : Tree) (l : Label) → StandsIn (out-Tree t).children (Element u) → a u l ↔ b u l)
+-- an element that is valid by one marking is valid by another by which its children count for no less
+valid_on : (a b : Marking Label) (library : Library) (t : Tree) (ident : List ℕ) → ((u : Tree) (l : Label) → StandsIn (out-Tree t).children (Element u) → a u l → b u l)
     → IsValidBy a library t ident → IsValidBy b library t ident
-valid_on a b library t ident agree v = record {
+valid_on a b library t ident carry v = record {
   part = v.part;
   held = v.held;
   named = v.named;
   attributed = v.attributed;
   children = v.children;
   significant = v.significant;
-  admitted = (admits_same (StandsIn (out-Tree t).children) library a b agree v.part.content v.children (all_kept t v.children v.significant)).0 v.admitted;
+  admitted = admits_into (StandsIn (out-Tree t).children) library a b carry v.part.content v.children (all_kept t v.children v.significant) v.admitted;
 }
 
 -- so within levels enough for a tree more of them change nothing here either
-valid_more : (m n : ℕ) (library : Library) (t : Tree) (ident : List ℕ) → depth t ≤ m → depth t ≤ n → IsValidWithin m library t ident ↔ IsValidWithin n library t ident
-valid_more zero n library t ident h k = let d = depth_is t in absurd (omega arith)
+valid_more : (m n : ℕ) (library : Library) (t : Tree) (ident : List ℕ) → depth t ≤ m → depth t ≤ n → IsValidWithin m library t ident → IsValidWithin n library t ident
+valid_more zero n library t ident h k = λ v. absurd v
 valid_more (suc m) zero library t ident h k = let d = depth_is t in absurd (omega arith)
-valid_more (suc m) (suc n) library t ident h k =
-    let agree = λ (u : Tree) (l : Label) (s : StandsIn (out-Tree t).children (Element u)).
+valid_more (suc m) (suc n) library t ident h k = valid_on _ _ library t ident (λ u l s.
     let less : depth u < depth t = child_less t u s in
-    counting_same (IsValidWithin m library) (IsValidWithin n library) u (λ word. valid_more m n library u word (omega arith) (omega arith)) l in
-    (valid_on _ _ library t ident agree, valid_on _ _ library t ident (λ u l s. ((agree u l s).1, (agree u l s).0)))
+    counting_into (IsValidWithin m library) (IsValidWithin n library) u (λ word. valid_more m n library u word (omega arith) (omega arith)) l)
 
 -- and for validity
 pub valid_enough : (n : ℕ) (library : Library) (t : Tree) (ident : List ℕ) → depth t ≤ n → IsValidWithin n library t ident ↔ IsValid library t ident
-valid_enough n library t ident h = valid_more n (depth t) library t ident h (omega arith)
+valid_enough n library t ident h = (valid_more n (depth t) library t ident h (omega arith), valid_more (depth t) n library t ident (omega arith) h)

@@ -4,6 +4,7 @@ pub mod ContentLaw
 pub mod Correct
 pub mod HeldDefines
 pub mod Joining
+pub mod LeastMacros
 pub mod Levels
 pub mod MacroLaw
 pub mod Pieces

@@ -46,10 +46,13 @@ module _ {C : Type 0} (Q : C → Type 0) where
   pub trans : {P R S : List C → Type 0} → Same P R → Same R S → Same P S
   trans a b w q = (λ h. (b w q).0 ((a w q).0 h), λ h. (a w q).1 ((b w q).1 h))
 
+  -- the other holds what one does
+  abbrev pub Into : (List C → Type 0) → (List C → Type 0) → Type 0
+  Into P R = (w : List C) → All Q w → P w → R w
+
   -- a split of the list, piece by piece
-  then_to : {P P' R R' : List C → Type 0} → ((w : List C) → All Q w → P w → P' w) → ((w : List C) → All Q w → R w → R' w)
-      → (w : List C) → All Q w → Then P R w → Then P' R' w
-  then_to a b w q h =
+  pub then_into : {P P' R R' : List C → Type 0} → Into P P' → Into R R' → Into (Then P R) (Then P' R')
+  then_into a b w q h =
       let both : All Q (h.left ++ h.right) = subst (All Q) h.split q in
       record {
         left = h.left;
@@ -61,14 +64,15 @@ module _ {C : Type 0} (Q : C → Type 0) where
 
   -- a piece and a rest that are the same
   pub then_same : {P P' R R' : List C → Type 0} → Same P P' → Same R R' → Same (Then P R) (Then P' R')
-  then_same a b w q = (then_to (λ v s. (a v s).0) (λ v s. (b v s).0) w q, then_to (λ v s. (a v s).1) (λ v s. (b v s).1) w q)
+  then_same a b w q = (then_into (λ v s. (a v s).0) (λ v s. (b v s).0) w q, then_into (λ v s. (a v s).1) (λ v s. (b v s).1) w q)
+
+  -- one of two
+  pub or_into : {P P' R R' : List C → Type 0} → Into P P' → Into R R' → Into (λ w. P w ⊎ R w) (λ w. P' w ⊎ R' w)
+  or_into a b w q h = elim h [ inl x ↦ inl (a w q x) | inr y ↦ inr (b w q y) ]
 
   -- one of two that are the same
   pub or_same : {P P' R R' : List C → Type 0} → Same P P' → Same R R' → Same (λ w. P w ⊎ R w) (λ w. P' w ⊎ R' w)
-  or_same a b w q = (
-    λ h. elim h [ inl x ↦ inl ((a w q).0 x) | inr y ↦ inr ((b w q).0 y) ],
-    λ h. elim h [ inl x ↦ inl ((a w q).1 x) | inr y ↦ inr ((b w q).1 y) ],
-  )
+  or_same a b w q = (or_into (λ v s. (a v s).0) (λ v s. (b v s).0) w q, or_into (λ v s. (a v s).1) (λ v s. (b v s).1) w q)
 
   -- one piece, and nothing after it
   pub then_end : (P : List C → Type 0) → Same P (Then P (λ w. w ≡ []))
@@ -77,17 +81,18 @@ module _ {C : Type 0} (Q : C → Type 0) where
     λ h. subst P (sym (h.split ∙ ap (λ r. h.left ++ r) h.second ∙ append-nil h.left)) h.first,
   )
 
-  -- so many pieces that are the same
-  pieces_same : {P R : List C → Type 0} → Same P R → (n : ℕ) → Same (Pieces P n) (Pieces R n)
-  pieces_same a zero = same _
-  pieces_same a (suc n) = then_same a (pieces_same a n)
+  -- so many pieces
+  pieces_into : {P R : List C → Type 0} → Into P R → (n : ℕ) → Into (Pieces P n) (Pieces R n)
+  pieces_into a zero = λ w q h. h
+  pieces_into a (suc n) = then_into a (pieces_into a n)
+
+  -- an allowed number of pieces
+  pub counted_into : {Allowed : ℕ → Type 0} {P R : List C → Type 0} → Into P R → Into (Counted Allowed P) (Counted Allowed R)
+  counted_into a w q h = record { count = h.count; allowed = h.allowed; pieces = pieces_into a h.count w q h.pieces }
 
   -- a number of pieces that are the same
   pub counted_same : {Allowed : ℕ → Type 0} {P R : List C → Type 0} → Same P R → Same (Counted Allowed P) (Counted Allowed R)
-  counted_same a w q = (
-    λ h. record { count = h.count; allowed = h.allowed; pieces = (pieces_same a h.count w q).0 h.pieces },
-    λ h. record { count = h.count; allowed = h.allowed; pieces = (pieces_same a h.count w q).1 h.pieces },
-  )
+  counted_same a w q = (counted_into (λ v s. (a v s).0) w q, counted_into (λ v s. (a v s).1) w q)
 
   -- the same numbers of pieces
   pub counts_same : {A B : ℕ → Type 0} {P : List C → Type 0} → ((n : ℕ) → A n ↔ B n) → Same (Counted A P) (Counted B P)

@@ -1,5 +1,5 @@
--- A content admits, and a pattern matches, the same lists under two markings for which the same children count.
-use Rattle.std.proofs.Common.{◌≡◌, ◌↔◌, ℕ, zero, suc, List, [], ◌∷◌, ◌++◌, length, sym, subst}
+-- What a content admits, and a pattern matches, under one marking it does under another for which the same children count, or more of them.
+use Rattle.std.proofs.Common.{◌≡◌, ℕ, zero, suc, List, [], ◌∷◌, ◌++◌, length, sym, subst}
 use Rattle.std.specs.Prelude.{All}
 use Rattle.std.proofs.lemmas.List.Elements.{All-head}
 use Rattle.odd_tree.proofs.InList.{stands_first}
@@ -12,66 +12,68 @@ use Rattle.odd_content.specs.declared.content.Pick.{Pick}
 use Rattle.odd_library.specs.declared.library.Library.{Library}
 use Rattle.odd_meaning.specs.Contents.{Admits, AdmitsBy, ByOne, InOrder, IsOfMacro, IsOne, IsOneMember, MacroAdmits, Macros}
 use Rattle.odd_meaning.specs.Labels.{Label, element, condition}
+use Rattle.odd_meaning.specs.Links.{macro_key, named_in, named_in_parts}
+use Rattle.odd_text.specs.declared.key.Key.{Key}
 use Rattle.rng_patterns.specs.Patterns as patterns
 use Rattle.rng_patterns.specs.Patterns.{AreMatched, IsMatched, IsRepeated}
 use Rattle.rng_patterns.specs.declared.grammar.Expr.{Expr}
 use Rattle.rng_patterns.specs.declared.grammar.Grammar.{Grammar}
-use Rattle.compile_laws.proofs.Pieces.{Same, counted_same, or_same, same, then_same}
+use Rattle.compile_laws.proofs.Pieces.{Into, counted_into, or_into, then_into}
 use Rattle.compile_contents.proofs.Standing.{stands_left, stands_right}
 
 -- what holds of each of a list of one element holds of that
 pub alone_is : (Q : Node → Type 0) (t : Tree) (children : List Node) → children ≡ AnElement t ∷ [] → All Q children → Q (AnElement t)
 alone_is Q t children e q = All-head Q (AnElement t) [] (subst (All Q) e q)
 
-module _ (Q : Node → Type 0) (library : Library) (a b : Marking Label) (agree : (t : Tree) (l : Label) → Q (AnElement t) → a t l ↔ b t l) where
+module _ (Q : Node → Type 0) (library : Library) (a b : Marking Label) (carry : (t : Tree) (l : Label) → Q (AnElement t) → a t l → b t l) where
   -- one element that counts for a label
-  one_same : (l : Label) → Same Q (IsOne a l) (IsOne b l)
-  one_same l w q = (
-    λ o. record { tree = o.tree; alone = o.alone; counted = (agree o.tree l (alone_is Q o.tree w o.alone q)).0 o.counted },
-    λ o. record { tree = o.tree; alone = o.alone; counted = (agree o.tree l (alone_is Q o.tree w o.alone q)).1 o.counted },
-  )
+  one_into : (l : Label) → Into Q (IsOne a l) (IsOne b l)
+  one_into l w q o = record { tree = o.tree; alone = o.alone; counted = carry o.tree l (alone_is Q o.tree w o.alone q) o.counted }
 
   -- one that counts for a member of a class
-  member_same : (key : List ℕ) (p : Pick) → Same Q (IsOneMember library a key p) (IsOneMember library b key p)
-  member_same key p w q = (
-    λ o. record { ident = o.ident; member = o.member; picked = o.picked; one = (one_same (element o.ident) w q).0 o.one },
-    λ o. record { ident = o.ident; member = o.member; picked = o.picked; one = (one_same (element o.ident) w q).1 o.one },
-  )
+  member_into : (key : List ℕ) (p : Pick) → Into Q (IsOneMember library a key p) (IsOneMember library b key p)
+  member_into key p w q o = record { ident = o.ident; member = o.member; picked = o.picked; one = one_into (element o.ident) w q o.one }
 
-  module _ (some others : Macros) (macros_agree : (key : List ℕ) → Same Q (some key) (others key)) where
+  module _ (some others : Macros) where
+    -- what the macros of these keys admit by some, they admit by others
+    abbrev AreCarried : List Key → Type 0
+    AreCarried keys = (ident : List ℕ) → StandsIn keys (macro_key ident) → Into Q (some ident) (others ident)
+
     mutual
-      -- one content, where macros agree
-      content_same : (k : Content) → Same Q (AdmitsBy some library a k) (AdmitsBy others library b k)
-      content_same Empty = same Q _
-      content_same Text = same Q _
-      content_same (Element key bounds) = counted_same Q (one_same (element key))
-      content_same (Class key p bounds) = counted_same Q (member_same key p)
-      content_same (Macro key bounds) = counted_same Q (macros_agree key)
-      content_same (Any c bounds) = counted_same Q (one_same (condition c))
-      content_same (Sequence' shape parts bounds) = counted_same Q (in_order_same parts)
-      content_same (Alternate' shape parts bounds) = counted_same Q (by_one_same parts)
+      -- one content, where the macros that it names are carried
+      pub content_into : (k : Content) → AreCarried (named_in k) → Into Q (AdmitsBy some library a k) (AdmitsBy others library b k)
+      content_into Empty macros = λ w q h. h
+      content_into Text macros = λ w q h. h
+      content_into (Element key bounds) macros = counted_into Q (one_into (element key))
+      content_into (Class key p bounds) macros = counted_into Q (member_into key p)
+      content_into (Macro key bounds) macros = counted_into Q (macros key (stands_first (macro_key key) []))
+      content_into (Any c bounds) macros = counted_into Q (one_into (condition c))
+      content_into (Sequence' shape parts bounds) macros = counted_into Q (in_order_into parts macros)
+      content_into (Alternate' shape parts bounds) macros = counted_into Q (by_one_into parts macros)
 
       -- the parts of a sequence
-      in_order_same : {n : _} (parts : Row_of-Content n) → Same Q (InOrder some library a parts) (InOrder others library b parts)
-      in_order_same end_of-Content = same Q _
-      in_order_same (more_of-Content part parts) = then_same Q (content_same part) (in_order_same parts)
+      in_order_into : {n : _} (parts : Row_of-Content n) → AreCarried (named_in_parts parts) → Into Q (InOrder some library a parts) (InOrder others library b parts)
+      in_order_into end_of-Content macros = λ w q h. h
+      in_order_into (more_of-Content part parts) macros =
+          then_into Q (content_into part (λ ident s. macros ident (stands_left (named_in part) (named_in_parts parts) (macro_key ident) s)))
+          (in_order_into parts (λ ident s. macros ident (stands_right (named_in part) (named_in_parts parts) (macro_key ident) s)))
 
       -- the parts of an alternate
-      by_one_same : {n : _} (parts : Row_of-Content n) → Same Q (ByOne some library a parts) (ByOne others library b parts)
-      by_one_same end_of-Content = same Q _
-      by_one_same (more_of-Content part parts) = or_same Q (content_same part) (by_one_same parts)
+      by_one_into : {n : _} (parts : Row_of-Content n) → AreCarried (named_in_parts parts) → Into Q (ByOne some library a parts) (ByOne others library b parts)
+      by_one_into end_of-Content macros = λ w q h. h
+      by_one_into (more_of-Content part parts) macros =
+          or_into Q (content_into part (λ ident s. macros ident (stands_left (named_in part) (named_in_parts parts) (macro_key ident) s)))
+          (by_one_into parts (λ ident s. macros ident (stands_right (named_in part) (named_in_parts parts) (macro_key ident) s)))
 
   -- one macro, down to so many in one another
-  macro_same : (levels : ℕ) (key : List ℕ) → Same Q (MacroAdmits levels library a key) (MacroAdmits levels library b key)
-  macro_same zero key w q = (λ h. h, λ h. h)
-  macro_same (suc levels) key w q = (
-    λ h. (h.0, h.1, (content_same (MacroAdmits levels library a) (MacroAdmits levels library b) (macro_same levels) h.0.content w q).0 h.2),
-    λ h. (h.0, h.1, (content_same (MacroAdmits levels library a) (MacroAdmits levels library b) (macro_same levels) h.0.content w q).1 h.2),
-  )
+  macro_into : (levels : ℕ) (ident : List ℕ) → Into Q (MacroAdmits levels library a ident) (MacroAdmits levels library b ident)
+  macro_into zero ident w q h = h
+  macro_into (suc levels) ident w q h =
+      (h.0, h.1, content_into (MacroAdmits levels library a) (MacroAdmits levels library b) h.0.content (λ other s. macro_into levels other) w q h.2)
 
   -- so one content
-  pub admits_same : (k : Content) → Same Q (Admits library a k) (Admits library b k)
-  admits_same = content_same (IsOfMacro library a) (IsOfMacro library b) (macro_same (length library.parts))
+  pub admits_into : (k : Content) → Into Q (Admits library a k) (Admits library b k)
+  admits_into k = content_into (IsOfMacro library a) (IsOfMacro library b) k (λ ident s. macro_into (length library.parts) ident)
 
 -- what matches looks at the children alone
 module _ (g : Grammar) (a b : Marking (List ℕ)) where

@@ -1,10 +1,11 @@
 -- What is kept of the files of a chain that are read so far.
-use Rattle.std.specs.Prelude.{◌≡◌, ◌<◌, ◌^◌, ℕ, suc, List, ◌∷◌, ◌++◌, length}
+use Rattle.std.specs.Prelude.{◌≡◌, ◌<◌, ◌^◌, ℕ, suc, List, ◌∷◌, ◌++◌, length, All}
 use Rattle.odd_text.specs.declared.key.Key.{Key}
 use Rattle.odd_text.specs.declared.offence.Offence.{Offence}
 use Rattle.odd_text.specs.declared.offence.Who.TheVariants as who
 use Rattle.odd_tree.specs.declared.tree.Tree.{Tree}
 use Rattle.odd_decls.specs.Offences.{IsRefusal}
+use Rattle.odd_library.specs.Formed.{IsFormedDoc}
 use Rattle.odd_library.specs.declared.library.Library.{Library}
 use Rattle.odd_library.specs.declared.odd.OddDoc.{OddDoc}
 use Rattle.odd_meaning.specs.Rules.{Breaks, IsFirstBreak}
@@ -26,6 +27,12 @@ abbrev pub IsChainOf : Chain → List Tree → Type 0
 IsChainOf (chain.Whole docs) trees = AreDeclared trees docs
 IsChainOf (chain.Broken docs offence) trees = IsBrokenAfter trees docs offence
 IsChainOf (chain.Pending file) trees = IsFirstPending trees file
+
+-- each doc of a chain without an offence of form is formed
+abbrev pub AreFormedDocs : Chain → Type 0
+AreFormedDocs (chain.Whole docs) = All IsFormedDoc docs
+AreFormedDocs (chain.Broken docs offence) = Unit {0}
+AreFormedDocs (chain.Pending file) = Unit {0}
 
 -- the docs of a chain, fewer than a file's number can tell
 abbrev pub HasFewDocs : Chain → Type 0

@@ -1,12 +1,13 @@
-ghost use Rattle.std.specs.Prelude.{◌≡◌, ◌≢◌, ◌<◌, ◌^◌, ℕ, suc, List, [], ◌∷◌, ◌++◌, length, Err, IfOk, IsOk};
+ghost use Rattle.std.specs.Prelude.{◌≡◌, ◌≢◌, ◌<◌, ◌^◌, ℕ, suc, List, [], ◌∷◌, ◌++◌, length, All, Err, IfOk, IsOk};
 ghost use Rattle.odd_text.specs.declared.key.Key.{Key as AKey};
 ghost use Rattle.odd_text.specs.declared.offence.Offence.{Offence as AnOffence};
+ghost use Rattle.odd_library.specs.Formed.{IsFormedDoc, IsFormedLibrary};
 ghost use Rattle.odd_meaning.specs.Rules.{Breaks};
 ghost use Rattle.odd_modes.specs.After.{IsLibraryAfter};
 ghost use Rattle.odd_chain.specs.Files.{AreAllRead, AreDeclared, Gives, IsChainRefusal, IsFirstPending};
 ghost use Rattle.odd_chain.specs.Offences.{OffendsIn};
 ghost use Rattle.odd_chain.specs.Order.{IsFirst, Position};
-ghost use Rattle.odd_chain.specs.Reading.{HasFewDocs, IsBrokenAfter, IsChainOf};
+ghost use Rattle.odd_chain.specs.Reading.{AreFormedDocs, HasFewDocs, IsBrokenAfter, IsChainOf};
 ghost use Rattle.odd_tree.specs.Formed.{IsFormed};
 ghost use Rattle.odd_tree.specs.declared.tree.Tree.{Tree as ATree};
 
@@ -41,7 +42,8 @@ pub enum ChainRefusal {
 impl Chain {
     /// The chain of no file.
     pub fn new(alloc: Global) -> Chain
-        ensures { IsChainOf result [] }
+        ensures empty { IsChainOf result [] }
+        ensures formed { AreFormedDocs result }
     {
         Chain::Whole {
             docs: OddDocs::new(alloc),
@@ -51,7 +53,8 @@ impl Chain {
     /// The chain with one file more, of which this is the tree, a formed one as `spell` gives it. `file` is its number: one
     /// more than there are files so far. The only error is NoMemory, for want of memory.
     pub fn with(self, alloc: Global, tree: &Tree, file: u32) -> Result<Chain, NoMemory>
-        ensures { IfOk result (λ made. (trees : List ATree) (first end : ℕ) → IsFormed first end tree.now → IsChainOf self trees → file ≡ suc (length trees) → IsChainOf made (trees ++ tree.now ∷ [])) }
+        ensures chain { IfOk result (λ made. (trees : List ATree) (first end : ℕ) → IsFormed first end tree.now → IsChainOf self trees → file ≡ suc (length trees) → IsChainOf made (trees ++ tree.now ∷ [])) }
+        ensures formed { (first end : ℕ) → IsFormed first end tree.now → AreFormedDocs self → IfOk result AreFormedDocs }
     {
         match self {
             Chain::Whole { docs } => whole_with(alloc, docs, tree, file),
@@ -67,6 +70,7 @@ impl Chain {
     pub fn library(self, alloc: Global) -> Result<Library, ChainRefusal>
         requires { HasFewDocs self }
         ensures library { IfOk result (λ library. (trees : List ATree) → IsChainOf self trees → Gives trees library) }
+        ensures formed { AreFormedDocs self → IfOk result IsFormedLibrary }
         ensures not_yet { (file : ℕ) → result ≡ Err (ChainRefusal.NotYet file) → (trees : List ATree) → IsChainOf self trees → IsFirstPending trees file }
         ensures all_read { (offence : AnOffence) → result ≡ Err (ChainRefusal.Offence offence) → (trees : List ATree) → IsChainOf self trees → AreAllRead trees }
         ensures offence { (offence : AnOffence) → result ≡ Err (ChainRefusal.Offence offence) → (trees : List ATree) → IsChainOf self trees → IsChainRefusal trees offence }
@@ -85,7 +89,8 @@ impl Chain {
 
 // The chain of files that each declare a doc, with one file more.
 fn whole_with(alloc: Global, mut docs: OddDocs, tree: &Tree, file: u32) -> Result<Chain, NoMemory>
-    ensures { IfOk result (λ made. (trees : List ATree) (first end : ℕ) → IsFormed first end tree.now → AreDeclared trees docs → file ≡ suc (length trees) → IsChainOf made (trees ++ tree.now ∷ [])) }
+    ensures chain { IfOk result (λ made. (trees : List ATree) (first end : ℕ) → IsFormed first end tree.now → AreDeclared trees docs → file ≡ suc (length trees) → IsChainOf made (trees ++ tree.now ∷ [])) }
+    ensures formed { (first end : ℕ) → IsFormed first end tree.now → All IsFormedDoc docs → IfOk result AreFormedDocs }
 {
     match read_odd(alloc, tree, file, false) {
         Ok(doc) => {
@@ -106,7 +111,8 @@ fn broken_with(
     tree: &Tree,
     file: u32,
 ) -> Result<Chain, NoMemory>
-    ensures { IfOk result (λ made. (trees : List ATree) (first end : ℕ) → IsFormed first end tree.now → IsBrokenAfter trees docs offence → file ≡ suc (length trees) → IsChainOf made (trees ++ tree.now ∷ [])) }
+    ensures chain { IfOk result (λ made. (trees : List ATree) (first end : ℕ) → IsFormed first end tree.now → IsBrokenAfter trees docs offence → file ≡ suc (length trees) → IsChainOf made (trees ++ tree.now ∷ [])) }
+    ensures formed { IfOk result AreFormedDocs }
 {
     match read_odd(alloc, tree, file, false) {
         Ok(_) => Ok(Chain::Broken { docs, offence }),
@@ -120,6 +126,7 @@ fn broken_with(
 fn merged(alloc: Global, docs: &OddDocs) -> Result<Library, ChainRefusal>
     requires { length docs.now < 2 ^ 32 }
     ensures library { IfOk result (IsLibraryAfter docs.now) }
+    ensures formed { All IsFormedDoc docs.now → IfOk result IsFormedLibrary }
     ensures sound { IsOk result → (file : ℕ) (at : Position) → OffendsIn docs.now file at → ⊥ }
     ensures offence { (offence : AnOffence) → result ≡ Err (ChainRefusal.Offence offence) → IsFirst (OffendsIn docs.now) offence }
     ensures read { (file : ℕ) → result ≢ Err (ChainRefusal.NotYet file) }

@@ -1,6 +1,7 @@
-ghost use Rattle.std.specs.Prelude.{◌≡◌, ◌≢◌, ◌<◌, ◌^◌, ℕ, length, Err, IfOk, IsOk};
+ghost use Rattle.std.specs.Prelude.{◌≡◌, ◌≢◌, ◌<◌, ◌^◌, ℕ, length, All, Err, IfOk, IsOk};
 ghost use Rattle.odd_text.specs.declared.key.Key.{Key as AKey};
 ghost use Rattle.odd_text.specs.declared.offence.Offence.{Offence as AnOffence};
+ghost use Rattle.odd_library.specs.Formed.{IsFormedDoc, IsFormedLibrary};
 ghost use Rattle.odd_meaning.specs.Rules.{Breaks};
 ghost use Rattle.odd_modes.specs.After.{IsLibraryAfter};
 ghost use Rattle.odd_chain.specs.Offences.{OffendsIn};
@@ -23,6 +24,7 @@ pub type OddDocs = Seq<OddDoc>;
 pub fn merge(alloc: Global, docs: &OddDocs) -> Result<Library, OddRefusal>
     requires { length docs.now < 2 ^ 32 }
     ensures library { IfOk result (IsLibraryAfter docs.now) }
+    ensures formed { All IsFormedDoc docs.now → IfOk result IsFormedLibrary }
     ensures sound { IsOk result → (file : ℕ) (at : Position) → OffendsIn docs.now file at → ⊥ }
     ensures offence { (offence : AnOffence) → result ≡ Err (OddRefusal.Offence offence) → IsFirst (OffendsIn docs.now) offence }
     ensures read { result ≢ Err OddRefusal.NotYet }

@@ -1,24 +1,21 @@
 -- What words come to, from the files that they name, read one after another, to the reply.
-use Rattle.std.proofs.Common.{◌≡◌, ◌<◌, ◌+◌, ℕ, suc, List, [], ◌∷◌, ◌++◌, length, get_or, take, drop, Option, Some, Result, Ok, Err, ◌⊎◌, ⊎_elim, inl, inr, sym, ap, subst, ◌∙◌, add-one, arith, length-append, ◌≤◌, ◌-◌, refl}
+use Rattle.std.proofs.Common.{◌≡◌, ◌<◌, ◌+◌, ℕ, suc, List, [], ◌∷◌, ◌++◌, length, get_or, take, drop, Option, Some, Result, Ok, Err, ◌⊎◌, inl, inr, sym, ap, subst, ◌∙◌, add-one, arith, below_more, length-append, ◌≤◌, ◌-◌, ◌*◌, refl}
 use Rattle.std.proofs.lemmas.List.{length-take-le, take-append-drop}
+use Rattle.std.proofs.lemmas.Result.{IfErr-weaker, IfOk-weaker}
 use Rattle.std.specs.Prelude.{Bool, IfErr, IfOk, IsTrue, OnOk}
-use Rattle.compile_contents.proofs.Standing.{stands_either}
 use Rattle.odd_base.specs.Shelf.{FileMap, Held, LeavesSuffix, NotHeld}
 use Rattle.odd_chain.proofs.Files.{few_docs}
-use Rattle.odd_chain.specs.Reading.{IsChainOf, HasFewDocs}
+use Rattle.odd_chain.specs.Reading.{AreFormedDocs, IsChainOf, HasFewDocs}
 use Rattle.odd_chain.specs.declared.chain.Chain.{Chain}
-use Rattle.odd_reader.proofs.Formed.{spelled_formed}
 use Rattle.odd_text.specs.Count.{next_count}
-use Rattle.odd_tree.proofs.InList.{begins, ends, first_or_later, nothing_stands}
-use Rattle.odd_tree.specs.Elements.{StandsIn}
+use Rattle.odd_tree.proofs.InList.{begins, ends}
 use Rattle.odd_tree.specs.Formed.{IsFormed}
-use Rattle.odd_tree.specs.Spelled.{GivesTree}
 use Rattle.odd_tree.specs.declared.tree.Tree.{Tree}
-use Rattle.odd_cli.proofs.OneReply.{names_one, gives_each, read_absent, one_chain, words_one, never_done}
+use Rattle.odd_cli.proofs.OneReply.{names_one, none_stops, one_chain, words_one, never_done, sound_replies}
 use Rattle.odd_cli.specs.Outcome.{answers, gives}
-use Rattle.odd_cli.specs.Reading.{IsChainRead, IsOfFile, IsOfTrees, IsTreeRead, StopsAt, AreSpelled}
-use Rattle.odd_cli.specs.Reply.{FileGives, FileStops, GiveTrees, IsReached, ReadsChain, stops, NamesFiles, Reply, TreesComeTo, answered, chain_files, done, WordsComeTo, all_spelled}
-use Rattle.odd_cli.specs.Running.{BeginsFiles, IsFaultPlace, IsReplied, counted, AcceptsOfTrees, AcceptsOfWords, IsReadPlace, IsComplete, IsSilent}
+use Rattle.odd_cli.specs.Reading.{IsChainRead, IsOfFile, IsOfTrees, IsTreeRead, StopsAt}
+use Rattle.odd_cli.specs.Reply.{FileGives, FileStops, GiveTrees, IsReached, ReadsChain, stops, NamesFiles, Reply, TreesComeTo, answered, chain_files, done, file_bytes, WordsComeTo}
+use Rattle.odd_cli.specs.Running.{AreBegun, AreReadWhole, BeginsFiles, GoesOn, IsFaultPlace, IsReplied, counted, AcceptsOfTrees, AcceptsOfWords, IsReadPlace, IsComplete, IsSilent, IsSound}
 use Rattle.odd_cli.specs.Words.{Compiles, WordsMean, compile}
 use Rattle.odd_cli.specs.declared.status.LimitKind.TheVariants as limit
 use Rattle.odd_cli.specs.declared.status.Status.{Status}
@@ -39,13 +36,12 @@ module _ (holds : Option FileMap) (names : List (List ℕ)) (i : ℕ) (name : Li
   -- a chain with the tree of the next file
   pub chain_with : (tree : Tree) (chain made : Chain) → IsChainRead holds (take i names) chain → IsTreeRead holds name tree
       → ((trees : List Tree) (first end : ℕ) → IsFormed first end tree → IsChainOf chain trees → suc i ≡ suc (length trees) → IsChainOf made (trees ++ tree ∷ []))
-      → IsChainRead holds (take (i + 1) names) made
-  chain_with tree chain made r t with_one = record {
+      → ((first end : ℕ) → IsFormed first end tree → AreFormedDocs chain → AreFormedDocs made) → IsChainRead holds (take (i + 1) names) made
+  chain_with tree chain made r t with_one stay = record {
     trees = r.trees ++ tree ∷ [];
-    is_chain = with_one r.trees 0 (length t.bytes) (spelled_formed t.bytes tree t.given.spelled) r.is_chain (ap suc (sym (read_so_far r)));
+    is_chain = with_one r.trees 0 (length t.bytes) t.formed r.is_chain (ap suc (sym (read_so_far r)));
     many = length-append r.trees (tree ∷ []) ∙ ap (λ n. n + 1) r.many ∙ sym (ap length names_more ∙ length-append (take i names) (name ∷ []));
-    spelled = λ u s. ⊎_elim (r.spelled u) (λ h. ⊎_elim (λ e. (t.bytes, subst (GivesTree t.bytes) (sym e) t.given)) (λ n. absurd (nothing_stands u n)) (first_or_later tree u [] h))
-        (stands_either r.trees (tree ∷ []) u s);
+    formed = stay 0 (length t.bytes) t.formed r.formed;
     given = λ files h. subst (λ ns. GiveTrees files ns (r.trees ++ tree ∷ [])) (sym names_more)
         (one_more files name tree (r.given files h) (record { bytes = t.bytes; is_read = record { held = t.held files h; within = t.within }; given = t.given }));
   }
@@ -77,12 +73,9 @@ module _ (holds : Option FileMap) (names : List (List ℕ)) (i : ℕ) (name : Li
   faults_next chain files number rest steady h r e suffix absent =
       record { name = name; reached = subst (λ n. IsReached files names n name) (sym e) (next_reached files h r); suffix = suffix; not_held = absent }
 
--- what is said of a tree that was read, and of a read that gave one
+-- what is said of a tree that was read
 pub tree_read : (h k : Option FileMap) (name : List ℕ) (read : Result Tree Status) (tree : Tree) → h ≡ k → read ≡ Ok tree → IfOk read (IsTreeRead h name) → IsTreeRead k name tree
 tree_read h k name read tree e is t = subst (λ x. IsTreeRead x name tree) e (subst (λ (x : Result Tree Status). IfOk x (IsTreeRead h name)) is t)
-
-pub on_read : (read : Result Tree Status) (tree : Tree) (P : Type 0) → read ≡ Ok tree → OnOk read P → P
-on_read read tree P is h = subst (λ (x : Result Tree Status). OnOk x P) is h
 
 -- a fault of reading is the file's own
 pub own_fault : (read : Result Tree Status) (s : Status) (file number : ℕ) → IfErr read (IsOfFile file) → (read ≡ Err s) ⊎ (s ≡ status.NoMemory) → s ≡ status.ReadFault number
@@ -103,35 +96,38 @@ of_next read s file of (inr e) = subst (IsOfFile file) (sym e) tt
 pub next_counted : (old count : ℕ) → next_count (counted old count) ≡ counted old (count + 1)
 next_counted old count = ap (counted old) (sym (add-one count))
 
--- How many files are begun
+-- a file that stops the chain is the last that is begun
+stopped_begun : (files file : ℕ) (s : Status) → file ≤ files → IsOfFile file s → AreBegun s files file
+stopped_begun files file (status.ReadFault number) within of = sym of
+stopped_begun files file (status.NotXml number at) within of = sym of
+stopped_begun files file (status.Limit (limit.Bytes number)) within of = sym of
+stopped_begun files file (status.Limit (limit.Depth number at)) within of = sym of
+stopped_begun files file status.NoMemory within of = within
+stopped_begun files file s within of = absurd of
 
-pub stopped_begins : (files : ℕ) (s : Status) (old new : ℕ) → StopsAt files s old new → BeginsFiles s files old new
-stopped_begins files (status.ReadFault file) old new a = a.3 ∙ ap (counted old) (sym a.2)
-stopped_begins files (status.NotXml file at) old new a = a.3 ∙ ap (counted old) (sym a.2)
-stopped_begins files (status.Limit (limit.Bytes file)) old new a = a.3 ∙ ap (counted old) (sym a.2)
-stopped_begins files (status.Limit (limit.Depth file at)) old new a = a.3 ∙ ap (counted old) (sym a.2)
-stopped_begins files status.NoMemory old new a = (a.0, a.1, a.3)
-stopped_begins files status.Done old new a = absurd a.2
-stopped_begins files (status.Refused offence) old new a = absurd a.2
-stopped_begins files status.Usage old new a = absurd a.2
-stopped_begins files (status.Limit limit.Files) old new a = absurd a.2
-stopped_begins files (status.Limit limit.Nodes) old new a = absurd a.2
-stopped_begins files status.WriteFault old new a = absurd a.2
-stopped_begins files (status.NotYet file) old new a = absurd a.2
+-- where each gives its tree, all are begun
+all_begun : (files : ℕ) (s : Status) → IsOfTrees s → AreBegun s files files
+all_begun files (status.Refused offence) of = refl
+all_begun files (status.NotYet file) of = refl
+all_begun files (status.Limit limit.Nodes) of = refl
+all_begun files status.NoMemory of = omega arith
+all_begun files s of = absurd of
 
-pub all_begun : (files : ℕ) (s : Status) (old new : ℕ) → IsOfTrees s → new ≡ counted old files → BeginsFiles s files old new
-all_begun files (status.Refused offence) old new is e = e
-all_begun files (status.NotYet file) old new is e = e
-all_begun files (status.Limit limit.Nodes) old new is e = e
-all_begun files status.NoMemory old new is e = (files, omega arith, e)
-all_begun files (status.ReadFault file) old new is e = absurd is
-all_begun files (status.NotXml file at) old new is e = absurd is
-all_begun files (status.Limit (limit.Bytes file)) old new is e = absurd is
-all_begun files (status.Limit (limit.Depth file at)) old new is e = absurd is
-all_begun files (status.Limit limit.Files) old new is e = absurd is
-all_begun files status.Done old new is e = absurd is
-all_begun files status.Usage old new is e = absurd is
-all_begun files status.WriteFault old new is e = absurd is
+-- What reading leaves of a shelf
+module _ {S : Type 0} (holds : S → Option FileMap) (steady : S → Bool) (faults begins reads : S → ℕ) (rest : S → Option (List ℕ)) where
+  abbrev Goes : S → S → Type 0
+  Goes = GoesOn holds steady faults begins reads
+
+  pub goes_later : (old between new : S) → Goes old between → Goes between new → Goes old new
+  goes_later old between new p q = (q.0 ∙ p.0, q.1 ∙ p.1, omega (arith, p.2, q.2), omega (arith, p.3, q.3), omega (arith, p.4, q.4))
+
+  -- one file more is read whole
+  pub whole_more : (files : ℕ) (old between new : S) → AreReadWhole begins rest Goes files old between → Goes old between → Goes between new
+      → begins new ≡ counted (begins old) (files + 1) → rest new ≡ Some [] → AreReadWhole begins rest Goes (files + 1) old new
+  whole_more files old between new whole p q count ended file first last =
+      below_more (λ k. 1 ≤ k → (state : S) × (begins state ≡ counted (begins old) k) × (rest state ≡ Some []) × Goes old state × Goes state new) (files + 1)
+      (λ k below from. let at = whole k from (omega arith) in (at.0, at.1, at.2, at.3, goes_later at.0 between new at.4 q))
+      (λ from. (new, count, ended, goes_later old between new p q, (refl, refl, omega arith, omega arith, omega arith))) file (omega arith) first
 
 -- the files that words name: how many there are, and that they are those of the job
 module _ (words names : List (List ℕ)) where
@@ -169,26 +165,24 @@ module _ (holds : Option FileMap) (words names : List (List ℕ)) (chain : Chain
 
   pub text_comes : (files : FileMap) → holds ≡ Some files → (t : Result (List ℕ) Status) → IfOk t (λ text. (trees : List Tree) → IsChainOf chain trees → TreesComeTo trees (gives text))
       → IfOk t (λ text. Reply words files text status.Done)
-  text_comes files h (Ok text) come = done (names, n, (r.trees, ReadsChain.all_spelled (r.given files h), come r.trees r.is_chain))
-  text_comes files h (Err s) come = tt
+  text_comes files h t = IfOk-weaker t _ _ (λ text come. done (names, n, (r.trees, ReadsChain.all_spelled (r.given files h), come r.trees r.is_chain)))
 
   pub text_accepts : (files : FileMap) → holds ≡ Some files → (t : Result (List ℕ) Status)
-      → IfOk t (λ text. (trees : List Tree) → IsChainOf chain trees → AreSpelled trees → AcceptsOfTrees trees text) → IfOk t (AcceptsOfWords words files)
-  text_accepts files h (Ok text) accepts = record {
+      → IfOk t (λ text. (trees : List Tree) → IsChainOf chain trees → AcceptsOfTrees trees text) → IfOk t (AcceptsOfWords words files)
+  text_accepts files h t = IfOk-weaker t _ _ (λ text accepts. record {
     chain = names;
     compiles = named_compile words names n;
     within = named_few words names n;
     trees = r.trees;
     given = r.given files h;
-    right = accepts r.trees r.is_chain r.spelled;
-  }
-  text_accepts files h (Err s) accepts = tt
+    right = accepts r.trees r.is_chain;
+  })
 
   pub status_comes : (files : FileMap) → holds ≡ Some files → (t : Result (List ℕ) Status)
       → IfErr t (λ s. (trees : List Tree) → IsChainOf chain trees → length names ≡ length trees → IsReplied s → TreesComeTo trees (answers s))
       → IfErr t (λ s. IsReplied s → Reply words files [] s)
-  status_comes files h (Ok text) come = tt
-  status_comes files h (Err s) come = λ replied. answered (inr (names, n, inr (r.trees, ReadsChain.all_spelled (r.given files h), come r.trees r.is_chain (sym r.many) replied)))
+  status_comes files h t = IfErr-weaker t _ _
+      (λ s come replied. answered (inr (names, n, inr (r.trees, ReadsChain.all_spelled (r.given files h), come r.trees r.is_chain (sym r.many) replied))))
 
 -- a file of the chain that was not read
 pub fault_placed : (words names : List (List ℕ)) (files : FileMap) (number : ℕ) (rest : Option (List ℕ)) (steady : Bool) → NamesFiles words (gives names)
@@ -200,23 +194,21 @@ pub stop_comes : (files : FileMap) (words names : List (List ℕ)) (s : Status) 
     → IsReplied s → Reply words files [] s
 stop_comes files words names s n reads replied = answered (inr (names, n, inl (reads replied)))
 
--- What is said of the schema, whatever comes of it; and what its status is not
-
+-- what is said of the schema, whatever comes of it
 pub on_any : (r : Result (List ℕ) Status) (P : Type 0) → P → OnOk r P
 on_any (Ok text) P p = p
 on_any (Err s) P p = tt
 
-pub trees_not : (r : Result (List ℕ) Status) (s : Status) → (IsOfTrees s → ⊥) → IfErr r IsOfTrees → r ≡ Err s → ⊥
-trees_not r s never of e = never (subst (λ (x : Result (List ℕ) Status). IfErr x IsOfTrees) e of)
-
 -- How many files are begun
-module _ (words names : List (List ℕ)) (n : NamesFiles words (gives names)) (old new : ℕ) where
-  pub begun_on_err : (r : Result (List ℕ) Status) → new ≡ counted old (length names) → IfErr r IsOfTrees → IfErr r (λ s. BeginsFiles s (length words - 1) old new)
-  begun_on_err (Ok text) e of = tt
-  begun_on_err (Err s) e of = all_begun (length words - 1) s old new of (e ∙ ap (counted old) (named_many words names n))
+module _ (words names : List (List ℕ)) (n : NamesFiles words (gives names)) (begins_old begins_new reads_old reads_new : ℕ) where
+  pub begun_on_err : (r : Result (List ℕ) Status) → begins_new ≡ counted begins_old (length names) → reads_new ≤ reads_old + length names * (file_bytes + 1) → IfErr r IsOfTrees
+      → IfErr r (λ s. BeginsFiles s (length words - 1) begins_old begins_new reads_old reads_new)
+  begun_on_err r e few = IfErr-weaker r _ _ (λ s of. subst (λ files. BeginsFiles s files begins_old begins_new reads_old reads_new) (named_many words names n)
+      (record { begun = length names; are_begun = all_begun (length names) s of; count = e; few_reads = few }))
 
-  pub begun_stopped : (s : Status) → StopsAt (length names) s old new → BeginsFiles s (length words - 1) old new
-  begun_stopped s stop = subst (λ files. BeginsFiles s files old new) (named_many words names n) (stopped_begins (length names) s old new stop)
+  pub begun_stopped : (s : Status) → StopsAt (length names) s begins_old begins_new reads_old reads_new → BeginsFiles s (length words - 1) begins_old begins_new reads_old reads_new
+  begun_stopped s stop = subst (λ files. BeginsFiles s files begins_old begins_new reads_old reads_new) (named_many words names n)
+      (record { begun = stop.0; are_begun = stopped_begun (length names) stop.0 s stop.1 stop.2; count = stop.3; few_reads = stop.4 })
 
 -- the reply has one status
 pub one_status : (words : List (List ℕ)) (files : FileMap) (t u : List ℕ) (s r : Status) → Reply words files t s → Reply words files u r → s ≡ r
@@ -239,24 +231,19 @@ pub silent_text : (words : List (List ℕ)) (files : FileMap) (text : List ℕ) 
 silent_text words files text s silent (answered a) = refl
 silent_text words files text s silent (done a) = absurd silent
 
--- where there is a schema, a run ends with no status that writes nothing, but for one that the outside causes
-pub silent_complete : (words : List (List ℕ)) (files : FileMap) (text : List ℕ) (s : Status) → Reply words files text status.Done → IsSilent s
-    → (IsReplied s → Reply words files [] s) → ((file : ℕ) → s ≡ status.ReadFault file → ⊥) → IsComplete s
-silent_complete words files text status.NoMemory d silent reply read = inr refl
-silent_complete words files text (status.ReadFault file) d silent reply read = absurd (read file refl)
-silent_complete words files text status.WriteFault d silent reply read = absurd silent
-silent_complete words files text s d silent reply read = inl (one_status words files [] text s status.Done (reply tt) d)
+-- where words and files are sound, a run ends with no status that writes nothing, but for one that the outside causes
+pub silent_complete : (words : List (List ℕ)) (files : FileMap) (s : Status) → IsSound words files → IsSilent s → (IsReplied s → Reply words files [] s)
+    → ((file : ℕ) → s ≡ status.ReadFault file → ⊥) → IsComplete s
+silent_complete words files status.NoMemory sound silent reply read = inr refl
+silent_complete words files (status.ReadFault file) sound silent reply read = absurd (read file refl)
+silent_complete words files status.WriteFault sound silent reply read = absurd silent
+silent_complete words files s sound silent reply read = absurd (sound_replies words files [] s sound silent (reply tt))
 
--- the files of a chain that comes to trees are each held
-reached_held : (files : FileMap) (chain : List (List ℕ)) (trees : List Tree) (name : List ℕ) → ReadsChain files chain (gives trees) → StandsIn chain name → NotHeld files name → ⊥
-reached_held files chain trees name (all_spelled g) s absent =
-    let each = gives_each files chain trees name g s in read_absent files name each.1.bytes each.1.is_read absent
-
--- and over a steady shelf none of them fails to be read
-pub reads_steady : (words : List (List ℕ)) (files : FileMap) (text : List ℕ) (number : ℕ) (rest : Option (List ℕ)) (steady : Bool) → Reply words files text status.Done
+-- and over a steady shelf none of the files fails to be read, since each is held
+pub reads_steady : (words : List (List ℕ)) (files : FileMap) (number : ℕ) (rest : Option (List ℕ)) (steady : Bool) → IsSound words files
     → IsReadPlace words files number rest steady → IsTrue steady → ⊥
-reads_steady words files text number rest steady d p is =
-    let w = done_gives words files text d in
-    let chains = one_chain words p.chain w.0 p.compiles (named_compile words w.0 w.1) in
+reads_steady words files number rest steady sound p is =
+    let chains = one_chain words p.chain sound.chain p.compiles sound.compiles in
     let reached = p.place.reached in
-    reached_held files w.0 w.2.0 p.place.name w.2.1 (reached.earlier, reached.later, sym chains ∙ reached.parts) (p.place.not_held is)
+    none_stops files sound.chain sound.trees p.place.name number (status.ReadFault number) sound.given (reached.earlier, reached.later, sym chains ∙ reached.parts)
+    (FileStops.not_held (p.place.not_held is))

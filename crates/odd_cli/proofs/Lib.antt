@@ -1,6 +1,4 @@
 pub mod Answering
-pub mod BoundsOrdered
-pub mod Formed
-pub mod FormedParts
+pub mod Coming
 pub mod OneReply
 pub mod Saying

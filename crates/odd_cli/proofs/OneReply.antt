@@ -1,4 +1,4 @@
--- Each step of a reply has one outcome, and so have all of them one after another.
+-- Each step of a reply has one outcome, and so have all of them one after another; and where words and files are sound it is no status.
 use Rattle.std.proofs.Common.{◌≡◌, ℕ, List, [], ◌∷◌, ◌++◌, append_assoc, length, arith, refl, sym, ap, subst, subst₂, ◌∙◌, ⊎_elim, suc, inl, inr, ◌≤◌, ◌<◌}
 use Rattle.std.proofs.lemmas.Cmp.{nat_list_cmp_total}
 use Rattle.std.proofs.lemmas.List.{append_cancel_right}
@@ -6,6 +6,7 @@ use Rattle.std.proofs.lemmas.Option.{same_Some}
 use Rattle.std.specs.FinMap.{slice_cmp-IsAntisymmetric, nat_cmp-IsAntisymmetric}
 use Rattle.std.specs.Prelude.{codes}
 use Rattle.compile_core.proofs.OneGrammarOf.{one_grammar_of}
+use Rattle.compile_core.proofs.SchemaText.{one_schema_text}
 use Rattle.compile_core.specs.Schema.{HasLargeSchema, IsLeastMissing, IsSchema, IsTooLarge}
 use Rattle.compile_defines.specs.Compiled.{HoldsStart}
 use Rattle.odd_base.specs.Shelf.{FileMap, IsTooLong, NotHeld}
@@ -20,11 +21,11 @@ use Rattle.odd_tree.proofs.InList.{Stands, first_or_later, nothing_stands, stand
 use Rattle.odd_tree.specs.Elements.{StandsIn}
 use Rattle.odd_tree.specs.Spelled.{DepthPlace, IsNotXml, Spells}
 use Rattle.odd_tree.specs.declared.tree.Tree.{Tree}
-use Rattle.rng_emit.specs.Grammar.{grammar_text}
 use Rattle.rng_patterns.specs.declared.grammar.Grammar.{Grammar}
 use Rattle.odd_cli.specs.Outcome.{Outcome, Then, IsOne, answers, gives}
 use Rattle.odd_cli.specs.Reading.{IsOfFile, IsOfTrees}
-use Rattle.odd_cli.specs.Reply.{FileGives, FileStops, GiveTrees, IsReached, IsRead, file_bytes, more, none, not_held, not_xml, too_deep, too_long, HasSchema, Merges, NamesFiles, ReadsChain, ReadsForms, TreesComeTo, WordsComeTo, all_read, all_spelled, merged, named, no_job, not_yet, refused, schema, start_missing, start_offence, stops, too_large, too_many}
+use Rattle.odd_cli.specs.Reply.{FileGives, FileStops, GiveTrees, IsReached, IsRead, file_bytes, more, none, not_held, not_xml, too_deep, too_long, HasSchema, Merges, NamesFiles, ReadsChain, ReadsForms, Reply, TreesComeTo, WordsComeTo, all_read, all_spelled, answered, done, merged, named, no_job, not_yet, refused, schema, start_missing, start_offence, stops, too_large, too_many}
+use Rattle.odd_cli.specs.Running.{IsSilent, IsSound}
 use Rattle.odd_cli.specs.Words.{Compiles, WordsMean, compile}
 use Rattle.odd_cli.specs.declared.status.LimitKind.TheVariants as limit
 use Rattle.odd_cli.specs.declared.status.Status.{Status}
@@ -32,7 +33,7 @@ use Rattle.odd_cli.specs.declared.status.Status.TheVariants as status
 use Rattle.odd_cli.specs.declared.words.Job.{Job}
 
 -- a file that is read is held, and not too long
-pub read_absent : (files : FileMap) (name b : List ℕ) → IsRead files name b → NotHeld files name → ⊥
+read_absent : (files : FileMap) (name b : List ℕ) → IsRead files name b → NotHeld files name → ⊥
 read_absent files name b r absent = let held = r.held in cc
 
 read_long : (files : FileMap) (name b : List ℕ) → IsRead files name b → IsTooLong files name file_bytes → ⊥
@@ -83,7 +84,7 @@ module _ (files : FileMap) where
       λ i. one_tree h.bytes t u spelled h.given.spelled i ∷ one_trees names xs ys gs hs i
 
   -- each of the files gives one of them
-  pub gives_each : (names : List (List ℕ)) (ts : List Tree) (name : List ℕ) → GiveTrees files names ts → StandsIn names name → (t : Tree) × FileGives files name t
+  gives_each : (names : List (List ℕ)) (ts : List Tree) (name : List ℕ) → GiveTrees files names ts → StandsIn names name → (t : Tree) × FileGives files name t
   gives_each [] ts name none s = absurd (nothing_stands name s)
   gives_each (first ∷ names) ts name (more {tree = t} {trees = us} g gs) s =
       ⊎_elim (λ e. (t, subst (λ x. FileGives files x t) (sym e) g)) (λ later. gives_each names us name gs later) (first_or_later first name names s)
@@ -115,7 +116,7 @@ abbrev answer_of : {Y : Type 0} → Status → Outcome Y → Status
 answer_of other (answers s) = s
 answer_of other (gives y) = other
 
-module _ {X Y Z : Type 0} (R : X → Outcome Y → Type 0) (S : Y → Outcome Z → Type 0) (one : IsOne R) (other : IsOne S) where
+module _ {X Y Z : Type 0} (R : X → Outcome Y → Type 0) (S : Y → Outcome Z → Type 0) (one : IsOne R) where
   -- what is given is given once
   given_once : (x : X) (y z : Y) → R x (gives y) → R x (gives z) → y ≡ z
   given_once x y z r q = ap (given_of y) (one x (gives y) (gives z) r q)
@@ -124,19 +125,18 @@ module _ {X Y Z : Type 0} (R : X → Outcome Y → Type 0) (S : Y → Outcome Z 
   not_both : (x : X) (y : Y) (s : Status) → R x (gives y) → R x (answers s) → ⊥
   not_both x y s r q = let no = one x (gives y) (answers s) r q in cc
 
-  later_once : (x : X) (y z : Y) (o p : Outcome Z) → R x (gives y) → R x (gives z) → S y o → S z p → o ≡ p
-  later_once x y z o p r q s t = other z o p (subst (λ v. S v o) (given_once x y z r q) s) t
+  -- once something is given, all goes on from there
+  after : (x : X) (y : Y) (o : Outcome Z) → R x (gives y) → Then R S x o → S y o
+  after x y (answers s) r (inl q) = absurd (not_both x y s r q)
+  after x y (answers s) r (inr q) = subst (λ v. S v (answers s)) (given_once x q.0 y q.1 r) q.2
+  after x y (gives z) r q = subst (λ v. S v (gives z)) (given_once x q.0 y q.1 r) q.2
 
-  pub then_one : IsOne (Then R S)
-  then_one x (answers s) (answers t) (inl r) (inl q) = ap answers (ap (answer_of s) (one x (answers s) (answers t) r q))
-  then_one x (answers s) (answers t) (inl r) (inr q) = absurd (not_both x q.0 s q.1 r)
-  then_one x (answers s) (answers t) (inr r) (inl q) = absurd (not_both x r.0 t r.1 q)
-  then_one x (answers s) (answers t) (inr r) (inr q) = later_once x r.0 q.0 (answers s) (answers t) r.1 q.1 r.2 q.2
-  then_one x (answers s) (gives z) (inl r) q = absurd (not_both x q.0 s q.1 r)
-  then_one x (answers s) (gives z) (inr r) q = later_once x r.0 q.0 (answers s) (gives z) r.1 q.1 r.2 q.2
-  then_one x (gives z) (answers s) r (inl q) = absurd (not_both x r.0 s r.1 q)
-  then_one x (gives z) (answers s) r (inr q) = later_once x r.0 q.0 (gives z) (answers s) r.1 q.1 r.2 q.2
-  then_one x (gives z) (gives v) r q = later_once x r.0 q.0 (gives z) (gives v) r.1 q.1 r.2 q.2
+  then_one : IsOne S → IsOne (Then R S)
+  then_one other x (answers s) (answers t) (inl r) (inl q) = ap answers (ap (answer_of s) (one x (answers s) (answers t) r q))
+  then_one other x (answers s) (answers t) (inl r) (inr q) = absurd (not_both x q.0 s q.1 r)
+  then_one other x (answers s) (gives z) (inl r) q = absurd (not_both x q.0 s q.1 r)
+  then_one other x (answers s) p (inr r) q = other r.0 (answers s) p r.2 (after x r.0 p r.1 q)
+  then_one other x (gives z) p r q = other r.0 (gives z) p r.2 (after x r.0 p r.1 q)
 
 -- words name the files of one chain
 pub one_chain : (words f g : List (List ℕ)) → Compiles words f → Compiles words g → f ≡ g
@@ -205,7 +205,7 @@ schema_one : IsOne HasSchema
 schema_one l o p (too_large a) (too_large b) = refl
 schema_one l o p (too_large a) (schema g i e) = absurd (large_but l g a i)
 schema_one l o p (schema g i e) (too_large a) = absurd (large_but l g a i)
-schema_one l o p (schema g i e) (schema h j f) = ap gives (e ∙ ap grammar_text (one_grammar_of l l.start g h i.is_grammar j.is_grammar) ∙ sym f)
+schema_one l o p (schema g i e) (schema h j f) = ap gives (one_schema_text l l.start _ _ e f)
 
 pub trees_one : IsOne TreesComeTo
 trees_one = then_one ReadsForms (Then Merges HasSchema) forms_one (then_one Merges HasSchema merges_one schema_one)
@@ -236,3 +236,17 @@ of_words words files s of_none of_no (inr (chain, n, inr (trees, r, t))) = absur
 -- none is Done
 pub never_done : (words : List (List ℕ)) (files : FileMap) → WordsComeTo files words (answers status.Done) → ⊥
 never_done words files h = elim (of_words words files status.Done (λ number is. is) (λ is. is) h) [ ]
+
+-- merging the trees of sound files answers nothing
+merges_sound : (words : List (List ℕ)) (files : FileMap) (s : Status) (sound : IsSound words files) → Then Merges HasSchema sound.trees (answers s) → ⊥
+merges_sound words files s sound (inl (refused r)) = sound.unoffended _ r.at r.is_one
+merges_sound words files s sound (inl (start_missing word library g least)) = held_but library word least (sound.holds_start library g)
+merges_sound words files s sound (inr (library, merged g h, too_large l)) = sound.within library l.grammar g l.is_grammar l.too_large
+
+-- and neither does any step before it, so there is no reply that writes nothing
+pub sound_replies : (words : List (List ℕ)) (files : FileMap) (text : List ℕ) (s : Status) → IsSound words files → IsSilent s → Reply words files text s → ⊥
+sound_replies words files text s sound silent (done comes) = silent
+sound_replies words files text s sound silent (answered comes) =
+    let read = after NamesFiles (Then (ReadsChain files) TreesComeTo) names_one words sound.chain (answers s) (named sound.compiles sound.few) comes in
+    let trees = after (ReadsChain files) TreesComeTo (reading_one files) sound.chain sound.trees (answers s) (all_spelled sound.given) read in
+    merges_sound words files s sound (after ReadsForms (Then Merges HasSchema) forms_one sound.trees sound.trees (answers s) (all_read sound.all_read) trees)

@@ -1,11 +1,11 @@
 -- What the private functions of a run give: trees and chains that are read, and why there is none.
-use Rattle.std.specs.Prelude.{◌≡◌, ◌≤◌, ℕ, List, Option, Some, length}
+use Rattle.std.specs.Prelude.{◌≡◌, ◌≤◌, ◌+◌, ◌*◌, ℕ, List, Option, Some, length}
 use Rattle.odd_base.specs.Shelf.{FileMap, Held}
 use Rattle.odd_library.specs.declared.library.Library.{Library}
-use Rattle.odd_tree.specs.Elements.{StandsIn}
+use Rattle.odd_tree.specs.Formed.{IsFormed}
 use Rattle.odd_tree.specs.Spelled.{GivesTree}
 use Rattle.odd_tree.specs.declared.tree.Tree.{Tree}
-use Rattle.odd_chain.specs.Reading.{IsChainOf}
+use Rattle.odd_chain.specs.Reading.{AreFormedDocs, IsChainOf}
 use Rattle.odd_chain.specs.declared.chain.Chain.{Chain}
 use Rattle.compile_core.specs.Schema.{HasLargeSchema, IsLeastMissing}
 use Rattle.odd_cli.specs.declared.status.LimitKind.TheVariants as limit
@@ -19,18 +19,15 @@ pub record IsTreeRead (holds : Option FileMap) (name : List ℕ) (tree : Tree) :
   pub bytes : List ℕ
   pub within : length bytes ≤ file_bytes
   pub given : GivesTree bytes tree
+  pub formed : IsFormed 0 (length bytes) tree
   pub held : (files : FileMap) → holds ≡ Some files → Held files name bytes
-
--- each tree is that of a file's bytes
-abbrev pub AreSpelled : List Tree → Type 0
-AreSpelled trees = (tree : Tree) → StandsIn trees tree → (bytes : List ℕ) × GivesTree bytes tree
 
 -- The chain is that of trees, one for each name, and of the files of these names where the shelf tells what it holds.
 pub record IsChainRead (holds : Option FileMap) (names : List (List ℕ)) (chain : Chain) : Type 0 where
   pub trees : List Tree
   pub is_chain : IsChainOf chain trees
   pub many : length trees ≡ length names
-  pub spelled : AreSpelled trees
+  pub formed : AreFormedDocs chain
   pub given : (files : FileMap) → holds ≡ Some files → GiveTrees files names trees
 
 -- a file of this number gave no tree
@@ -42,9 +39,10 @@ IsOfFile number (status.Limit (limit.Depth file at)) = file ≡ number
 IsOfFile number status.NoMemory = Unit {0}
 IsOfFile number s = ⊥
 
--- and it is one of so many, and the last that was begun
-abbrev pub StopsAt : ℕ → Status → ℕ → ℕ → Type 0
-StopsAt files s old new = (file : ℕ) × (file ≤ files) × IsOfFile file s × (new ≡ counted old file)
+-- and it is one of so many, and the last that was begun: so the counts of what is begun and read say
+abbrev pub StopsAt : ℕ → Status → (begins_old begins_new reads_old reads_new : ℕ) → Type 0
+StopsAt files s begins_old begins_new reads_old reads_new =
+    (file : ℕ) × (file ≤ files) × IsOfFile file s × (begins_new ≡ counted begins_old file) × (reads_new ≤ reads_old + file * (file_bytes + 1))
 
 -- all files gave trees, and these have no schema
 abbrev pub IsOfTrees : Status → Type 0

@@ -9,9 +9,9 @@ use Rattle.odd_tree.specs.Spelled.{DepthPlace, GivesTree, IsNotXml}
 use Rattle.odd_library.specs.declared.library.Library.{Library}
 use Rattle.odd_chain.specs.Files.{AreAllRead, Gives, IsChainRefusal, IsFirstPending}
 use Rattle.rng_patterns.specs.declared.grammar.Grammar.{Grammar}
-use Rattle.rng_emit.specs.Grammar.{grammar_text}
 use Rattle.compile_defines.specs.Compiled.{HoldsStart}
 use Rattle.compile_core.specs.Schema.{HasLargeSchema, IsLeastMissing, IsSchema}
+use Rattle.compile_core.specs.SchemaText.{IsSchemaText}
 use Rattle.odd_cli.specs.declared.status.Status.{Status}
 use Rattle.odd_cli.specs.declared.status.Status.TheVariants as status
 use Rattle.odd_cli.specs.declared.status.LimitKind.TheVariants as limit
@@ -88,7 +88,7 @@ pub data Merges (trees : List Tree) : Outcome Library → Type 0 where
 -- a library, and the text of its schema
 pub data HasSchema (library : Library) : Outcome (List ℕ) → Type 0 where
   too_large : HasLargeSchema library library.start → HasSchema library (answers (status.Limit limit.Nodes))
-  schema : {text : List ℕ} (grammar : Grammar) → IsSchema library library.start grammar → text ≡ grammar_text grammar → HasSchema library (gives text)
+  schema : {text : List ℕ} (grammar : Grammar) → IsSchema library library.start grammar → IsSchemaText library library.start text → HasSchema library (gives text)
 
 -- trees, and the schema of the library after them
 abbrev pub TreesComeTo : List Tree → Outcome (List ℕ) → Type 0

@@ -1,20 +1,23 @@
 -- What a run leaves of the shelf, the output and the note.
-use Rattle.std.specs.Prelude.{◌≡◌, ◌↔◌, ◌⊎◌, ◌≤◌, ℕ, zero, suc, Bool, List, ◌++◌, Option, Some, IsTrue, length}
+use Rattle.std.specs.Prelude.{◌≡◌, ◌↔◌, ◌⊎◌, ◌≤◌, ◌+◌, ◌*◌, ℕ, zero, suc, Bool, List, [], ◌++◌, Option, Some, IsTrue, length}
 use Rattle.odd_text.specs.Count.{HasRisen, next_count}
 use Rattle.odd_base.specs.Shelf.{FileMap, Held, NotHeld, LeavesSuffix}
 use Rattle.odd_library.specs.declared.library.Library.{Library}
 use Rattle.odd_tree.specs.declared.tree.Tree.{Tree}
-use Rattle.odd_chain.specs.Files.{Gives}
+use Rattle.odd_chain.specs.Files.{AreAllRead, ChainOffends, Gives}
+use Rattle.odd_chain.specs.Order.{Position}
 use Rattle.odd_meaning.specs.Admission.{Admits}
 use Rattle.rng_patterns.specs.Acceptance.{Accepts}
 use Rattle.rng_patterns.specs.Denoting.{DenotesOnly}
 use Rattle.rng_patterns.specs.declared.grammar.Grammar.{Grammar}
+use Rattle.compile_core.specs.Schema.{IsTooLarge}
+use Rattle.compile_defines.specs.Compiled.{HoldsStart, IsGrammarOf}
 use Rattle.odd_cli.specs.declared.status.LimitKind.TheVariants as limit
 use Rattle.odd_cli.specs.declared.status.Status.{Status}
 use Rattle.odd_cli.specs.declared.status.Status.TheVariants as status
 use Rattle.odd_cli.specs.Words.{Compiles}
 use Rattle.odd_cli.specs.Note.{IsFrontWritten}
-use Rattle.odd_cli.specs.Reply.{GiveTrees, IsReached, chain_files}
+use Rattle.odd_cli.specs.Reply.{GiveTrees, IsReached, chain_files, file_bytes}
 
 -- the answer is none of those that the outside causes
 abbrev pub IsReplied : Status → Type 0
@@ -41,15 +44,27 @@ counted count (suc more) = next_count (counted count more)
 
 -- How many files are begun with the answer, of so many in the chain: those up to the one that it names, or all; and none where the words have no job or too many
 -- files. Memory may be wanting at any file.
-abbrev pub BeginsFiles : Status → ℕ → ℕ → ℕ → Type 0
-BeginsFiles status.Usage files old new = new ≡ old
-BeginsFiles (status.Limit limit.Files) files old new = new ≡ old
-BeginsFiles (status.ReadFault file) files old new = new ≡ counted old file
-BeginsFiles (status.Limit (limit.Bytes file)) files old new = new ≡ counted old file
-BeginsFiles (status.NotXml file at) files old new = new ≡ counted old file
-BeginsFiles (status.Limit (limit.Depth file at)) files old new = new ≡ counted old file
-BeginsFiles status.NoMemory files old new = (file : ℕ) × (file ≤ files) × (new ≡ counted old file)
-BeginsFiles s files old new = new ≡ counted old files
+abbrev pub AreBegun : Status → ℕ → ℕ → Type 0
+AreBegun status.Usage files begun = begun ≡ 0
+AreBegun (status.Limit limit.Files) files begun = begun ≡ 0
+AreBegun (status.ReadFault file) files begun = begun ≡ file
+AreBegun (status.Limit (limit.Bytes file)) files begun = begun ≡ file
+AreBegun (status.NotXml file at) files begun = begun ≡ file
+AreBegun (status.Limit (limit.Depth file at)) files begun = begun ≡ file
+AreBegun status.NoMemory files begun = begun ≤ files
+AreBegun s files begun = begun ≡ files
+
+-- so many, as the count of them says, and for each of them at most one read more than it may have bytes brought bytes
+pub record BeginsFiles (s : Status) (files : ℕ) (begins_old begins_new reads_old reads_new : ℕ) : Type 0 where
+  pub begun : ℕ
+  pub are_begun : AreBegun s files begun
+  pub count : begins_new ≡ counted begins_old begun
+  pub few_reads : reads_new ≤ reads_old + begun * (file_bytes + 1)
+
+-- between the old shelf and the new one it stood, after each of so many files that were begun, where nothing of that file was unread
+abbrev pub AreReadWhole : {S : Type 0} → (S → ℕ) → (S → Option (List ℕ)) → (S → S → Type 0) → ℕ → S → S → Type 0
+AreReadWhole {S} begins rest Goes files old new =
+    (file : ℕ) → 1 ≤ file → file ≤ files → (state : S) × (begins state ≡ counted (begins old) file) × (rest state ≡ Some []) × Goes old state × Goes state new
 
 -- the file of the number in a chain is reached; what is unread is the end of its bytes; over a steady shelf it is not held
 pub record IsFaultPlace (chain : List (List ℕ)) (files : FileMap) (number : ℕ) (rest : Option (List ℕ)) (steady : Bool) : Type 0 where
@@ -68,6 +83,19 @@ pub record IsReadPlace (words : List (List ℕ)) (files : FileMap) (number : ℕ
 -- the text is on the note, or a front of it where the note's count rose
 abbrev pub IsNoted : List ℕ → List ℕ → Option (List ℕ) → ℕ → ℕ → Type 0
 IsNoted before text written old new = (written ≡ Some (before ++ text)) ⊎ (IsFrontWritten before text written × HasRisen old new)
+
+-- The words have a job of no more files than a chain may have; each file is held, within its limits, and spells a tree, and its forms are all read; the chain
+-- has no offence; each start word is a held element; and the schema passes no limit.
+pub record IsSound (words : List (List ℕ)) (files : FileMap) : Type 0 where
+  pub chain : List (List ℕ)
+  pub compiles : Compiles words chain
+  pub few : length chain ≤ chain_files
+  pub trees : List Tree
+  pub given : GiveTrees files chain trees
+  pub all_read : AreAllRead trees
+  pub unoffended : (file : ℕ) (at : Position) → ChainOffends trees file at → ⊥
+  pub holds_start : (library : Library) → Gives trees library → HoldsStart library library.start
+  pub within : (library : Library) (g : Grammar) → Gives trees library → IsGrammarOf library library.start g → IsTooLarge g → ⊥
 
 -- the reply is written, or there was no memory
 abbrev pub IsComplete : Status → Type 0

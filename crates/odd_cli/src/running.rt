@@ -6,17 +6,17 @@ ghost use Rattle.odd_base.specs.Shelf.{FileMap, Held, LeavesSuffix, NotHeld};
 ghost use Rattle.odd_base.specs.Sink.{IsPartWritten};
 ghost use Rattle.odd_tree.specs.Formed.{IsFormed as IsFormedTree};
 ghost use Rattle.odd_tree.specs.declared.tree.Tree.{Tree as ATree};
-ghost use Rattle.odd_chain.specs.Reading.{HasFewDocs, IsChainOf};
+ghost use Rattle.odd_chain.specs.Reading.{AreFormedDocs, HasFewDocs, IsChainOf};
 ghost use Rattle.compile_defines.specs.Compiled.{HoldsStart};
-ghost use Rattle.compile_defines.specs.Formed.{IsFormed};
+ghost use Rattle.odd_library.specs.Formed.{IsFormedLibrary};
 ghost use Rattle.odd_cli.specs.Note.{note_text};
 ghost use Rattle.odd_cli.specs.Outcome.{answers, gives};
 ghost use Rattle.odd_cli.specs.Words.{WordsMean};
 ghost use Rattle.odd_cli.specs.declared.words.Job.{Job as AJob};
 ghost use Rattle.odd_cli.specs.declared.status.Status.{Status as AStatus};
 ghost use Rattle.odd_cli.specs.Reply.{FileStops, HasSchema, NamesFiles, ReadsChain, Reply, TreesComeTo, chain_files, file_bytes};
-ghost use Rattle.odd_cli.specs.Reading.{AreSpelled, IsChainRead, IsOfFile, IsOfTrees, IsStartError, IsTreeRead, StopsAt};
-ghost use Rattle.odd_cli.specs.Running.{AcceptsAdmitted, AcceptsOfTrees, AcceptsOfWords, BeginsFiles, GoesOn, IsComplete, IsFaultPlace, IsNoted, IsReadPlace, IsReplied, IsSilent, counted};
+ghost use Rattle.odd_cli.specs.Reading.{IsChainRead, IsOfFile, IsOfTrees, IsStartError, IsTreeRead, StopsAt};
+ghost use Rattle.odd_cli.specs.Running.{AcceptsAdmitted, AcceptsOfTrees, AcceptsOfWords, BeginsFiles, GoesOn, IsComplete, IsFaultPlace, IsNoted, IsReadPlace, IsReplied, IsSilent, IsSound, AreReadWhole, counted};
 
 use crate::note::write_note;
 use crate::status::{LimitKind, Status};
@@ -57,12 +57,12 @@ pub fn run<F: Shelf, W: Sink, N: Sink>(
     ensures read_place { (files : FileMap) (file : ℕ) → F.holds shelf.old ≡ Some files → result ≡ Status.ReadFault file → IsReadPlace words.now files file (F.rest shelf.new) (F.steady shelf.old) }
     ensures room { (files : FileMap) (text : List ℕ) (status : AStatus) → F.holds shelf.old ≡ Some files → Reply words.now files text status → IsTrue (W.steady out.old) → length text ≤ W.room out.old → result ≢ Status.WriteFault }
     ensures few_reads { F.reads shelf.new ≤ F.reads shelf.old + (length words.now - 1) * (file_bytes + 1) }
-    ensures begins { BeginsFiles result (length words.now - 1) (F.begins shelf.old) (F.begins shelf.new) }
-    ensures to_the_end { (files : FileMap) → F.holds shelf.old ≡ Some files → result ≡ Status.Done → F.rest shelf.new ≡ Some [] }
+    ensures begins { BeginsFiles result (length words.now - 1) (F.begins shelf.old) (F.begins shelf.new) (F.reads shelf.old) (F.reads shelf.new) }
+    ensures to_the_end { (files : FileMap) → F.holds shelf.old ≡ Some files → result ≡ Status.Done → AreReadWhole F.begins F.rest (GoesOn F.holds F.steady F.faults F.begins F.reads) (length words.now - 1) shelf.old shelf.new × (F.rest shelf.new ≡ Some []) }
     ensures kept { F.holds shelf.new ≡ F.holds shelf.old }
     ensures note { (before : List ℕ) → N.written note.old ≡ Some before → IsNoted before (note_text result) (N.written note.new) (N.faults note.old) (N.faults note.new) }
-    ensures complete { (files : FileMap) (text : List ℕ) → F.holds shelf.old ≡ Some files → Reply words.now files text Status.Done → (HasRisen (F.faults shelf.old) (F.faults shelf.new) → ⊥) → (HasRisen (W.faults out.old) (W.faults out.new) → ⊥) → IsComplete result }
-    ensures complete_steady { (files : FileMap) (text : List ℕ) → F.holds shelf.old ≡ Some files → Reply words.now files text Status.Done → IsTrue (F.steady shelf.old) → IsTrue (W.steady out.old) → length text ≤ W.room out.old → IsComplete result }
+    ensures complete { (files : FileMap) → F.holds shelf.old ≡ Some files → IsSound words.now files → (HasRisen (F.faults shelf.old) (F.faults shelf.new) → ⊥) → (HasRisen (W.faults out.old) (W.faults out.new) → ⊥) → IsComplete result }
+    ensures complete_steady { (files : FileMap) → F.holds shelf.old ≡ Some files → IsSound words.now files → IsTrue (F.steady shelf.old) → IsTrue (W.steady out.old) → ((text : List ℕ) → Reply words.now files text Status.Done → length text ≤ W.room out.old) → IsComplete result }
     ensures one { (files : FileMap) (before text : List ℕ) (status : AStatus) → F.holds shelf.old ≡ Some files → W.written out.old ≡ Some before → IsReplied result → Reply words.now files text status → (result ≡ status) × (W.written out.new ≡ Some (before ++ text)) }
 
     // What a second run over the same shelf and output begins with.
@@ -103,8 +103,8 @@ fn reply_text<F: Shelf>(alloc: Global, words: &Words, shelf: &mut F) -> Result<T
     ensures read_place { (files : FileMap) (file : ℕ) → F.holds shelf.old ≡ Some files → result ≡ Err (Status.ReadFault file) → IsReadPlace words.now files file (F.rest shelf.new) (F.steady shelf.old) }
     ensures few_reads { F.reads shelf.new ≤ F.reads shelf.old + (length words.now - 1) * (file_bytes + 1) }
     ensures begins { OnOk result (F.begins shelf.new ≡ counted (F.begins shelf.old) (length words.now - 1)) }
-    ensures begins_err { IfErr result (λ status. BeginsFiles status (length words.now - 1) (F.begins shelf.old) (F.begins shelf.new)) }
-    ensures to_the_end { (files : FileMap) → F.holds shelf.old ≡ Some files → OnOk result (F.rest shelf.new ≡ Some []) }
+    ensures begins_err { IfErr result (λ status. BeginsFiles status (length words.now - 1) (F.begins shelf.old) (F.begins shelf.new) (F.reads shelf.old) (F.reads shelf.new)) }
+    ensures to_the_end { (files : FileMap) → F.holds shelf.old ≡ Some files → OnOk result (AreReadWhole F.begins F.rest (GoesOn F.holds F.steady F.faults F.begins F.reads) (length words.now - 1) shelf.old shelf.new × (F.rest shelf.new ≡ Some [])) }
     ensures goes_on { GoesOn F.holds F.steady F.faults F.begins F.reads shelf.old shelf.new }
 {
     let names = match chain_names(words) {
@@ -142,8 +142,9 @@ fn read_chain<F: Shelf>(alloc: Global, names: &[Text], shelf: &mut F) -> Result<
     ensures read_place { (files : FileMap) (file : ℕ) → F.holds shelf.old ≡ Some files → result ≡ Err (Status.ReadFault file) → IsFaultPlace names.now files file (F.rest shelf.new) (F.steady shelf.old) }
     ensures few_reads { F.reads shelf.new ≤ F.reads shelf.old + length names.now * (file_bytes + 1) }
     ensures begins { OnOk result (F.begins shelf.new ≡ counted (F.begins shelf.old) (length names.now)) }
-    ensures begins_err { IfErr result (λ status. StopsAt (length names.now) status (F.begins shelf.old) (F.begins shelf.new)) }
-    ensures to_the_end { (files : FileMap) → F.holds shelf.old ≡ Some files → names.now ≢ [] → OnOk result (F.rest shelf.new ≡ Some []) }
+    ensures begins_err { IfErr result (λ status. StopsAt (length names.now) status (F.begins shelf.old) (F.begins shelf.new) (F.reads shelf.old) (F.reads shelf.new)) }
+    ensures to_the_end { (files : FileMap) → F.holds shelf.old ≡ Some files → OnOk result (AreReadWhole F.begins F.rest (GoesOn F.holds F.steady F.faults F.begins F.reads) (length names.now) shelf.old shelf.new) }
+    ensures last_ended { (files : FileMap) → F.holds shelf.old ≡ Some files → names.now ≢ [] → OnOk result (F.rest shelf.new ≡ Some []) }
     ensures goes_on { GoesOn F.holds F.steady F.faults F.begins F.reads shelf.old shelf.new }
 {
     let mut chain = Chain::new(alloc);
@@ -194,6 +195,7 @@ fn with_file(
     file: u32,
 ) -> Result<Chain, Status>
     ensures ok { IfOk result (λ made. (tree : ATree) × (read ≡ Ok tree) × ((trees : List ATree) (first end : ℕ) → IsFormedTree first end tree → IsChainOf chain trees → file ≡ suc (length trees) → IsChainOf made (trees ++ tree ∷ []))) }
+    ensures formed { (first end : ℕ) → IfOk read (IsFormedTree first end) → AreFormedDocs chain → IfOk result AreFormedDocs }
     ensures err { IfErr result (λ status. (read ≡ Err status) ⊎ (status ≡ Status.NoMemory)) }
 {
     let tree = read?;
@@ -205,9 +207,10 @@ fn with_file(
 
 // The schema of the library after the files of a chain, of which there are so many, or why it has none.
 fn schema_of_chain(alloc: Global, chain: Chain, files: u32) -> Result<Text, Status>
-    requires { HasFewDocs chain }
+    requires few { HasFewDocs chain }
+    requires formed { AreFormedDocs chain }
     ensures ok { IfOk result (λ text. (trees : List ATree) → IsChainOf chain trees → TreesComeTo trees (gives text)) }
-    ensures accepts { IfOk result (λ text. (trees : List ATree) → IsChainOf chain trees → AreSpelled trees → AcceptsOfTrees trees text) }
+    ensures accepts { IfOk result (λ text. (trees : List ATree) → IsChainOf chain trees → AcceptsOfTrees trees text) }
     ensures err { IfErr result (λ status. (trees : List ATree) → IsChainOf chain trees → files ≡ length trees → IsReplied status → TreesComeTo trees (answers status)) }
     ensures of_trees { IfErr result IsOfTrees }
 {
@@ -221,10 +224,11 @@ fn schema_of_chain(alloc: Global, chain: Chain, files: u32) -> Result<Text, Stat
 
 // The schema of the library after so many files, which breaks no rule, or the start word that is no held element.
 fn schema_of_library(alloc: Global, library: &Library, files: u32) -> Result<Text, Status>
-    requires { (key : AKey) (rule : ℕ) → Breaks library.now key rule → ⊥ }
+    requires unbroken { (key : AKey) (rule : ℕ) → Breaks library.now key rule → ⊥ }
+    requires formed { IsFormedLibrary library.now }
     ensures held { OnOk result (HoldsStart library.now library.now.start) }
     ensures ok { IfOk result (λ text. HasSchema library.now (gives text)) }
-    ensures accepts { IfOk result (λ text. IsFormed library.now → AcceptsAdmitted library.now text) }
+    ensures accepts { IfOk result (AcceptsAdmitted library.now) }
     ensures err { IfErr result (IsStartError library.now files) }
 {
     let grammar = match compile(alloc, library, &library.start) {

@@ -2,7 +2,9 @@ ghost use Rattle.std.specs.Prelude.{◌≡◌, ℕ, map, Err, IfOk, IsOk, Some};
 ghost use Rattle.odd_tree.specs.Elements.{all_binds, within};
 ghost use Rattle.odd_forms.specs.Least.{IsLeast};
 ghost use Rattle.odd_content.specs.Breaking.{ContentFault};
+ghost use Rattle.odd_content.specs.Formed.{AreBound, IsFormedContent};
 ghost use Rattle.odd_content.specs.Giving.{IsContentOf, bounds_in, joined_parts, key_in, part_content, part_named, parts_in};
+ghost use Rattle.odd_tree.specs.Formed.{IsFormed};
 ghost use Rattle.odd_tree.specs.declared.tree.Tree.{out-Tree};
 
 use crate::condition::read_condition;
@@ -42,9 +44,11 @@ const ONCE: Bounds = Bounds {
 /// answered where it breaks a rule of form, with the least that it breaks: 1, a needed attribute is absent or one is
 /// malformed, or a prefix is not bound; 2, a form that is left out, or a sixty-first level; 3, a child that may not stand
 /// there, a maximum below the minimum, or words in both `include` and `except`. NoMemory is answered for want of memory.
+/// Of a formed tree, as `read_tree` gives it, the content model is formed.
 pub fn read_content(alloc: Global, tree: &Tree, scope: &Scope) -> Result<Content, ContentRefusal>
     ensures ok { IfOk result (IsContentOf scope.now tree.now) }
     ensures sound { IsOk result → (rule : ℕ) → ContentFault scope.now tree.now rule → ⊥ }
+    ensures formed { (first end : ℕ) → IsFormed first end tree.now → AreBound scope.now → IfOk result IsFormedContent }
     ensures rule { (rule : ℕ) → result ≡ Err (ContentRefusal.Rule rule) → IsLeast (ContentFault scope.now tree.now) (Some rule) }
 {
     let outside = Bindings::new(alloc, scope.copy(alloc)?)?;

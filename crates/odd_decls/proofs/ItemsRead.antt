@@ -89,7 +89,7 @@ offence_stands around items place rule (offences.alone t s f p) = (t, s, p)
 offence_stands around items place rule (offences.twice key both p) = (both.later, later_stands (IsSpecOf key) items both, p)
 
 -- an entry is at the place of its item
-entry_place : (first : Found) (item : Tree) (e : Entry) → IsEntryOf first item e → place_of e ≡ (out-Tree item).at
+pub entry_place : (first : Found) (item : Tree) (e : Entry) → IsEntryOf first item e → place_of e ≡ (out-Tree item).at
 entry_place first item _ (entries.IsEntryOf.«module» is key) = refl
 entry_place first item _ (entries.IsEntryOf.take e is kind key) = refl
 entry_place first item _ (entries.IsEntryOf.spec is) = refl

@@ -1,5 +1,8 @@
+pub mod ClassesFaults
+pub mod FormedDocs
 pub mod ItemElements
 pub mod ItemsRead
+pub mod KeysOnce
 pub mod OneDoc
 pub mod Refusing
 pub mod Repeats

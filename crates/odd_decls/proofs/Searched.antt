@@ -2,6 +2,7 @@
 use Rattle.std.proofs.Common.{◌≡◌, List, [], ◌∷◌, ◌++◌, map, refl, sym, ap₂, ◌∙◌, ℕ, ◌+◌, ◌<◌, true, false, Bor, reverse, length, drop, get_or, Some, codes, ap, subst, append_assoc, suc, ◌≤◌, Bool, if◌then◌else◌, ⊎_elim, arith}
 use Rattle.std.proofs.lemmas.Bool.{false≢true}
 use Rattle.std.proofs.lemmas.List.{append-nil, map-append, reverse-append}
+use Rattle.odd_content.proofs.FormedTrees.{IsFormedSomewhere}
 use Rattle.odd_forms.specs.Names.{is_one_of, is_tei}
 use Rattle.odd_text.specs.declared.name.Bind.{Bind}
 use Rattle.odd_tree.proofs.InList.{text_shown, begins, with_element, with_text, first_or_later, map_stands, nothing_stands}
@@ -148,10 +149,6 @@ path_from_child t child rest later path longer tei other in_rest is leads more a
       p.3 ∙ append_assoc around (out-Tree t).binds (all_binds (reverse path)) ∙ ap (λ bs. around ++ bs) (sym (ap (λ ps. all_binds (reverse ps)) more ∙ binds_more path (out-Tree t).binds)),
     )
 
--- the element is formed, between some places
-abbrev pub IsFormedSomewhere : Tree → Type 0
-IsFormedSomewhere u = (a : ℕ) × (b : ℕ) × IsFormed a b u
-
 -- between two places formed elements begin, each after the one before it
 abbrev pub LieIn : ℕ → ℕ → List Tree → Type 0
 LieIn first end [] = first ≤ end
@@ -225,10 +222,6 @@ mutual
       let f : FoundWith around t (elements_of nodes) found = found_with around t (elements_of nodes) found (subst (λ ts. FindsAmong around ts found) (with_element t nodes) among) in
       subst (LieIn first end) (sym (ap schemas_of f.4 ∙ map-append (λ g. g.schema) f.0 f.1))
       (lie_append first between end (schemas_of f.0) (schemas_of f.1) (found_lie one f.2) (among_lie later f.3))
-
--- the elements among formed nodes are formed
-pub children_formed : (nodes : List Node) (first end : ℕ) → AreFormed first end nodes → (u : Tree) → StandsIn (elements_of nodes) u → IsFormedSomewhere u
-children_formed nodes first end f = each_formed first end (elements_of nodes) (nodes_lie f)
 
 -- what the search finds in a formed element is formed
 pub found_formed : (around : List Bind) (t : Tree) (found : List Found) (first end : ℕ) → IsFormed first end t → Finds around t found

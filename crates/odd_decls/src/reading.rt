@@ -6,6 +6,7 @@ ghost use Rattle.odd_tree.specs.Elements.{StandsIn, all_binds, given};
 ghost use Rattle.odd_tree.specs.Formed.{IsFormed};
 ghost use Rattle.odd_tree.specs.declared.tree.Tree.{Tree as ATree};
 ghost use Rattle.odd_forms.specs.Sorted.{IsSet};
+ghost use Rattle.odd_library.specs.Formed.{IsFormedDoc};
 ghost use Rattle.odd_decls.specs.Declares.{Declares, start_of};
 ghost use Rattle.odd_decls.specs.Faults.{HoldsKeys, IsKeyIn, StandsAgain};
 ghost use Rattle.odd_decls.specs.Offences.{IsOffenceOf, IsRefusal, IsSpecOf};
@@ -36,6 +37,7 @@ pub fn read_odd(alloc: Global, tree: &Tree, file: u32, _aside: bool) -> Result<O
     ensures ok { IfOk result (λ doc. (first end : ℕ) → IsFormed first end tree.now → Declares tree.now doc) }
     ensures offends { (offence : AnOffence) → result ≡ Err (OddRefusal.Offence offence) → IsOffenceOf tree.now file offence }
     ensures offence { (offence : AnOffence) (first end : ℕ) → IsFormed first end tree.now → result ≡ Err (OddRefusal.Offence offence) → IsRefusal tree.now file offence }
+    ensures formed { (first end : ℕ) → IsFormed first end tree.now → IfOk result IsFormedDoc }
     ensures not_yet { result ≡ Err OddRefusal.NotYet → IsPending tree.now }
 {
     if is_pending(tree, false) {

@@ -1,11 +1,9 @@
 -- Chains of steps, nodes that lead to themselves, and induction along steps that come back to nothing.
-use Rattle.std.proofs.Common.{ℕ, List, ◌≡◌, ◌⊎◌, ◌≤◌, zero, suc, [], ◌∷◌, ◌++◌, length, inl, inr, ⊎_elim, ap, subst, arith, ◌↔◌, Bool, true, false}
+use Rattle.std.proofs.Common.{ℕ, List, ◌≡◌, ◌⊎◌, ◌≤◌, zero, suc, [], ◌∷◌, ◌++◌, length, inl, inr, ⊎_elim, ap, subst, arith, min, ◌↔◌, Bool, true, false}
 use Rattle.std.proofs.Math.ListN.{replicate}
 use Rattle.std.proofs.lemmas.List.{length-append, get_or-replicate}
 use Rattle.odd_graph.specs.Graph.{Chained, at_once, through, HasArrow, Leads}
-use Rattle.odd_graph.specs.Searching.{AreOnNone, ArePassed, IsFree, Trims}
-use Rattle.odd_graph.specs.declared.trimming.Side.{Side}
-use Rattle.odd_graph.specs.declared.trimming.Trimming.{Trimming}
+use Rattle.odd_graph.specs.Searching.{AreOnNone, IsFree}
 
 -- one leads on to where another leads that it leads to
 pub chained_on : {A : Type 0} (Step : A → A → Type 0) (a b c : A) → Chained Step a b → Chained Step b c → Chained Step a c
@@ -99,9 +97,11 @@ module _ {A : Type 0} (Step : A → A → Type 0) (P : ℕ → A → Type 0) (st
   pub by_rank : (n : ℕ) (left : List A) (one : A) → length left ≤ n → AreAmong one left → IsApart one → P (suc n) one
   by_rank n left one few among apart = step n one (λ other s. at_less n left one other few among apart s)
 
--- at first each node is left
-pub all_left : (arrows : List (List ℕ)) (left : List Bool) → left ≡ replicate (length arrows) true → AreOnNone arrows left
-all_left arrows left all node l = rw all (get_or-replicate (length arrows) node true false (arrow_back arrows node l).1.within)
+-- at first each node is left that is one of both graphs
+pub all_left : (arrows back : List (List ℕ)) (left : List Bool) → ((node next : ℕ) → HasArrow back next node ↔ HasArrow arrows node next) → left ≡ replicate (min (length arrows) (length back)) true
+    → AreOnNone arrows left
+all_left arrows back left turned all node l =
+    rw all (get_or-replicate (min (length arrows) (length back)) node true false (omega (arith, (arrow_back arrows node l).1.within, ((turned node _).1 (arrow_on arrows node l).1).within)))
 
 -- a node that is free is on no cycle
 pub free_forth : (arrows : List (List ℕ)) (left : List Bool) (node : ℕ) → AreOnNone arrows left → IsFree arrows left node → Leads arrows node node → ⊥
@@ -111,13 +111,3 @@ free_forth arrows left node on_none free l = let a = arrow_on arrows node l in f
 pub free_back : (arrows back : List (List ℕ)) (left : List Bool) (node : ℕ) → AreOnNone arrows left → ((node next : ℕ) → HasArrow back next node ↔ HasArrow arrows node next)
     → IsFree back left node → Leads arrows node node → ⊥
 free_back arrows back left node on_none turned free l = let a = arrow_back arrows node l in free a.0 ((turned a.0 node).1 a.1) (on_none a.0 a.2)
-
--- the graph stays trimmed where more of its arrows are passed
-pub passed_more : (t : Trimming) (forth back : Side) → Trims t → forth.arrows ≡ t.forth.arrows → back.arrows ≡ t.back.arrows
-    → ArePassed forth.arrows.now forth.passed.items t.left.items → ArePassed back.arrows.now back.passed.items t.left.items → Trims (record t { forth = forth; back = back })
-passed_more t forth back trims f b p q = record {
-  turned = rw (f, b) trims.turned;
-  forth_passed = p;
-  back_passed = q;
-  on_none = rw f trims.on_none;
-}

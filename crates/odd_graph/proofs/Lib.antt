@@ -2,3 +2,4 @@ pub mod Chains
 mod NodesReached
 pub mod OneMore
 pub mod Placed
+mod Trimmed

@@ -2,7 +2,6 @@
 use Rattle.std.proofs.Common.{◌≡◌, ◌↔◌, ◌⊎◌, ◌<◌, ℕ, true, false, List, [], ◌∷◌, ◌++◌, length, set, cond, inl, inr, ⊎_elim, sym, ap, ◌∙◌, arith, ◌+◌, suc, get_or, take, drop, subst}
 use Rattle.std.proofs.Math.ListN.{length-set}
 use Rattle.std.proofs.Math.Seq.{split_at}
-use Rattle.std.proofs.lemmas.Bool.Decides.{eqb_tells}
 use Rattle.std.proofs.lemmas.Grind.{common_steps}
 use Rattle.std.proofs.lemmas.List.{append_assoc, append-nil, take-append-drop, take-append-le}
 use Rattle.std.proofs.lemmas.List.Elements.{Contains-push_cases, Contains-append_left}
@@ -11,10 +10,11 @@ use Rattle.std.proofs.lemmas.List.Sums.{sum_by-set}
 use Rattle.std.specs.List.{Contains, range_with_len}
 use Rattle.odd_graph.proofs.Chains.{last_step, IsPart, by_rank}
 use Rattle.odd_graph.proofs.OneMore.{one_cleared, contains_with, once_with, place_with, contains_next}
+use Rattle.odd_graph.proofs.Trimmed.{held_on, is_or_not, marked_inside, passed_one, tried_on, tried_one}
 use Rattle.odd_graph.specs.Graph.{HasArrow, Leads, at_once, through}
 use Rattle.odd_graph.specs.Ordering.{IsOrder, IsApart}
-use Rattle.odd_graph.specs.Placing.{GoesOn, Places, AreHeld}
-use Rattle.odd_graph.specs.Searching.{ArePassed, IsFree, IsHeld, IsMarked}
+use Rattle.odd_graph.specs.Placing.{GoesOn, IsNone, Places}
+use Rattle.odd_graph.specs.Searching.{AreHeld, ArePassed, IsFree, IsHeld, IsMarked}
 use Rattle.odd_graph.specs.declared.ordering.Placing.{Placing}
 use Rattle.odd_graph.specs.declared.trimming.Side.{Side}
 
@@ -32,20 +32,16 @@ order_with arrows order node h within fresh all = record {
 one_placed : {All Was Before After Is Within : Type 0} → Is ⊎ (Is → ⊥) → All ↔ (Was ⊎ Is) → Was ↔ (Within × (Before → ⊥)) → After ↔ (Before × (Is → ⊥)) → (Is → Within) → All ↔ (Within × (After → ⊥))
 one_placed is all was after within = grind arith
 
--- two numbers are the same or not
-pub is_or_not : (one other : ℕ) → (one ≡ other) ⊎ (one ≡ other → ⊥)
-is_or_not one other = ⊎_elim (λ t. inl t.1) (λ t. inr t.1) (eqb_tells one other)
-
 -- a node that is left and leads to none that is left can be placed
 pub placed_one : (p q : Placing) (node : ℕ) → Places p → IsMarked p.left.items node → IsFree p.forth.arrows.now p.left.items node
     → q.forth ≡ p.forth → q.left.items ≡ set p.left.items node false → q.order.items ≡ p.order.items ++ node ∷ [] → GoesOn p q (λ tried. node ≡ tried)
 placed_one p q node h marked free forth left order =
-    let inside : node < length p.left.items = grind (arith, common_steps, marked) in
+    let inside = marked_inside p.left.items node marked in
     let within : node < length p.forth.arrows.now = omega (arith, h.all.1) in
     record {
       places = record {
-        all = rw (forth, left) (h.all.0, length-set p.left.items node false ∙ h.all.1);
-        passed = rw (forth, left, length-set) (λ other at lt is. h.passed other at lt ((one_cleared p.left.items node _ inside).0 is).0);
+        all = rw (forth, left, length-set) h.all;
+        passed = rw (forth, left) (passed_one _ _ _ node inside h.passed);
         order = rw (forth, order) (order_with _ _ node h.order within (λ c. ((h.placed node).0 c).1 marked) (λ next a. (h.placed next).1 (a.within, free next a)));
         placed = rw (forth, left, order) (λ other.
             one_placed (is_or_not node other) (contains_with p.order.items node other) (h.placed other) (one_cleared p.left.items node other inside) (λ e. omega arith));
@@ -53,8 +49,7 @@ placed_one p q node h marked free forth left order =
       };
       arrows = ap (λ side. side.arrows) forth;
       order = (node ∷ [], order);
-      left = λ other is. ((one_cleared p.left.items node other inside).0 (rw left at is)).0;
-      held = λ other e is. absurd (((one_cleared p.left.items node other inside).0 (rw left at is)).1 e);
+      forth = rw left (tried_one _ _ node inside);
     }
 
 -- nothing was placed, but more arrows were passed
@@ -71,8 +66,7 @@ placed_none p side tried h arrows same passed held = record {
   };
   arrows = arrows;
   order = ([], sym (append-nil p.order.items));
-  left = λ node is. is;
-  held = held;
+  forth = record { left = λ node is. is; held = held };
 }
 
 -- nodes are tried after others
@@ -81,9 +75,7 @@ placed_on p q r one two both g h either = record {
   places = h.places;
   arrows = h.arrows ∙ g.arrows;
   order = (g.order.0 ++ h.order.0, h.order.1 ∙ ap (λ order. order ++ h.order.0) g.order.1 ∙ append_assoc p.order.items g.order.0 h.order.0);
-  left = λ node is. g.left node (h.left node is);
-  held = λ node b is.
-      ⊎_elim (λ o. g.held node o (h.left node is)) (λ t. let next = h.held node t is in (next.0, rw g.arrows at next.1, g.left next.0 next.2)) (either node b);
+  forth = tried_on g.forth (rw g.arrows at h.forth) either;
 }
 
 -- a list has at some place what it contains
@@ -97,14 +89,14 @@ contains_front items count item c = subst (λ all. Contains all item) (take-appe
 -- once the nodes with an arrow to one more node of the order were tried, each that is left has an arrow to one that is none of the front with that node
 pub held_more : (p q : Placing) (back : List (List ℕ)) (place node : ℕ) → Places p → GoesOn p q (Contains (get_or back node []))
     → ((node next : ℕ) → HasArrow back next node ↔ HasArrow p.forth.arrows.now node next) → place < length p.order.items → get_or p.order.items place 0 ≡ node
-    → AreHeld p.forth.arrows.now p.left.items (take place p.order.items) → AreHeld q.forth.arrows.now q.left.items (take (place + 1) q.order.items)
-held_more p q back place node h g turned within is held = rw (g.arrows, g.order.1, take-append-le (place + 1) p.order.items g.order.0 (omega arith)) (λ other marked.
-    let next = held other (g.left other marked) in
-    ⊎_elim
-    (λ e. let again = g.held other ((turned other node).1 (rw e at next.1)).among marked in
-    (again.0, again.1, λ c. ((h.placed again.0).0 (contains_front p.order.items (place + 1) again.0 c)).1 again.2))
-    (λ apart. (next.0, next.1, λ c. ⊎_elim next.2 (λ e. apart (sym e ∙ is)) ((contains_next p.order.items place 0 next.0 within).0 c)))
-    (is_or_not next.0 node))
+    → AreHeld p.forth.arrows.now p.left.items (IsNone (take place p.order.items)) → AreHeld q.forth.arrows.now q.left.items (IsNone (take (place + 1) q.order.items))
+held_more p q back place node h g turned within is held = rw (g.arrows, g.order.1, take-append-le (place + 1) p.order.items g.order.0 (omega arith)) (
+    held_on (IsNone (take (place + 1) p.order.items)) g.forth (λ other marked c. ((h.placed other).0 (contains_front p.order.items (place + 1) other c)).1 marked)
+    (λ other marked.
+    let next = held other marked in
+    ⊎_elim (λ e. inl ((turned other node).1 (rw e at next.1)).among)
+    (λ apart. inr (next.0, next.1, λ c. ⊎_elim next.2 (λ e. apart (sym e ∙ is)) ((contains_next p.order.items place 0 next.0 within).0 c)))
+    (is_or_not next.0 node)))
 
 module _ (arrows : List (List ℕ)) (order : List ℕ) (is : IsOrder arrows order) where
   -- what a node of the order leads to stands before it
@@ -129,7 +121,7 @@ number_below : (count node : ℕ) → node < count → IsPart (range_with_len 0 
 number_below count node within = part_of (range_with_len 0 count) node (node, rw length-range_with_len within, omega (arith, get_or-range_with_len 0 count node node within))
 
 -- a node that leads to no cycle is placed, where each that is left has an arrow to one that is not placed
-apart_placed : (p : Placing) (node : ℕ) → Places p → AreHeld p.forth.arrows.now p.left.items p.order.items → node < length p.forth.arrows.now → IsApart p.forth.arrows.now node
+apart_placed : (p : Placing) (node : ℕ) → Places p → AreHeld p.forth.arrows.now p.left.items (IsNone p.order.items) → node < length p.forth.arrows.now → IsApart p.forth.arrows.now node
     → Contains p.order.items node
 apart_placed p node h held within apart =
     let arrows = p.forth.arrows.now in
@@ -143,6 +135,6 @@ apart_placed p node h held within apart =
     )
 
 -- at the end those are placed that lead to no cycle
-pub all_placed : (p : Placing) → Places p → AreHeld p.forth.arrows.now p.left.items p.order.items
+pub all_placed : (p : Placing) → Places p → AreHeld p.forth.arrows.now p.left.items (IsNone p.order.items)
     → (node : ℕ) → Contains p.order.items node ↔ ((node < length p.forth.arrows.now) × IsApart p.forth.arrows.now node)
 all_placed p h held node = (λ c. (h.order.within node c, placed_apart p.forth.arrows.now p.order.items h.order node c), λ is. apart_placed p node h held is.0 is.1)

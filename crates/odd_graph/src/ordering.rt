@@ -2,8 +2,8 @@ ghost use Rattle.std.specs.Prelude.{◌≡◌, ◌↔◌, ◌<◌, ℕ, [], get_
 ghost use Rattle.std.specs.List.{Contains};
 ghost use Rattle.odd_graph.specs.Graph.{HasArrow};
 ghost use Rattle.odd_graph.specs.Ordering.{IsApart, IsOrder};
-ghost use Rattle.odd_graph.specs.Placing.{AreHeld, GoesOn, Places};
-ghost use Rattle.odd_graph.specs.Searching.{IsFree, IsMarked};
+ghost use Rattle.odd_graph.specs.Placing.{GoesOn, IsNone, Places};
+ghost use Rattle.odd_graph.specs.Searching.{AreHeld, IsFree, IsMarked};
 
 use crate::Nodes;
 use crate::trimming::{Side, is_marked};
@@ -60,10 +60,10 @@ impl<'a> Placing<'a> {
     fn settle(&mut self, back: &[Nodes]) -> Result<(), NoMemory>
         requires places { Places self.old }
         requires turned { (node next : ℕ) → HasArrow back.now next node ↔ HasArrow self.old.forth.arrows.now node next }
-        requires held { AreHeld self.old.forth.arrows.now self.old.left.items [] }
+        requires held { AreHeld self.old.forth.arrows.now self.old.left.items (IsNone []) }
         ensures places { OnOk result (Places self.new) }
         ensures arrows { OnOk result (self.new.forth.arrows ≡ self.old.forth.arrows) }
-        ensures held { OnOk result (AreHeld self.new.forth.arrows.now self.new.left.items self.new.order.items) }
+        ensures held { OnOk result (AreHeld self.new.forth.arrows.now self.new.left.items (IsNone self.new.order.items)) }
     {
         let mut place = 0;
         while let Some(&node) = self.order.get(place) {

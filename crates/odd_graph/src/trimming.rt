@@ -1,6 +1,7 @@
-ghost use Rattle.std.specs.Prelude.{◌≡◌, ◌↔◌, ℕ, Bool, false, List, length, IfOk, IsTrue};
+ghost use Rattle.std.specs.Prelude.{◌≡◌, ◌↔◌, ℕ, Bool, false, List, [], get_or, length, IfOk, IsTrue, OnOk};
+ghost use Rattle.std.specs.List.{Contains};
 ghost use Rattle.odd_graph.specs.Graph.{HasArrow, Leads};
-ghost use Rattle.odd_graph.specs.Searching.{AreOfAll, ArePassed, IsFree, IsHeld, IsMarked, Trims};
+ghost use Rattle.odd_graph.specs.Searching.{AreOfAll, ArePassed, IsFree, IsHeld, IsMarked, IsTrimmed, Trims, TrimsOn, Waits};
 
 use crate::Nodes;
 use odd_text::NoMemory;
@@ -73,16 +74,18 @@ impl<'a> Trimming<'a> {
         turned: &'a [Nodes],
     ) -> Result<Trimming<'a>, NoMemory>
         requires { (node next : ℕ) → HasArrow turned.now next node ↔ HasArrow arrows.now node next }
-        ensures trims { IfOk result Trims }
+        ensures trimmed { IfOk result IsTrimmed }
         ensures arrows { IfOk result (λ trimming. trimming.forth.arrows.now ≡ arrows.now) }
     {
+        // an arrow leads from a node of both to one of both
+        let count = arrows.len().min(turned.len());
         let mut trimming = Trimming {
             forth: Side::new(alloc, arrows)?,
             back: Side::new(alloc, turned)?,
-            left: vec![in alloc; true; arrows.len()]?,
+            left: vec![in alloc; true; count]?,
             waiting: Vec::new(alloc),
         };
-        for node in 0..arrows.len() {
+        for node in 0..count {
             trimming.try_node(node)?;
         }
         trimming.settle()?;
@@ -98,9 +101,10 @@ impl<'a> Trimming<'a> {
 
     /// Takes a node away that is on no cycle, and those that are free then.
     pub fn take(&mut self, node: usize) -> Result<(), NoMemory>
-        requires trims { Trims self.old }
+        requires trimmed { IsTrimmed self.old }
         requires on_none { Leads self.old.forth.arrows.now node node → ⊥ }
-        ensures trims { Trims self.new }
+        ensures trimmed { OnOk result (IsTrimmed self.new) }
+        ensures taken { OnOk result (IsMarked self.new.left.items node → ⊥) }
         ensures same { self.new.forth.arrows ≡ self.old.forth.arrows }
     {
         self.unmark(node)?;
@@ -109,25 +113,22 @@ impl<'a> Trimming<'a> {
 
     // Asks the neighbours of the nodes that were taken away.
     fn settle(&mut self) -> Result<(), NoMemory>
-        requires { Trims self.old }
-        ensures trims { Trims self.new }
+        requires { Waits self.old }
+        ensures trimmed { OnOk result (IsTrimmed self.new) }
+        ensures left { OnOk result ((node : ℕ) → IsMarked self.new.left.items node → IsMarked self.old.left.items node) }
         ensures same { self.new.forth.arrows ≡ self.old.forth.arrows }
     {
-        // each node is taken away once, so there are never more to ask
-        for _ in 0..self.left.len() {
-            let Some(node) = self.waiting.pop() else {
-                break;
-            };
+        while let Some(node) = self.waiting.pop() {
             self.try_next(self.back.arrows, node)?;
             self.try_next(self.forth.arrows, node)?;
         }
         Ok(())
     }
 
-    // Takes away those of the nodes to which arrows of a node lead that are free.
+    // Tries the nodes to which the arrows of a node lead.
     fn try_next(&mut self, arrows: &[Nodes], node: usize) -> Result<(), NoMemory>
         requires { Trims self.old }
-        ensures trims { Trims self.new }
+        ensures on { OnOk result (TrimsOn self.old self.new (Contains (get_or arrows.now node []))) }
         ensures same { self.new.forth.arrows ≡ self.old.forth.arrows }
     {
         if let Some(others) = arrows.get(node) {
@@ -141,7 +142,7 @@ impl<'a> Trimming<'a> {
     // Takes a node away that leads to none that is left, or to which none that is left leads.
     fn try_node(&mut self, node: usize) -> Result<(), NoMemory>
         requires { Trims self.old }
-        ensures trims { Trims self.new }
+        ensures on { OnOk result (TrimsOn self.old self.new (λ tried. node ≡ tried)) }
         ensures same { self.new.forth.arrows ≡ self.old.forth.arrows }
     {
         if self.is_free(node) {
@@ -154,8 +155,7 @@ impl<'a> Trimming<'a> {
     fn is_free(&mut self, node: usize) -> bool
         requires { Trims self.old }
         ensures free { IsTrue result → Leads self.old.forth.arrows.now node node → ⊥ }
-        ensures trims { Trims self.new }
-        ensures same { self.new.forth.arrows ≡ self.old.forth.arrows }
+        ensures on { TrimsOn self.old self.new (λ tried. (result ≡ false) × (node ≡ tried)) }
     {
         let left = self.left.as_slice();
         self.forth.is_free(left, node) || self.back.is_free(left, node)
@@ -165,14 +165,13 @@ impl<'a> Trimming<'a> {
     fn unmark(&mut self, node: usize) -> Result<(), NoMemory>
         requires trims { Trims self.old }
         requires on_none { Leads self.old.forth.arrows.now node node → ⊥ }
-        ensures trims { Trims self.new }
+        ensures on { OnOk result (TrimsOn self.old self.new (λ tried. node ≡ tried)) }
+        ensures taken { OnOk result (IsMarked self.new.left.items node → ⊥) }
         ensures same { self.new.forth.arrows ≡ self.old.forth.arrows }
     {
-        if let Some(mark) = self.left.get_mut(node) {
-            if *mark {
-                *mark = false;
-                self.waiting.push(node)?;
-            }
+        if self.is_left(node) {
+            self.waiting.push(node)?;
+            self.left[node] = false;
         }
         Ok(())
     }

@@ -1,3 +1,4 @@
 pub mod First
+pub mod Formed
 pub mod Library
 pub mod Odd

@@ -2,6 +2,7 @@ ghost use Rattle.std.specs.Prelude.{◌≡◌, IfOk, unwrap_or};
 ghost use Rattle.std.specs.Option.{option_copied};
 ghost use Rattle.std.specs.FinMap.{find};
 ghost use Rattle.odd_text.specs.Key.{key_cmp};
+ghost use Rattle.odd_library.specs.Formed.{IsFormedLibrary, IsFormedPart, IsFormedSpec, StandsAlone};
 ghost use Rattle.odd_library.specs.Library.{IsEmptyLibrary, class_of as the_class_of, component_of as the_component_of, content_of, element_of as the_element_of, module_of, other_of as the_other_of};
 
 use crate::spec::Spec;
@@ -84,7 +85,8 @@ impl Component {
     /// What a declaration declares by itself. Without a namespace that is TEI's, without memberships it is a member of no
     /// class, and without a content the content is empty. The only error is NoMemory, for want of memory.
     pub fn of(alloc: Global, spec: &Spec) -> Result<Component, NoMemory>
-        ensures { IfOk result (λ made. made ≡ the_component_of spec.now) }
+        ensures value { IfOk result (λ made. made ≡ the_component_of spec.now) }
+        ensures formed { IsFormedSpec spec.now → StandsAlone spec.now.key.kind spec.now → IfOk result (IsFormedPart spec.now.key.kind) }
     {
         match spec.key.kind {
             Kind::Element => Ok(Component::Element(element_of(alloc, spec)?)),
@@ -193,7 +195,8 @@ pub struct Library {
 impl Library {
     /// The library before the first file: no component, the ident `bare` and the start word `TEI`.
     pub fn empty(alloc: Global) -> Result<Library, NoMemory>
-        ensures { IfOk result IsEmptyLibrary }
+        ensures empty { IfOk result IsEmptyLibrary }
+        ensures formed { IfOk result IsFormedLibrary }
     {
         let ident = Text::from_str(alloc, "bare")?;
         let mut start = Words::new(alloc);

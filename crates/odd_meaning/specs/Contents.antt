@@ -75,5 +75,14 @@ MacroAdmits (suc levels) library m key w =
 abbrev pub IsOfMacro : Library → Marking Label → Macros
 IsOfMacro library m = MacroAdmits (length library.parts) library m
 
+-- a relation in which each held macro admits at least what its content does, where the macros in it admit what they do in the relation
+abbrev pub IsClosed : Library → Marking Label → Macros → Type 0
+IsClosed library m macros = (key : List ℕ) (part : OtherPart) (w : List Node) → find key_cmp (macro_key key) library.parts ≡ Some (component.Macro part)
+    → AdmitsBy macros library m part.content w → macros key w
+
+-- the least such relation, in which no levels are counted
+abbrev pub LeastMacros : Library → Marking Label → List ℕ → List Node → Type 1
+LeastMacros library m key w = (macros : Macros) → IsClosed library m macros → macros key w
+
 abbrev pub Admits : Library → Marking Label → Content → List Node → Type 0
 Admits library m = AdmitsBy (IsOfMacro library m) library m

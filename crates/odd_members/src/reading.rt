@@ -1,4 +1,5 @@
-ghost use Rattle.std.specs.Prelude.{◌≡◌, IfOk, IsTrue};
+ghost use Rattle.std.specs.Prelude.{◌≡◌, IfOk, IsTrue, None};
+ghost use Rattle.std.specs.Option.{IfSome};
 ghost use Rattle.std.specs.FinMap.{is_sorted};
 ghost use Rattle.odd_text.specs.Text.{text_cmp};
 ghost use Rattle.odd_forms.specs.Children.{ChildOfFault, GivesOne};
@@ -6,6 +7,7 @@ ghost use Rattle.odd_forms.specs.Least.{Among, IsLeast};
 ghost use Rattle.odd_forms.specs.Sorted.{IsSet};
 ghost use Rattle.odd_forms.specs.declared.element.Element.TheVariants as the_element;
 ghost use Rattle.odd_tree.specs.Elements.{children_of};
+ghost use Rattle.odd_members.specs.Formed.{IsFormedMembership};
 ghost use Rattle.odd_members.specs.Members.{ClassesFault, IsAddedBy, IsMembershipOf, IsSetOf, added_keys, adds as the_adds, is_change as the_is_change, marks_of as the_marks_of, membership_of as the_membership_of};
 
 use crate::membership::{ClassMarks, Membership};
@@ -27,6 +29,7 @@ pub struct ReadClasses {
 pub fn read_classes(alloc: Global, form: Element, spec: &Tree) -> Result<ReadClasses, NoMemory>
     ensures fault { IfOk result (λ read. IsLeast (Among (ChildOfFault form the_element.Classes ClassesFault) (children_of spec.now)) read.fault) }
     ensures classes { IfOk result (λ read. GivesOne form the_element.Classes IsMembershipOf (children_of spec.now) read.classes) }
+    ensures formed { IfOk result (λ read. read.fault ≡ None → IfSome read.classes IsFormedMembership) }
 {
     let fault = classes_fault(alloc, form, spec)?;
     let classes = classes_given(alloc, form, spec)?;

@@ -1,13 +1,14 @@
 -- What a library holds at a key and after a file, which is one.
-use Rattle.std.proofs.Common.{◌≡◌, ◌↔◌, ◌⊎◌, ℕ, ◌+◌, ◌<◌, Bool, true, false, List, [], ◌∷◌, ◌++◌, length, get_or, take, Some, inl, inr, ⊎_elim, refl, sym, ap, subst, ◌∙◌, cond, ◌||◌, Option, None, is_some}
+use Rattle.std.proofs.Common.{◌≡◌, ◌↔◌, ◌⊎◌, ℕ, ◌+◌, ◌<◌, Bool, true, false, List, [], ◌∷◌, ◌++◌, length, filter, get_or, take, Some, inl, inr, ⊎_elim, refl, sym, ap, subst, ◌∙◌, cond, ◌||◌, Option, None, is_some}
 use Rattle.std.proofs.lemmas.Bool.{both_ways, false_from_ne_true}
 use Rattle.std.proofs.lemmas.List.{get_or_default}
+use Rattle.std.proofs.lemmas.List.Elements.{All-contains, All-contains_itself, All-filter, filter-append, filter_passes}
 use Rattle.std.proofs.lemmas.List.Folds.{list_any_more}
 use Rattle.std.proofs.lemmas.Map.Views.{tells_apart}
 use Rattle.std.proofs.lemmas.Option.{same_Some}
 use Rattle.std.specs.Cmp.{tied_itself}
 use Rattle.std.specs.FinMap.{find, is_sorted}
-use Rattle.std.specs.List.{list_any}
+use Rattle.std.specs.List.{Contains, list_any}
 use Rattle.std.specs.Ordering.{eq_by_cmp}
 use Rattle.std.specs.Prelude.{IsTrue, IsSome}
 use Rattle.std.specs.declared.cmp.Ordering.TheVariants.{Less}
@@ -24,11 +25,11 @@ use Rattle.odd_text.specs.Key.{key_cmp}
 use Rattle.odd_text.specs.KeyOrder.{key_exact, key_total}
 use Rattle.odd_text.specs.Map.{IsAfter, SetsOnly}
 use Rattle.odd_text.specs.declared.key.Key.{Key}
-use Rattle.odd_tree.proofs.InList.{StandsOnce, contained, ends, once_push, standing, stands_push}
+use Rattle.odd_tree.proofs.InList.{contained, map_stands, standing, stands_map, stands_push}
 use Rattle.odd_tree.specs.Elements.{StandsIn}
 use Rattle.odd_modes.specs.After.{after_one, held_by, kept, spec_at, IsLibraryAfter}
 use Rattle.odd_modes.specs.Choosing.{IsChosen, is_referred}
-use Rattle.odd_modes.specs.Index.{AreReferencesOf, is_listed, IsKeyOfSpec, over}
+use Rattle.odd_modes.specs.Index.{AreReferencesOf, is_listed, IsKeyOfSpec, keys_listed, over}
 use Rattle.odd_modes.specs.declared.references.References.{References}
 
 -- what is found at a key is the value of an entry there
@@ -46,10 +47,6 @@ stands_held e es up s =
     turned key_cmp key_total e.0 (get_or es j d).0 Less (ap (λ (p : Key × Component). key_cmp (get_or es j d).0 p.0) (sym (same d)) ∙ less) in
     find_at key_cmp key_total e.0 es there.0 e there.1 after (ap (λ p. key_cmp e.0 p.0) here ∙ tied_itself key_total e.0) ∙ ap (λ p. Some p.1) here
 
--- an entry at the key has a component that the references refer to
-abbrev pub ListsAt : References → List (Key × Component) → Key → Type 0
-ListsAt refs entries key = StandsOnce (λ e. (e.0 ≡ key) × IsTrue (is_listed refs e.0 e.1)) entries
-
 -- a list of keys with one more that is such
 pub put_key : (P Q : Type 0) (keys new : List Key) (more key : Key) → new ≡ keys ++ more ∷ [] → StandsIn keys key ↔ P → (P ⊎ (more ≡ key)) ↔ Q → StandsIn new key ↔ Q
 put_key P Q keys new more key put h q = subst (λ ks. StandsIn ks key ↔ Q) (sym put) (
@@ -57,41 +54,26 @@ put_key P Q keys new more key put h q = subst (λ ks. StandsIn ks key ↔ Q) (sy
   λ x. (stands_push keys more key).1 (⊎_elim (λ p. inl (h.1 p)) (λ e. inr e) (q.1 x)),
 )
 
--- the keys that are listed so far, with one entry more
-module _ (refs : References) (entries : List (Key × Component)) (i : ℕ) (e : Key × Component) (within : i < length entries) (is : e ≡ get_or entries i e) (keys : List Key) (key : Key)
-    (so_far : StandsIn keys key ↔ ListsAt refs (take i entries) key) where
-  push : ListsAt refs (take i entries ++ e ∷ []) key ↔ (ListsAt refs (take i entries) key ⊎ ((e.0 ≡ key) × IsTrue (is_listed refs e.0 e.1)))
-  push = once_push (λ x. (x.0 ≡ key) × IsTrue (is_listed refs x.0 x.1)) (take i entries) e
-
-  -- which the references refer to
-  pub lists_more : (new : List Key) (more : Key) → new ≡ keys ++ more ∷ [] → is_listed refs e.0 e.1 ≡ true → more ≡ e.0 → StandsIn new key ↔ ListsAt refs (take (i + 1) entries) key
-  lists_more new more put listed same =
-      subst (λ es. StandsIn new key ↔ ListsAt refs es key) (sym (ends entries i e within is))
-      (put_key (ListsAt refs (take i entries) key) (ListsAt refs (take i entries ++ e ∷ []) key) keys new more key put so_far (
-        λ h. push.1 (⊎_elim (λ l. inl l) (λ s. inr (sym same ∙ s, listed)) h),
-        λ s. ⊎_elim (λ l. inl l) (λ h. inr (same ∙ h.0)) (push.0 s),
-      ))
-
-  -- and which they don't
-  pub lists_same : (new : List Key) → new ≡ keys → is_listed refs e.0 e.1 ≡ false → StandsIn new key ↔ ListsAt refs (take (i + 1) entries) key
-  lists_same new same not_listed =
-      subst (λ ks. StandsIn ks key ↔ ListsAt refs (take (i + 1) entries) key) (sym same)
-      (subst (λ es. StandsIn keys key ↔ ListsAt refs es key) (sym (ends entries i e within is)) (
-        λ s. push.1 (inl (so_far.0 s)),
-        λ l. so_far.1 (⊎_elim (λ h. h) (λ h. absurd (both_ways (is_listed refs e.0 e.1) not_listed h.1)) (push.0 l)),
-      ))
-
 -- what is listed of all entries is what the file chooses
 pub lists_chosen : (library : Library) (doc : OddDoc) (refs : References) (key : Key) → AreReferencesOf doc.entries refs → IsTrue (is_sorted key_cmp library.parts)
-    → ListsAt refs library.parts key ↔ IsChosen library doc key
-lists_chosen library doc refs key are up = (
-  λ l. record {
-    part = l.0.1;
-    held = ap (λ k. find key_cmp k library.parts) (sym l.2.0) ∙ stands_held l.0 library.parts up l.1;
-    referred = sym (are key l.0.1) ∙ ap (λ k. is_listed refs k l.0.1) (sym l.2.0) ∙ l.2.1;
-  },
-  λ is. ((key, is.part), held_stands key is.part library.parts is.held, (refl, are key is.part ∙ is.referred)),
-)
+    → StandsIn (keys_listed refs library.parts) key ↔ IsChosen library doc key
+lists_chosen library doc refs key are up =
+    let test : Key × Component → Bool = λ e. is_listed refs e.0 e.1 in
+    let listed = filter test library.parts in (
+      λ s.
+          let e = stands_map (λ x. x.0) listed key s in
+          let passed = contained listed e.0 e.1 in
+          let held = All-contains (Contains library.parts) listed e.0 (All-filter test (Contains library.parts) library.parts (All-contains_itself library.parts)) passed in
+          record {
+            part = e.0.1;
+            held = ap (λ k. find key_cmp k library.parts) e.2 ∙ stands_held e.0 library.parts up (standing library.parts e.0 held);
+            referred = sym (are key e.0.1) ∙ ap (λ k. is_listed refs k e.0.1) e.2 ∙ All-contains (λ x. test x ≡ true) listed e.0 (filter_passes test library.parts) passed;
+          },
+      λ is.
+          let s = held_stands key is.part library.parts is.held in
+          map_stands (λ x. x.0) listed (key, is.part)
+          (filter test s.0, filter test s.1, ap (filter test) s.2 ∙ filter-append test s.0 ((key, is.part) ∷ s.1) ∙ rw (are key is.part ∙ is.referred) refl),
+    )
 
 -- a component that is held is chosen where the references refer to it
 pub chosen_told : (library : Library) (doc : OddDoc) (refs : References) (key : Key) (part : Component) (told : Bool) → AreReferencesOf doc.entries refs → Some part ≡ find key_cmp key library.parts

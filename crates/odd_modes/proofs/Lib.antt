@@ -1,3 +1,4 @@
+pub mod Formed
 pub mod HeldEntries
 pub mod ItemFaults
 pub mod SpecAt

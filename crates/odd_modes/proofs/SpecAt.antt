@@ -1,27 +1,18 @@
--- A file's declaration for a key, item by item, and what is held after files.
+-- A file's declaration for a key, item by item.
 use Rattle.std.proofs.Common.{◌≡◌, ◌↔◌, false, List, map, refl, sym, ap, subst, ◌∙◌, ◌⊎◌, ℕ, ◌+◌, ◌<◌, Bool, true, cond, if◌then◌else◌, [], ◌∷◌, ◌++◌, length, get_or, take, Option, Some, None, inl, inr, ⊎_elim}
 use Rattle.std.proofs.lemmas.Cmp.{nat_cmp_total, eq_by_cmp_equiv}
-use Rattle.std.proofs.lemmas.List.Elements.{All-head, All-tail}
-use Rattle.std.proofs.lemmas.List.Sorted.{All-permutation, IsPermutation-reverse}
 use Rattle.std.proofs.lemmas.Map.Views.{tells_apart}
 use Rattle.std.specs.Borrow.{Bor}
 use Rattle.std.specs.Cmp.{tied_itself}
-use Rattle.std.specs.FinMap.{find}
-use Rattle.std.specs.Option.{option_copied, option_or, IfSome}
+use Rattle.std.specs.Option.{option_copied, option_or}
 use Rattle.std.specs.Ordering.{eq_by_cmp, is_eq, nat_cmp, ordering_then}
-use Rattle.std.specs.Prelude.{IsSome, All, reverse}
+use Rattle.std.specs.Prelude.{IsSome}
 use Rattle.std.specs.declared.cmp.Ordering.{Ordering}
 use Rattle.std.specs.declared.cmp.Ordering.TheVariants.{Less, Equal, Greater}
 use Rattle.odd_forms.specs.Sorted.{IsSet}
 use Rattle.odd_library.proofs.OffenceOrder.{key_itself}
-use Rattle.odd_library.specs.Library.{component_of}
-use Rattle.odd_library.specs.declared.library.Component.{Component}
-use Rattle.odd_library.specs.declared.library.Library.{Library}
 use Rattle.odd_library.specs.declared.odd.Entry.{Entry}
 use Rattle.odd_library.specs.declared.odd.Entry.TheVariants as entry
-use Rattle.odd_library.specs.declared.odd.OddDoc.{OddDoc}
-use Rattle.odd_library.specs.declared.spec.Mode.{Mode}
-use Rattle.odd_library.specs.declared.spec.Mode.TheVariants as mode
 use Rattle.odd_library.specs.declared.spec.Spec.{Spec}
 use Rattle.odd_text.specs.Key.{key_cmp, kind_rank}
 use Rattle.odd_text.specs.KeyOrder.{key_exact, key_total}
@@ -29,8 +20,7 @@ use Rattle.odd_text.specs.declared.key.Key.{Key}
 use Rattle.odd_tree.proofs.InList.{map_stands, stands_map, ends, stands_first, stands_later}
 use Rattle.odd_tree.specs.Elements.{StandsIn}
 use Rattle.odd_modes.proofs.HeldEntries.{put_key}
-use Rattle.odd_modes.specs.After.{spec_at, spec_in, IsLibraryAfter, after_one, declared, held_after, held_by, kept, laid_over}
-use Rattle.odd_modes.specs.Choosing.{is_referred}
+use Rattle.odd_modes.specs.After.{spec_at, spec_in}
 use Rattle.odd_modes.specs.Fronts.{front_of, fronted, fronted_cmp, unfronted}
 use Rattle.odd_modes.specs.Index.{IsKeyOfSpec}
 use Rattle.odd_modes.specs.declared.fronted.FrontedKey.{FrontedKey}
@@ -174,50 +164,3 @@ spec_stands (x ∷ items) key spec e = by_rest (spec_at items key) e (spec_stand
     by_rest : (later : Option Spec) → option_or later (spec_in x key) ≡ Some spec → (later ≡ Some spec → Declares items key spec) → Declares (x ∷ items) key spec
     by_rest None h rest = declares_first x items key spec h
     by_rest (Some one) h rest = let s = rest h in (s.0, stands_later x (entry.Spec s.0 spec) items s.1, s.2)
-
--- it holds of each spec of the file
-abbrev pub EachSpec : (Spec → Type 0) → OddDoc → Type 0
-EachSpec P doc = (at : ℕ) (spec : Spec) → StandsIn doc.entries (entry.Spec at spec) → P spec
-
-module _ (P : Spec → Type 0) (Q : Key → Component → Type 0) (made : (spec : Spec) → P spec → Q spec.key (component_of spec))
-    (over : (key : Key) (part : Component) (spec : Spec) → P spec → Q key part → Q key (laid_over part spec)) where
-  -- where a spec is over it
-  declared_holds : (m : Mode) (spec : Spec) (key : Key) (held : Option Component) → P spec → Q key (component_of spec) → IfSome held (Q key) → IfSome (declared m spec held) (Q key)
-  declared_holds mode.Add spec key held p alone h = alone
-  declared_holds mode.Replace spec key held p alone h = alone
-  declared_holds mode.Delete spec key held p alone h = tt
-  declared_holds mode.Change spec key None p alone h = tt
-  declared_holds mode.Change spec key (Some part) p alone h = over key part spec p h
-
-  -- where it is kept
-  kept_holds : (entries : List Entry) (key : Key) (held : Option Component) → IfSome held (Q key) → IfSome (kept entries key held) (Q key)
-  kept_holds entries key None h = tt
-  kept_holds entries key (Some part) h = by (is_referred entries key part)
-    where
-      by : (b : Bool) → IfSome (if b then Some part else None) (Q key)
-      by true = h
-      by false = tt
-
-  -- after a file more
-  one_holds : (doc : OddDoc) (key : Key) (held : Option Component) → EachSpec P doc → IfSome held (Q key) → IfSome (after_one doc key held) (Q key)
-  one_holds doc key held each h = by (spec_at doc.entries key) refl
-    where
-      by : (o : Option Spec) → spec_at doc.entries key ≡ o → IfSome (held_by o doc.entries key held) (Q key)
-      by None e = kept_holds doc.entries key held h
-      by (Some spec) e =
-          let s = spec_stands doc.entries key spec e in
-          let p = each s.0 spec s.1 in
-          declared_holds spec.mode spec key held p (subst (λ k. Q k (component_of spec)) s.2 (made spec p)) h
-
-  -- after all files
-  all_hold : (docs : List OddDoc) (key : Key) → All (EachSpec P) docs → IfSome (held_after docs key) (Q key)
-  all_hold [] key each = tt
-  all_hold (last ∷ earlier) key each =
-      one_holds last key (held_after earlier key) (All-head (EachSpec P) last earlier each) (all_hold earlier key (All-tail (EachSpec P) last earlier each))
-
-  -- and so in the library after them
-  pub held_from : (docs : List OddDoc) (library : Library) → IsLibraryAfter docs library → All (EachSpec P) docs
-      → (key : Key) (part : Component) → find key_cmp key library.parts ≡ Some part → Q key part
-  held_from docs library l each key part e =
-      subst (λ o. IfSome o (Q key)) (sym (l.holds key) ∙ e)
-      (all_hold (reverse docs) key (All-permutation (EachSpec P) docs (reverse docs) (IsPermutation-reverse docs) each))

@@ -1,5 +1,5 @@
 -- What the references of a file are kept as, and what is told of items one after another.
-use Rattle.std.specs.Prelude.{◌≡◌, ◌↔◌, ℕ, Bool, true, false, ◌||◌, not, List, Option, Some, None, IsSome, IsTrue}
+use Rattle.std.specs.Prelude.{◌≡◌, ◌↔◌, ℕ, Bool, true, false, ◌||◌, not, List, filter, map, Option, Some, None, IsSome, IsTrue}
 use Rattle.std.specs.Borrow.{Bor}
 use Rattle.std.specs.BTreeMap.{get_by}
 use Rattle.std.specs.BTreeSet.{BTreeSet, contains, contains_by}
@@ -48,6 +48,10 @@ is_listed_by_module refs key part = is_taken_of (get_by (λ k. text_cmp (module_
 -- the component that is held at the key is referred to
 abbrev pub is_listed : References → Key → Component → Bool
 is_listed refs key part = contains key_cmp refs.keys key || is_listed_by_module refs key part
+
+-- the keys of the entries to which a reference is listed, in their order
+abbrev pub keys_listed : References → List (Key × Component) → List Key
+keys_listed references entries = map (λ e. e.0) (filter (λ e. is_listed references e.0 e.1) entries)
 
 -- these are the references among the items
 abbrev pub AreReferencesOf : List Entry → References → Type 0

@@ -1,4 +1,6 @@
 ghost use Rattle.std.specs.Prelude.{◌≡◌, IfOk, unwrap_or};
+ghost use Rattle.odd_text.specs.declared.key.Kind.{Kind as AKind};
+ghost use Rattle.odd_library.specs.Formed.{IsFormedPart, IsFormedSpec};
 ghost use Rattle.odd_modes.specs.After.{class_laid_over, element_laid_over, laid_over, other_laid_over};
 
 use odd_content::Content;
@@ -11,7 +13,8 @@ use std::alloc::Global;
 /// else the declaration gives is put in place of what was there; of memberships that are changed the others stay
 /// (docs/merging.md). The only error is NoMemory, for want of memory.
 pub fn edit(alloc: Global, part: Component, spec: &Spec) -> Result<Component, NoMemory>
-    ensures { IfOk result (λ made. made ≡ laid_over part spec.now) }
+    ensures value { IfOk result (λ made. made ≡ laid_over part spec.now) }
+    ensures formed { (kind : AKind) → IsFormedPart kind part → IsFormedSpec spec.now → IfOk result (IsFormedPart kind) }
 {
     match part {
         Component::Element(part) => Ok(Component::Element(element_over(alloc, part, spec)?)),

@@ -5,7 +5,7 @@ ghost use Rattle.odd_text.specs.declared.offence.Offence.{Offence as AnOffence};
 ghost use Rattle.odd_tree.specs.Elements.{StandsIn};
 ghost use Rattle.odd_forms.specs.Sorted.{IsSet};
 ghost use Rattle.odd_modes.specs.Choosing.{IsChosen};
-ghost use Rattle.odd_modes.specs.Index.{AreReferencesOf};
+ghost use Rattle.odd_modes.specs.Index.{AreReferencesOf, keys_listed};
 ghost use Rattle.odd_modes.specs.Offences.{IsFirstOffence, RefersWrongly};
 ghost use Rattle.odd_library.specs.declared.odd.OddDoc.{OddDoc as ADoc};
 
@@ -40,7 +40,8 @@ pub fn chosen_keys(
     library: &Library,
     references: &References<'_>,
 ) -> Result<Keys, NoMemory>
-    ensures { IfOk result (λ keys. (doc : ADoc) → AreReferencesOf doc.entries references.now → (key : AKey) → StandsIn keys key ↔ IsChosen library.now doc key) }
+    ensures listed { IfOk result (λ keys. keys ≡ keys_listed references.now library.now.parts) }
+    ensures chosen { IfOk result (λ keys. (doc : ADoc) → AreReferencesOf doc.entries references.now → (key : AKey) → StandsIn keys key ↔ IsChosen library.now doc key) }
 {
     let mut keys = Keys::new(alloc);
     for (key, part) in library.parts.entries() {

@@ -5,6 +5,7 @@ ghost use Rattle.odd_text.specs.Key.{key_cmp};
 ghost use Rattle.odd_text.specs.declared.key.Key.{Key as AKey};
 ghost use Rattle.odd_text.specs.declared.offence.Offence.{Offence as AnOffence};
 ghost use Rattle.odd_tree.specs.Elements.{StandsIn};
+ghost use Rattle.odd_library.specs.Formed.{IsFormedDoc, IsFormedLibrary};
 ghost use Rattle.odd_library.specs.declared.odd.OddDoc.{OddDoc as ADoc};
 ghost use Rattle.odd_modes.specs.After.{IsLibraryAfter, after_one, declared as the_declared};
 ghost use Rattle.odd_modes.specs.Index.{AreReferencesOf, IsKeyOfSpec, over};
@@ -32,6 +33,7 @@ pub fn step(
     file: u32,
 ) -> Result<Library, OddRefusal>
     ensures library { IfOk result (λ made. (docs : List ADoc) → IsLibraryAfter docs library.now → IsLibraryAfter (docs ++ doc.now ∷ []) made) }
+    ensures formed { IsFormedLibrary library.now → IsFormedDoc doc.now → IfOk result IsFormedLibrary }
     ensures sound { IsOk result → (place rule : ℕ) → Offends library.now doc.now place rule → ⊥ }
     ensures offence { (offence : AnOffence) → result ≡ Err (OddRefusal.Offence offence) → IsFirstOffence (Offends library.now doc.now) file offence }
     ensures read { result ≢ Err OddRefusal.NotYet }

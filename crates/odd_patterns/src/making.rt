@@ -1,4 +1,4 @@
-ghost use Rattle.std.specs.Prelude.{◌≡◌, ◌<◌, ◌⊎◌, [], ◌∷◌, IsTrue, IfOk, vec_len};
+ghost use Rattle.std.specs.Prelude.{◌≡◌, ◌↔◌, ◌<◌, ◌⊎◌, [], ◌∷◌, IsTrue, IfOk, vec_len};
 ghost use Rattle.odd_patterns.specs.Words.{IsChoiceOf, IsGroupOf, SameWords};
 
 use crate::alphabet::Alphabet;
@@ -35,7 +35,7 @@ fn plain_choice<A: Alphabet>(alloc: Global, left: Pat<A>, right: Pat<A>) -> Resu
 
 // Whether two patterns are equal.
 fn same<A: Alphabet>(left: &Pat<A>, right: &Pat<A>) -> bool
-    ensures { IsTrue result → left.now ≡ right.now }
+    ensures { IsTrue result ↔ (left.now ≡ right.now) }
 {
     match left {
         Pat::Never => match right {

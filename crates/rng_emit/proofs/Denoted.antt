@@ -1,5 +1,5 @@
--- The text of a plain grammar denotes the grammar.
-use Rattle.std.proofs.Common.{◌≡◌, ℕ, true, List, [], ◌∷◌, map, sym, ap, ◌∙◌, Some, Result, Ok, Err, refl, subst}
+-- The text of a printable grammar denotes the grammar.
+use Rattle.std.proofs.Common.{◌≡◌, ℕ, true, List, [], ◌∷◌, map, sym, ap, ◌∙◌, Some, refl}
 use Rattle.std.proofs.lemmas.Bool.{and_parts}
 use Rattle.std.proofs.lemmas.Cmp.{nat_list_cmp_total}
 use Rattle.std.proofs.lemmas.List.Elements.{All-cons}
@@ -8,11 +8,10 @@ use Rattle.std.specs.Cmp.{tied_itself}
 use Rattle.std.specs.FinMap.{is_sorted}
 use Rattle.std.specs.FinMap.Entries.{below_all}
 use Rattle.std.specs.Ordering.{is_lt}
-use Rattle.std.specs.Prelude.{IsTrue, All, IfOk, codes, unwrap_or}
+use Rattle.std.specs.Prelude.{IsTrue, All, codes, unwrap_or}
 use Rattle.std.specs.declared.cmp.Ordering.TheVariants.{Equal}
 use Rattle.odd_printing.proofs.PrintedSpelled.{printed_spells}
 use Rattle.odd_text.specs.Text.{text_cmp}
-use Rattle.odd_text.specs.declared.memory.NoMemory.{NoMemory}
 use Rattle.odd_tokens.proofs.Characters.{Distinct, Lacks, none_twice}
 use Rattle.odd_tokens.specs.Tokens.{NoneTwice}
 use Rattle.odd_tree.proofs.PrintedTrees.{Shows}
@@ -25,11 +24,11 @@ use Rattle.rng_patterns.specs.Linked.{names_of}
 use Rattle.rng_patterns.specs.Names.{datatype_library, relax_ng_namespace}
 use Rattle.rng_patterns.specs.declared.grammar.Define.{Define}
 use Rattle.rng_patterns.specs.declared.grammar.Grammar.{Grammar}
+use Rattle.rng_emit.proofs.Printable.{IsPrintable}
 use Rattle.rng_emit.proofs.Shapes.{grammar_parts, grammar_plain, grammar_tag, relax_ng_bound}
 use Rattle.rng_emit.proofs.Shown.{AreShown, IsShown, is_part, shown, value_in, Allows, no_attribute, start_shown}
 use Rattle.rng_emit.proofs.ShownBodies.{defines_shown}
 use Rattle.rng_emit.specs.Grammar.{all_of, grammar_text}
-use Rattle.rng_emit.specs.Plain.{IsPlain}
 
 -- no name is below itself
 not_below : (name other : List ℕ) → IsTrue (is_lt (text_cmp name other)) → other ≡ name → ⊥
@@ -63,7 +62,7 @@ root_allowed : All (Allows allowed) root_attributes
 root_allowed = All-cons (Allows allowed) (codes "datatypeLibrary", datatype_library) [] (codes "ns" ∷ [], [], refl) (no_attribute allowed)
 
 -- the parts of the tree are the start and the defines
-parts_stand : (g : Grammar) (t : Tree) → IsPlain g → IsShown (codes "grammar") root_attributes (grammar_parts g) t → (ts : List Tree) → parts_of t ≡ ts → AreShown (grammar_parts g) ts
+parts_stand : (g : Grammar) (t : Tree) → IsPrintable g → IsShown (codes "grammar") root_attributes (grammar_parts g) t → (ts : List Tree) → parts_of t ≡ ts → AreShown (grammar_parts g) ts
     → StandsFor t g
 parts_stand g t p h [] e s = absurd s
 parts_stand g t p h (u ∷ us) e s =
@@ -85,22 +84,17 @@ parts_stand g t p h (u ∷ us) e s =
     }
 
 -- a tree that shows the grammar's elements stands for it
-pub stands : (g : Grammar) (t : Tree) → IsPlain g → Shows relax_ng_namespace (element (codes "grammar") root_attributes (all_of (grammar_parts g))) t → StandsFor t g
+pub stands : (g : Grammar) (t : Tree) → IsPrintable g → Shows relax_ng_namespace (element (codes "grammar") root_attributes (all_of (grammar_parts g))) t → StandsFor t g
 stands g t p s =
     let h = shown (codes "grammar") root_attributes (grammar_parts g) t s in
     parts_stand g t p h (parts_of t) refl h.parts
 
 -- and the text spells such a tree
-denoted : (g : Grammar) → IsPlain g → Denotes (grammar_text g) g
+pub denoted : (g : Grammar) → IsPrintable g → Denotes (grammar_text g) g
 denoted g p =
     let read = printed_spells relax_ng_namespace (codes "grammar") root_attributes (all_of (grammar_parts g)) relax_ng_bound grammar_tag (grammar_plain g p) in
     record { tree = read.0; spelled = read.1; stands = stands g read.0 p read.2 }
 
 -- so the text denotes the grammar, and no other
-pub denoted_only : (g : Grammar) → IsPlain g → DenotesOnly (grammar_text g) g
+pub denoted_only : (g : Grammar) → IsPrintable g → DenotesOnly (grammar_text g) g
 denoted_only g p = record { denoted = denoted g p; only = λ other h. one_denoted (grammar_text g) other g h (denoted g p) }
-
--- where there was memory for it
-pub text_denotes : (g : Grammar) (r : Result (List ℕ) NoMemory) → IfOk r (λ text. text ≡ grammar_text g) → IfOk r (λ text. IsPlain g → DenotesOnly text g)
-text_denotes g (Ok text) e = λ p. subst (λ t. DenotesOnly t g) (sym e) (denoted_only g p)
-text_denotes g (Err none) e = tt

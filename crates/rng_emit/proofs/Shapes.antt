@@ -26,8 +26,8 @@ use Rattle.rng_patterns.specs.declared.grammar.NameClass.{NameClass}
 use Rattle.rng_patterns.specs.declared.grammar.NameClass.TheVariants as class
 use Rattle.rng_patterns.specs.declared.grammar.NsPart.{NsPart}
 use Rattle.rng_emit.specs.Grammar.{all_of, except_markup, named, pattern_markup, plain, attributes_markup, body_markup, class_markup, define_markup, name_markup, name_pairs, part_markup, parts_markup, space_markup}
-use Rattle.rng_emit.specs.Plain.{IsPlainName, ArePlainAttributes, ArePlainPatterns, IsPlainBody, IsPlainClass, IsPlainDefine, IsPlainPart, IsPlainPattern}
-use Rattle.rng_emit.specs.Plain as is
+use Rattle.rng_emit.proofs.Printable.{IsPlainName, ArePlainAttributes, ArePlainPatterns, IsPlainBody, IsPlainClass, IsPlainDefine, IsPlainPart, IsPlainPattern}
+use Rattle.rng_emit.proofs.Printable as is
 
 -- the element of each pattern
 pub empty_is : pattern_markup expr.Empty ≡ plain (codes "empty") []
@@ -291,5 +291,5 @@ abbrev pub grammar_parts : Grammar → List Markup
 grammar_parts g = plain (codes "start") (pattern_markup g.start ∷ []) ∷ map define_markup g.defines
 
 -- the elements inside the root
-pub grammar_plain : (g : Grammar) → is.IsPlain g → ArePlain (all_of (grammar_parts g))
+pub grammar_plain : (g : Grammar) → is.IsPrintable g → ArePlain (all_of (grammar_parts g))
 grammar_plain g p = ((bare_tag (codes "start") refl, (pattern_plain g.start p.start, tt)), all_plain IsPlainDefine define_markup define_plain g.defines p.defines)

@@ -21,8 +21,8 @@ use Rattle.rng_patterns.specs.Names.{relax_ng_namespace}
 use Rattle.rng_patterns.specs.declared.grammar.Expr.{Expr}
 use Rattle.rng_emit.proofs.Shapes.{choice_is, empty_is, group_is, not_allowed_is, one_or_more_is, optional_is, ref_is, text_is, zero_or_more_is}
 use Rattle.rng_emit.specs.Grammar.{all_of, named, pattern_markup, plain}
-use Rattle.rng_emit.specs.Plain as is
-use Rattle.rng_emit.specs.Plain.{ArePlainPatterns, IsPlainPattern}
+use Rattle.rng_emit.proofs.Printable as is
+use Rattle.rng_emit.proofs.Printable.{ArePlainPatterns, IsPlainPattern}
 
 -- the trees show the elements, one each in order
 abbrev pub AreShown : List Markup → List Tree → Type 0

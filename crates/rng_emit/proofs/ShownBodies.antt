@@ -27,7 +27,7 @@ use Rattle.rng_patterns.specs.declared.grammar.NameClass.TheVariants as class
 use Rattle.rng_patterns.specs.declared.grammar.NsPart.{NsPart}
 use Rattle.rng_emit.proofs.Shown.{AreShown, IsShown, is_part, leaf_shown, named_so, shown, value_in, HoldsParts, holds_parts, one_attribute, one_part, Allows, no_attribute, one_pattern}
 use Rattle.rng_emit.specs.Grammar.{except_markup, name_markup, part_markup, parts_markup, plain, space_markup, any_attributes, attributes_markup, body_markup, define_markup, pattern_markup}
-use Rattle.rng_emit.specs.Plain.{IsPlainName, IsPlainPart, ArePlainAttributes, IsPlainBody, IsPlainClass, IsPlainDefine, IsPlainPattern}
+use Rattle.rng_emit.proofs.Printable.{IsPlainName, IsPlainPart, ArePlainAttributes, IsPlainBody, IsPlainClass, IsPlainDefine, IsPlainPattern}
 
 -- the namespace that an element gives
 space_given : (default tag ns : List ℕ) (t : Tree) → HasHead relax_ng_namespace tag ((codes "ns", ns) ∷ []) t → ns ≡ unwrap_or (given t (codes "ns")) default

@@ -1,12 +1,8 @@
--- A grammar of the forms whose text is shown to denote it: patterns of content, of which groups and choices have two parts or more; any attributes
--- or none; name classes that name something, and names that XML can write; defines whose names rise, and references that are linked.
-use Rattle.std.specs.Prelude.{◌≡◌, ◌≢◌, ℕ, List, [], ◌∷◌, map, IsTrue, All}
-use Rattle.std.specs.FinMap.{is_sorted}
-use Rattle.odd_text.specs.Text.{text_cmp}
-use Rattle.odd_text.specs.declared.name.Name.{Name}
-use Rattle.odd_tokens.specs.Characters.{IsLegal, IsNCName}
-use Rattle.rng_patterns.specs.Denoting.{entry_of}
-use Rattle.rng_patterns.specs.Linked.{IsLinked}
+-- Which grammars a text can say: those that some bytes denote, where each list of patterns has two parts or more.
+use Rattle.std.specs.Prelude.{◌≤◌, ℕ, List, [], ◌∷◌, map, length}
+use Rattle.odd_tree.specs.Elements.{StandsIn}
+use Rattle.rng_patterns.specs.Denoting.{Denotes}
+use Rattle.rng_patterns.specs.Linked.{HasPart}
 use Rattle.rng_patterns.specs.declared.grammar.AttrPart.TheVariants as attributes
 use Rattle.rng_patterns.specs.declared.grammar.AttrPart.{AttrPart}
 use Rattle.rng_patterns.specs.declared.grammar.Body.TheVariants as body
@@ -15,56 +11,29 @@ use Rattle.rng_patterns.specs.declared.grammar.Define.{Define}
 use Rattle.rng_patterns.specs.declared.grammar.Expr.TheVariants as expr
 use Rattle.rng_patterns.specs.declared.grammar.Expr.{Expr}
 use Rattle.rng_patterns.specs.declared.grammar.Grammar.{Grammar}
-use Rattle.rng_patterns.specs.declared.grammar.NameClass.TheVariants as class
-use Rattle.rng_patterns.specs.declared.grammar.NameClass.{NameClass}
-use Rattle.rng_patterns.specs.declared.grammar.NsPart.{NsPart}
 
-mutual
-  -- a pattern of content: no values; a group and a choice have two or more parts
-  pub data IsPlainPattern : Expr → Type 0 where
-    empty : IsPlainPattern expr.Empty
-    not_allowed : IsPlainPattern expr.NotAllowed
-    text : IsPlainPattern expr.Text
-    reference : {name : List ℕ} → IsNCName name → IsPlainPattern (expr.Ref name)
-    group : {p : Expr} (first second : Expr) (more : List Expr) → ArePlainPatterns (first ∷ second ∷ more) → p ≡ expr.Group (first ∷ second ∷ more) → IsPlainPattern p
-    choice : {p : Expr} (first second : Expr) (more : List Expr) → ArePlainPatterns (first ∷ second ∷ more) → p ≡ expr.Choice (first ∷ second ∷ more) → IsPlainPattern p
-    optional : {p : Expr} (part : Expr) → IsPlainPattern part → p ≡ expr.Optional part → IsPlainPattern p
-    zero_or_more : {p : Expr} (part : Expr) → IsPlainPattern part → p ≡ expr.ZeroOrMore part → IsPlainPattern p
-    one_or_more : {p : Expr} (part : Expr) → IsPlainPattern part → p ≡ expr.OneOrMore part → IsPlainPattern p
+-- the pattern itself, or one that stands in it at any depth
+pub data StandsWithin (inner : Expr) : Expr → Type 0 where
+  itself : StandsWithin inner inner
+  inside : {p part : Expr} → HasPart p part → StandsWithin inner part → StandsWithin inner p
 
-  pub data ArePlainPatterns : List Expr → Type 0 where
-    none : ArePlainPatterns []
-    more : {p : Expr} {ps : List Expr} → IsPlainPattern p → ArePlainPatterns ps → ArePlainPatterns (p ∷ ps)
+-- each list in the pattern has two parts or more
+pub record HasLongLists (p : Expr) : Type 0 where
+  pub groups : (parts : List Expr) → StandsWithin (expr.Group parts) p → 2 ≤ length parts
+  pub choices : (parts : List Expr) → StandsWithin (expr.Choice parts) p → 2 ≤ length parts
 
--- a local name that is one, and a namespace of XML's characters
-pub record IsPlainName (n : Name) : Type 0 where
-  pub named : IsNCName n.local
-  pub legal : IsLegal n.ns
+-- the patterns of attributes' values
+abbrev pub values_of : AttrPart → List Expr
+values_of attributes.AnyAttributes = []
+values_of (attributes.Listed rules) = map (λ rule. rule.value) rules
 
-pub record IsPlainPart (part : NsPart) : Type 0 where
-  pub legal : IsLegal part.ns
-  pub but : All IsPlainName part.but
-
-abbrev pub IsPlainClass : NameClass → Type 0
-IsPlainClass (class.One name) = IsPlainName name
-IsPlainClass (class.AnyBut spaces names) = All IsLegal spaces × All IsPlainName names
-IsPlainClass (class.Within parts) = (parts ≢ []) × All IsPlainPart parts
-
--- any attributes, or none
-abbrev pub ArePlainAttributes : AttrPart → Type 0
-ArePlainAttributes attributes.AnyAttributes = Unit {0}
-ArePlainAttributes (attributes.Listed rules) = rules ≡ []
-
-abbrev pub IsPlainBody : Body → Type 0
-IsPlainBody (body.Element names attrs content) = IsPlainClass names × ArePlainAttributes attrs × IsPlainPattern content
-IsPlainBody (body.Part p) = IsPlainPattern p
-
-pub record IsPlainDefine (d : Define) : Type 0 where
-  pub named : IsNCName d.name
-  pub body : IsPlainBody d.body
+-- the patterns of a define
+abbrev pub patterns_of : Body → List Expr
+patterns_of (body.Element names attrs content) = content ∷ values_of attrs
+patterns_of (body.Part p) = p ∷ []
 
 pub record IsPlain (g : Grammar) : Type 0 where
-  pub start : IsPlainPattern g.start
-  pub defines : All IsPlainDefine g.defines
-  pub rising : IsTrue (is_sorted text_cmp (map entry_of g.defines))
-  pub linked : IsLinked g
+  pub bytes : List ℕ
+  pub denoted : Denotes bytes g
+  pub start : HasLongLists g.start
+  pub defines : (d : Define) (p : Expr) → StandsIn g.defines d → StandsIn (patterns_of d.body) p → HasLongLists p

@@ -1,8 +1,15 @@
 -- Sums that stand still at the greatest number, and patterns by their parts.
-use Rattle.std.proofs.Common.{◌≡◌, ◌↔◌, ◌∙◌, ℕ, ◌+◌, ◌<◌, ◌≤◌, ◌⊎◌, zero, suc, List, [], ◌∷◌, Some, inl, inr, ⊎_elim, refl, sym, ap, arith, rules}
+use Rattle.std.proofs.Common.{◌≡◌, ◌↔◌, ◌∙◌, ℕ, ◌+◌, ◌<◌, ◌≤◌, ◌⊎◌, zero, suc, List, [], ◌∷◌, Some, inl, inr, ⊎_elim, refl, sym, ap, arith, rules, length, get_or}
+use Rattle.std.proofs.lemmas.Cmp.{nat_list_cmp_total}
+use Rattle.std.proofs.lemmas.List.{get_or_default}
 use Rattle.std.proofs.lemmas.List.Sums.{sum-map, sum_by-append, sum_by-cons}
-use Rattle.std.specs.FinMap.{find}
-use Rattle.std.specs.Prelude.{sum_by}
+use Rattle.std.specs.Cmp.{tied_itself}
+use Rattle.std.specs.FinMap.{find, is_sorted}
+use Rattle.std.specs.Ordering.{ordering_reverse}
+use Rattle.std.specs.Prelude.{IsTrue, sum_by}
+use Rattle.std.specs.declared.cmp.Ordering.TheVariants.{Equal}
+use Rattle.odd_text.proofs.Entries.{as_T, find_at, rising}
+use Rattle.odd_text.specs.Map.{IsAfter}
 use Rattle.odd_text.specs.Text.{text_cmp}
 use Rattle.odd_tree.proofs.InList.{StandsOnce, nothing_stands, only_item, stands_first, stands_later}
 use Rattle.odd_tree.specs.Elements.{StandsIn}
@@ -135,3 +142,13 @@ module _ (f h : List ℕ → ℕ) where
       let values = sum_alike (λ (rule : AttrRule). nodes f rule.value) (λ rule. nodes h rule.value) rules (λ rule s. nodes_alike rule.value (λ name r. same name)) in
       omega arith
   element_alike same (body.Part p) = refl
+
+-- in a map an entry is found at its key
+pub find_here : {V : Type 0} (es : List (List ℕ × V)) (at : ℕ) (entry : List ℕ × V) → IsTrue (is_sorted text_cmp es) → at < length es → entry ≡ get_or es at entry
+    → find text_cmp entry.0 es ≡ Some entry.1
+find_here es at entry up within is =
+    let after : IsAfter text_cmp entry.0 es at = λ j d l.
+    nat_list_cmp_total.antisymm entry.0 (get_or es j d).0
+    ∙ ap ordering_reverse (ap (text_cmp (get_or es j d).0) (ap (λ (e : List ℕ × _). e.0) (is ∙ get_or_default es at entry d within)) ∙ rising text_cmp es (as_T _ up) j at d l within) in
+    let tied : text_cmp entry.0 (get_or es at entry).0 ≡ Equal = ap (λ (e : List ℕ × _). text_cmp entry.0 e.0) (sym is) ∙ tied_itself nat_list_cmp_total entry.0 in
+    find_at text_cmp nat_list_cmp_total entry.0 es at entry within after tied ∙ ap (λ (e : List ℕ × _). Some e.1) (sym is)

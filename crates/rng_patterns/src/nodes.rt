@@ -25,7 +25,7 @@ pub fn linked_nodes(alloc: Global, grammar: &Grammar) -> Result<u64, NoMemory>
 {
     let places = places(alloc, &grammar.defines)?;
     let weights = weights(alloc, &places, grammar)?;
-    let start = pattern_nodes(&places, weights.as_slice(), &grammar.start);
+    let start = pattern_nodes(&places, weights.as_slice(), &grammar.start, &mut 0);
     let elements = elements_nodes(&places, weights.as_slice(), &grammar.defines);
     Ok(start.saturating_add(elements))
 }
@@ -90,33 +90,60 @@ fn body_arrows(alloc: Global, places: &Places, body: &Body) -> Result<Nodes, NoM
 {
     let mut arrows = Nodes::new(alloc);
     if let Body::Part(pattern) = body {
-        add_arrows(&mut arrows, places, pattern)?;
+        add_arrows(&mut arrows, places, pattern, &mut 0)?;
     }
     Ok(arrows)
 }
 
 // Adds the places of the names to which a pattern refers.
-fn add_arrows(arrows: &mut Nodes, places: &Places, pattern: &Expr) -> Result<(), NoMemory>
+fn add_arrows(
+    arrows: &mut Nodes,
+    places: &Places,
+    pattern: &Expr,
+    last: &mut usize,
+) -> Result<(), NoMemory>
     ensures { OnOk result ((place : ℕ) → Contains arrows.new place ↔ (Contains arrows.old place ⊎ LeadsTo places.now pattern.now place)) }
 {
     if let Expr::Ref(name) = pattern {
-        add_place(arrows, places, name)?;
+        add_place(arrows, places, name, last)?;
         return Ok(());
     }
     for part in parts(pattern) {
-        add_arrows(arrows, places, part)?;
+        add_arrows(arrows, places, part, last)?;
     }
     Ok(())
 }
 
 // Adds the place of a name, where it has one.
-fn add_place(arrows: &mut Nodes, places: &Places, name: &Text) -> Result<(), NoMemory>
+fn add_place(
+    arrows: &mut Nodes,
+    places: &Places,
+    name: &Text,
+    last: &mut usize,
+) -> Result<(), NoMemory>
     ensures { OnOk result ((place : ℕ) → Contains arrows.new place ↔ (Contains arrows.old place ⊎ (find text_cmp name.now places.now ≡ Some place))) }
 {
-    if let Some(place) = places.find(name) {
-        arrows.push(*place)?;
+    if let Some(place) = place_of(places, name, last) {
+        arrows.push(place)?;
     }
     Ok(())
+}
+
+// The place of a name, where it has one. It is looked for first behind the one that was found last: the members of a class
+// are referred to in the order of their names.
+fn place_of(places: &Places, name: &Text, last: &mut usize) -> Option<usize>
+    ensures { result ≡ find text_cmp name.now places.now }
+{
+    let next = last.saturating_add(1);
+    if let Some((key, place)) = places.entries().get(next) {
+        if key == name {
+            *last = next;
+            return Some(*place);
+        }
+    }
+    let place = places.find(name).copied();
+    *last = place.unwrap_or(next);
+    place
 }
 
 // The patterns that stand in one.
@@ -140,30 +167,30 @@ fn body_nodes(places: &Places, weights: &[u64], body: &Body) -> u64
 {
     match body {
         Body::Element { .. } => 1,
-        Body::Part(pattern) => pattern_nodes(places, weights, pattern),
+        Body::Part(pattern) => pattern_nodes(places, weights, pattern, &mut 0),
     }
 }
 
 // The nodes of a pattern: its parts and itself, or those of the define to which it refers.
-fn pattern_nodes(places: &Places, weights: &[u64], pattern: &Expr) -> u64
+fn pattern_nodes(places: &Places, weights: &[u64], pattern: &Expr, last: &mut usize) -> u64
     ensures { result ≡ counted (nodes (weight_in places.now weights.now) pattern.now) }
 {
     if let Expr::Ref(name) = pattern {
-        return weight(places, weights, name);
+        return weight(places, weights, name, last);
     }
     let mut count = 1_u64;
     for part in parts(pattern) {
-        count = count.saturating_add(pattern_nodes(places, weights, part));
+        count = count.saturating_add(pattern_nodes(places, weights, part, last));
     }
     count
 }
 
 // The nodes of a reference to a name: none where no define has it.
-fn weight(places: &Places, weights: &[u64], name: &Text) -> u64
+fn weight(places: &Places, weights: &[u64], name: &Text, last: &mut usize) -> u64
     ensures { result ≡ weight_in places.now weights.now name.now }
 {
-    match places.find(name) {
-        Some(place) => weights.get(*place).copied().unwrap_or(0),
+    match place_of(places, name, last) {
+        Some(place) => weights.get(place).copied().unwrap_or(0),
         None => 0,
     }
 }
@@ -189,7 +216,7 @@ fn element_nodes(places: &Places, weights: &[u64], body: &Body) -> u64
                 AttrPart::AnyAttributes => 0,
                 AttrPart::Listed(rules) => rules_nodes(places, weights, rules),
             };
-            values.saturating_add(pattern_nodes(places, weights, content))
+            values.saturating_add(pattern_nodes(places, weights, content, &mut 0))
         }
         Body::Part(_) => 0,
     }
@@ -201,7 +228,7 @@ fn rules_nodes(places: &Places, weights: &[u64], rules: &Rules) -> u64
 {
     let mut count = 0_u64;
     for rule in rules.as_slice() {
-        count = count.saturating_add(pattern_nodes(places, weights, &rule.value));
+        count = count.saturating_add(pattern_nodes(places, weights, &rule.value, &mut 0));
     }
     count
 }

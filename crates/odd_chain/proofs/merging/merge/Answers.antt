@@ -1,5 +1,7 @@
 use Rattle.std.proofs.Common.{◌+◌, take, refl, sym, subst, arith}
 use Rattle.std.proofs.lemmas.Result.{err_from_is_err_and}
+use Rattle.std.specs.Prelude.{All}
+use Rattle.odd_library.specs.Formed.{IsFormedDoc}
 use Rattle.odd_modes.specs.Offences.{IsFirstOffence, Offends}
 use Rattle.odd_chain.specs.Offences.{OffendsIn}
 use Rattle.odd_chain.specs.Order.{IsFirst}
@@ -16,6 +18,7 @@ loop-doc-preserved c =
       numbered = omega arith;
       merged = one_merged docs i c.doc-item.result c.loop-doc.library c.loop-doc-test.true c.doc-item.is so_far c.in_ok-library-2.library (c.in_ok-library-2.ensures.library (take i docs) so_far.after)
           (c.in_ok-library-2.ensures.sound refl) (c.in_ok-check.ensures.sound refl);
+      formed = λ all. c.in_ok-library-2.ensures.formed (c.loop-doc.invariant.formed all) (subst IsFormedDoc (sym c.doc-item.is) (all i c.doc-item.result c.loop-doc-test.true));
       unbroken = c.in_ok-check.ensures.sound refl;
     }
 
@@ -45,3 +48,6 @@ pub returns-clause-sound : goal.returns-clause-sound
 returns-clause-sound c = λ is file at o.
     none_left c.as_slice-doc-items.result.now c.loop-doc.doc-index c.loop-doc.library c.loop-doc-test.false c.loop-doc.invariant.merged file at
     (subst (λ ds. OffendsIn ds file at) (sym c.as_slice-doc-items.ensures) o)
+
+pub returns-clause-formed : goal.returns-clause-formed
+returns-clause-formed c = λ all. c.loop-doc.invariant.formed (subst (All IsFormedDoc) (sym c.as_slice-doc-items.ensures) all)

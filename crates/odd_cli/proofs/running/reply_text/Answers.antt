@@ -1,14 +1,16 @@
 use Rattle.std.proofs.Common.{◌≡◌, Err, ap, inl, subst}
-use Rattle.odd_cli.specs.Reading.{IsOfFile}
+use Rattle.std.proofs.lemmas.Result.{IfErr-at_err}
+use Rattle.odd_cli.specs.Reading.{IsOfFile, IsOfTrees}
 use Rattle.odd_cli.specs.Outcome.{answers}
 use Rattle.odd_cli.specs.Reply.{NamesFiles, answered}
+use Rattle.odd_cli.specs.Running.{AreReadWhole, GoesOn}
 use Rattle.odd_cli.specs.declared.status.LimitKind.TheVariants as limit
 use Rattle.odd_cli.specs.declared.status.Status.TheVariants as status
-use Rattle.odd_cli.proofs.Answering.{begun_on_err, begun_stopped, fault_placed, few_read, named_answer, named_compile, named_job, named_none, named_usage, on_any, status_comes, stop_comes, text_accepts, text_comes, trees_not, usage_named}
+use Rattle.odd_cli.proofs.Answering.{begun_on_err, begun_stopped, fault_placed, few_read, named_answer, named_compile, named_job, named_many, named_none, named_usage, on_any, status_comes, stop_comes, text_accepts, text_comes, usage_named}
 use Rattle.odd_cli.proofs.running.reply_text.Goals as goal
 
-pub schema_of_chain-requires : goal.schema_of_chain-requires
-schema_of_chain-requires g c = few_read _ c.args.words.now c.in-Ok.names.now c.in-Ok-read_chain.chain c.in-Ok.ensures.ok c.in-Ok-read_chain.ensures.ok
+pub schema_of_chain-requires-clause-few : goal.schema_of_chain-requires-clause-few
+schema_of_chain-requires-clause-few g c = few_read _ c.args.words.now c.in-Ok.names.now c.in-Ok-read_chain.chain c.in-Ok.ensures.ok c.in-Ok-read_chain.ensures.ok
 
 pub returns-in-Err-clause-err : goal.returns-in-Err-clause-err
 returns-in-Err-clause-err g c = λ files h replied. answered (inl c.in-Err.ensures.err)
@@ -36,26 +38,26 @@ returns-in-Ok-read_chain-clause-err g c = λ files h.
 
 pub returns-in-Ok-read_chain-clause-usage : goal.returns-in-Ok-read_chain-clause-usage
 returns-in-Ok-read_chain-clause-usage g c = (
-  λ is. absurd (trees_not c.schema_of_chain.result status.Usage (λ of. of) c.schema_of_chain.ensures.of_trees is),
+  λ is. absurd (IfErr-at_err IsOfTrees is c.schema_of_chain.ensures.of_trees),
   λ none. absurd (named_job c.args.words.now c.in-Ok.names.now c.in-Ok.ensures.ok none),
 )
 
 pub returns-in-Ok-read_chain-clause-files : goal.returns-in-Ok-read_chain-clause-files
 returns-in-Ok-read_chain-clause-files g c = (
-  λ is. absurd (trees_not c.schema_of_chain.result (status.Limit limit.Files) (λ of. of) c.schema_of_chain.ensures.of_trees is),
+  λ is. absurd (IfErr-at_err IsOfTrees is c.schema_of_chain.ensures.of_trees),
   λ n. absurd (named_none c.args.words.now c.in-Ok.names.now _ c.in-Ok.ensures.ok n),
 )
 
 pub returns-in-Ok-read_chain-clause-begins_err : goal.returns-in-Ok-read_chain-clause-begins_err
 returns-in-Ok-read_chain-clause-begins_err g c =
-    begun_on_err c.args.words.now c.in-Ok.names.now c.in-Ok.ensures.ok _ _ c.schema_of_chain.result c.in-Ok-read_chain.ensures.begins c.schema_of_chain.ensures.of_trees
+    begun_on_err c.args.words.now c.in-Ok.names.now c.in-Ok.ensures.ok _ _ _ _ c.schema_of_chain.result c.in-Ok-read_chain.ensures.begins c.in-Ok-read_chain.ensures.few_reads c.schema_of_chain.ensures.of_trees
 
 pub returns-in-Err-read_chain-clause-err : goal.returns-in-Err-read_chain-clause-err
 returns-in-Err-read_chain-clause-err g c = λ files h.
     stop_comes files c.args.words.now c.in-Ok.names.now c.in-Err-read_chain.status c.in-Ok.ensures.ok (c.in-Err-read_chain.ensures.err files h)
 
 pub returns-in-Err-read_chain-clause-begins_err : goal.returns-in-Err-read_chain-clause-begins_err
-returns-in-Err-read_chain-clause-begins_err g c = begun_stopped c.args.words.now c.in-Ok.names.now c.in-Ok.ensures.ok _ _ c.in-Err-read_chain.status c.in-Err-read_chain.ensures.begins_err
+returns-in-Err-read_chain-clause-begins_err g c = begun_stopped c.args.words.now c.in-Ok.names.now c.in-Ok.ensures.ok _ _ _ _ c.in-Err-read_chain.status c.in-Err-read_chain.ensures.begins_err
 
 pub returns-in-Err-read_chain-clause-read_place : goal.returns-in-Err-read_chain-clause-read_place
 returns-in-Err-read_chain-clause-read_place g c = λ files file h is.
@@ -64,7 +66,10 @@ returns-in-Err-read_chain-clause-read_place g c = λ files file h is.
 
 pub returns-in-Ok-read_chain-clause-to_the_end : goal.returns-in-Ok-read_chain-clause-to_the_end
 returns-in-Ok-read_chain-clause-to_the_end g c = λ files h.
-    on_any c.schema_of_chain.result _ (c.in-Ok-read_chain.ensures.to_the_end files h (named_compile c.args.words.now c.in-Ok.names.now c.in-Ok.ensures.ok).some)
+    on_any c.schema_of_chain.result _ (
+      subst (λ n. AreReadWhole g.F.Shelf.begins g.F.Shelf.rest (GoesOn g.F.Shelf.holds g.F.Shelf.steady g.F.Shelf.faults g.F.Shelf.begins g.F.Shelf.reads) n c.args.shelf.now c.read_chain.new.shelf) (named_many c.args.words.now c.in-Ok.names.now c.in-Ok.ensures.ok) (c.in-Ok-read_chain.ensures.to_the_end files h),
+      c.in-Ok-read_chain.ensures.last_ended files h (named_compile c.args.words.now c.in-Ok.names.now c.in-Ok.ensures.ok).some,
+    )
 
 pub returns-in-Err-read_chain-clause-usage : goal.returns-in-Err-read_chain-clause-usage
 returns-in-Err-read_chain-clause-usage g c = (

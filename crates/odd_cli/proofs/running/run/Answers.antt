@@ -31,22 +31,22 @@ returns-in-Ok-write_whole-clause-one g c = λ files before text s h b replied re
     (c.noted.ensures.same ∙ is_done, c.in-Ok-write_whole.ensures.whole before b ∙ ap (λ t. Some (before ++ t)) same)
 
 pub returns-in-Ok-clause-complete_steady : goal.returns-in-Ok-clause-complete_steady
-returns-in-Ok-clause-complete_steady g c = λ files text h reply shelf_steady steady fits.
-    let same : text ≡ c.as_bytes.result.now = one_text c.args.words.now files text c.in-Ok.text reply (c.in-Ok.ensures.ok files h) ∙ sym (c.as_bytes.ensures.value ∙ c.as_str.ensures) in
-    let wrong : false ≡ true = c.in-Err-write_whole.ensures.room steady (subst (λ x. length x ≤ g.W.Sink.room c.args.out.now) same fits) in
+returns-in-Ok-clause-complete_steady g c = λ files h sound shelf_steady steady fits.
+    let same : c.in-Ok.text ≡ c.as_bytes.result.now = sym (c.as_bytes.ensures.value ∙ c.as_str.ensures) in
+    let wrong : false ≡ true = c.in-Err-write_whole.ensures.room steady (subst (λ x. length x ≤ g.W.Sink.room c.args.out.now) same (fits c.in-Ok.text (c.in-Ok.ensures.ok files h))) in
     cc
 
 pub returns-clause-complete : goal.returns-clause-complete
-returns-clause-complete g c = λ files text h reply no_read no_write.
+returns-clause-complete g c = λ files h sound no_read no_write.
     subst IsComplete (sym c.noted-in-Err.ensures.same)
-    (silent_complete c.args.words.now files text c.in-Err.status reply c.in-Err.ensures.early (c.in-Err.ensures.err files h)
+    (silent_complete c.args.words.now files c.in-Err.status sound c.in-Err.ensures.early (c.in-Err.ensures.err files h)
     (λ file is. no_read (c.in-Err.ensures.read_cause file (ap Err is))))
 
 pub returns-clause-complete_steady : goal.returns-clause-complete_steady
-returns-clause-complete_steady g c = λ files text h reply shelf_steady steady fits.
+returns-clause-complete_steady g c = λ files h sound shelf_steady steady fits.
     subst IsComplete (sym c.noted-in-Err.ensures.same)
-    (silent_complete c.args.words.now files text c.in-Err.status reply c.in-Err.ensures.early (c.in-Err.ensures.err files h)
-    (λ file is. reads_steady c.args.words.now files text file (g.F.Shelf.rest c.reply_text.new.shelf) (g.F.Shelf.steady c.args.shelf.now) reply
+    (silent_complete c.args.words.now files c.in-Err.status sound c.in-Err.ensures.early (c.in-Err.ensures.err files h)
+    (λ file is. reads_steady c.args.words.now files file (g.F.Shelf.rest c.reply_text.new.shelf) (g.F.Shelf.steady c.args.shelf.now) sound
     (c.in-Err.ensures.read_place files file h (ap Err is)) shelf_steady))
 
 pub returns-clause-one : goal.returns-clause-one

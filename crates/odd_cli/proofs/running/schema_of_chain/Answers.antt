@@ -1,5 +1,6 @@
 use Rattle.std.proofs.Common.{ap, Err}
-use Rattle.odd_cli.proofs.Formed.{errors_come, pending_come, refused_come, schema_accepts, schema_comes}
+use Rattle.std.proofs.lemmas.Result.{IfErr-weaker}
+use Rattle.odd_cli.proofs.Coming.{error_comes, pending_come, refused_come, schema_accepts, schema_comes}
 use Rattle.odd_cli.proofs.running.schema_of_chain.Goals as goal
 
 pub returns-in-Ok-clause-ok : goal.returns-in-Ok-clause-ok
@@ -9,7 +10,7 @@ pub returns-in-Ok-clause-accepts : goal.returns-in-Ok-clause-accepts
 returns-in-Ok-clause-accepts c = schema_accepts c.args.chain c.in-Ok.library c.in-Ok.ensures.library c.schema_of_library.result c.schema_of_library.ensures.accepts
 
 pub returns-in-Ok-clause-err : goal.returns-in-Ok-clause-err
-returns-in-Ok-clause-err c = errors_come c.args.chain c.in-Ok.library c.in-Ok.ensures.library c.args.files c.schema_of_library.result c.schema_of_library.ensures.err
+returns-in-Ok-clause-err c = IfErr-weaker c.schema_of_library.result _ _ (error_comes c.args.chain c.in-Ok.library c.in-Ok.ensures.library c.args.files) c.schema_of_library.ensures.err
 
 pub returns-in-Err-Offence-clause-err : goal.returns-in-Err-Offence-clause-err
 returns-in-Err-Offence-clause-err c =

@@ -1,4 +1,6 @@
-use Rattle.std.proofs.Common.{◌≡◌, ap, refl, ◌∙◌, Err}
+use Rattle.std.proofs.Common.{◌≡◌, ap, refl, subst, sym, ◌∙◌, Err}
+use Rattle.compile_core.proofs.SchemaText.{schema_text}
+use Rattle.compile_core.specs.SchemaText.{IsSchemaText}
 use Rattle.odd_cli.specs.Reply.{HasSchema, start_offence}
 use Rattle.odd_cli.proofs.running.schema_of_library.Goals as goal
 
@@ -18,11 +20,12 @@ returns-in-Err-TooLarge-clause-err c = c.in-Err-TooLarge.ensures.too_large (ap E
 
 pub returns-in-Ok-print_rng-clause-ok : goal.returns-in-Ok-print_rng-clause-ok
 returns-in-Ok-print_rng-clause-ok c =
-    HasSchema.schema c.in-Ok.grammar (record { holds_start = c.in-Ok.ensures.held refl; is_grammar = c.in-Ok.ensures.grammar; within = c.in-Ok.ensures.within }) c.in-Ok-print_rng.ensures.text
+    HasSchema.schema c.in-Ok.grammar (record { holds_start = c.in-Ok.ensures.held refl; is_grammar = c.in-Ok.ensures.grammar; within = c.in-Ok.ensures.within })
+    (subst (IsSchemaText c.args.library.now c.args.library.now.start) (sym c.in-Ok-print_rng.ensures.text) (schema_text c.args.library.now c.args.library.now.start c.in-Ok.grammar c.in-Ok.ensures.grammar))
 
 pub returns-in-Ok-print_rng-clause-accepts : goal.returns-in-Ok-print_rng-clause-accepts
-returns-in-Ok-print_rng-clause-accepts c = λ f. record {
+returns-in-Ok-print_rng-clause-accepts c = record {
   grammar = c.in-Ok.grammar;
-  denotes = c.in-Ok-print_rng.ensures.denotes (c.in-Ok.ensures.plain f);
-  accepts = c.in-Ok.ensures.accepts f;
+  denotes = c.in-Ok-print_rng.ensures.denotes (c.in-Ok.ensures.plain c.requires.formed);
+  accepts = c.in-Ok.ensures.accepts c.requires.formed;
 }

@@ -2,7 +2,6 @@ use Rattle.std.proofs.Common.{◌≡◌, ◌≢◌, ℕ, true, false, All, List,
 use Rattle.std.proofs.lemmas.Bool.{eqb-true}
 use Rattle.std.proofs.lemmas.List.{nil_from_length}
 use Rattle.odd_cli.specs.Words.{Compiles, IsFileWord, WordsMean, compile}
-use Rattle.odd_cli.specs.declared.words.Command.TheVariants as command
 use Rattle.odd_cli.specs.declared.words.Job.{Job}
 use Rattle.odd_cli.proofs.words.job_asked.Goals as goal
 use Rattle.odd_cli.proofs.words.job_asked.Goals.{then-not-is_word-via-then-not-is_word, then-not-is_word-via-else-not-is_word+then-is_empty, then-not-is_word-via-else-not-is_word+else-is_empty+then-not-are_files}

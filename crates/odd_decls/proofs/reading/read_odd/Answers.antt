@@ -2,6 +2,7 @@ use Rattle.std.proofs.Common.{◌≡◌, subst}
 use Rattle.std.proofs.lemmas.Bool.{both_ways}
 use Rattle.odd_decls.specs.Pending.{form}
 use Rattle.odd_decls.specs.declared.reading.Read.TheVariants as read
+use Rattle.odd_decls.proofs.FormedDocs.{doc_formed}
 use Rattle.odd_decls.proofs.Refusing.{IsFileRead, declares_of, file_read, none_pending, offence_of, refusal_of, told_as}
 use Rattle.odd_decls.proofs.reading.read_odd.Goals as goal
 
@@ -19,6 +20,9 @@ returns-in-Doc-clause-ok c first end formed =
     (λ h. both_ways c.is_pending.result c.if-is_pending.false (c.is_pending.ensures.1 h)) c.new-schemas.ensures.items c.in_ok-find_schemas.ensures c.as_slice.ensures.value
     c.in-len1-up.len_at_least c.schema-item.is c.in_ok-doc.ensures in
     declares_of first end c.args.tree.now c.in-Doc.doc formed (subst (IsFileRead c.args.tree.now) c.in-Doc.is file)
+
+pub returns-in-Doc-clause-formed : goal.returns-in-Doc-clause-formed
+returns-in-Doc-clause-formed c first end formed = doc_formed c.args.tree.now c.in-Doc.doc first end formed (returns-in-Doc-clause-ok c first end formed)
 
 -- what is read where a rule is broken
 broken_file : (c : goal.After-drop-schemas-2) → IsFileRead c.args.tree.now (read.Broken c.in-Broken.fault)

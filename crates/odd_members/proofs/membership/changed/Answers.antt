@@ -1,8 +1,9 @@
-use Rattle.std.proofs.Common.{◌≡◌, ◌<◌, Bool, [], ◌∷◌, ◌++◌, List, ℕ, not, filter, length, get_or, refl, take, ap, sym, subst, ◌∙◌, append_assoc, arith}
+use Rattle.std.proofs.Common.{◌≡◌, ◌<◌, Bool, [], ◌∷◌, ◌++◌, List, ℕ, not, filter, length, get_or, refl, take, ap, sym, subst, ◌∙◌, append_assoc, arith, IfOk}
 use Rattle.std.proofs.Math.Seq.{take-length}
 use Rattle.std.proofs.lemmas.Cmp.{nat_list_cmp_total}
 use Rattle.std.proofs.lemmas.Result.{IfOk-weaker}
 use Rattle.std.specs.FinMap.{find, slice_cmp-IsAntisymmetric, nat_cmp-IsAntisymmetric}
+use Rattle.odd_text.proofs.Entries.{as_T}
 use Rattle.odd_text.specs.Text.{text_cmp}
 use Rattle.odd_tree.specs.Elements.{StandsIn}
 use Rattle.odd_tree.proofs.InList.{ends}
@@ -10,6 +11,7 @@ use Rattle.odd_forms.specs.Sorted.{IsSet, set_of}
 use Rattle.odd_forms.proofs.SetOf.{one_set, set_of_is}
 use Rattle.odd_members.specs.Membership.{takes}
 use Rattle.odd_members.specs.Members.{added_keys}
+use Rattle.odd_members.proofs.Changed.{changed_set}
 use Rattle.odd_members.proofs.Marks.{added_more, added_same, kept_more, kept_same, not_taken}
 use Rattle.odd_members.proofs.membership.changed.Goals.{then-ne+in_ok-copy+in_ok-push, else-ne, then-is_added+in_ok-copy-2+in_ok-push-2, else-is_added}
 use Rattle.odd_members.proofs.membership.changed.Goals as goal
@@ -54,5 +56,9 @@ returns c =
     let whole : c.loop-word-2.words ≡ stay ++ added_keys marks =
     c.loop-word-2.invariant ∙ ap (λ i. stay ++ added_keys (take i marks)) (at_end ∙ ap length c.entries-word-items.ensures.all) ∙ ap (λ es. stay ++ added_keys es) (take-length marks) in
     let exact = slice_cmp-IsAntisymmetric nat_cmp-IsAntisymmetric in
-    let set = subst (λ words. IsSet text_cmp (StandsIn words) (set_of text_cmp (stay ++ added_keys marks))) (sym whole) (set_of_is text_cmp nat_list_cmp_total exact (stay ++ added_keys marks)) in
-    IfOk-weaker c.sorted.result _ _ (λ made is. one_set text_cmp nat_list_cmp_total (StandsIn c.loop-word-2.words) made (set_of text_cmp (stay ++ added_keys marks)) is set) c.sorted.ensures
+    let set = set_of_is text_cmp nat_list_cmp_total exact (stay ++ added_keys marks) in
+    let sorted = subst (λ words. IfOk c.sorted.result (IsSet text_cmp (StandsIn words))) whole c.sorted.ensures in
+    record {
+      value = IfOk-weaker c.sorted.result _ _ (λ made is. one_set text_cmp nat_list_cmp_total (StandsIn (stay ++ added_keys marks)) made (set_of text_cmp (stay ++ added_keys marks)) is set) sorted;
+      set = IfOk-weaker c.sorted.result _ _ (λ made is. changed_set marks c.args.before.now made (as_T _ c.entries-word-items.ensures.rising) is) sorted;
+    }

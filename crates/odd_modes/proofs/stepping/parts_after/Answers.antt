@@ -50,4 +50,4 @@ returns-clause-holds c = λ key.
     c.loop-key.invariant.holds key
     ∙ ap (λ ks. if list_any (eq_by_cmp key_cmp key) ks then over (spec_at doc.entries key) (find key_cmp key library.parts) else None)
     (take_all c.loop-key.key-index c.as_slice-key-items.result.now c.loop-key-test.false ∙ c.as_slice-key-items.ensures)
-    ∙ all_held library doc key (list_any (eq_by_cmp key_cmp key) ordered) (among_all library doc c.in_ok-keys.keys all ordered key (c.in_ok-keys.ensures doc c.requires key) either c.in_ok-keys-2.ensures)
+    ∙ all_held library doc key (list_any (eq_by_cmp key_cmp key) ordered) (among_all library doc c.in_ok-keys.keys all ordered key (c.in_ok-keys.ensures.chosen doc c.requires key) either c.in_ok-keys-2.ensures)

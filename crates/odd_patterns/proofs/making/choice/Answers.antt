@@ -12,7 +12,7 @@ pub returns-in-Never-right : goal.returns-in-Never-right
 returns-in-Never-right g c = subst (λ y. SameWords c.args.left (Choice c.args.left y)) (sym c.in-Never-right.is) (never_right c.args.left)
 
 pub returns-then-same : goal.returns-then-same
-returns-then-same g c = either_same c.args.left c.args.right (c.same.ensures c.if-same.true)
+returns-then-same g c = either_same c.args.left c.args.right (c.same.ensures.0 c.if-same.true)
 
 pub returns-else-same : goal.returns-else-same
 returns-else-same g c =

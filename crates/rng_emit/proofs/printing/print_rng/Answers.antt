@@ -1,4 +1,4 @@
-use Rattle.rng_emit.proofs.Denoted.{text_denotes}
+use Rattle.rng_emit.proofs.Plain.{text_denotes}
 use Rattle.rng_emit.proofs.printing.print_rng.Goals as goal
 
 pub returns-clause-denotes : goal.returns-clause-denotes

@@ -1,5 +1,5 @@
 use Rattle.odd_chain.specs.Files.{none}
 use Rattle.odd_chain.proofs.chain.Chain.new.Goals as goal
 
-pub returns : goal.returns
-returns c = rw c.new.ensures none
+pub returns-clause-empty : goal.returns-clause-empty
+returns-clause-empty c = rw c.new.ensures none

@@ -1,0 +1,176 @@
+-- A library's grammar has the text of the library's schema, which is one text.
+use Rattle.std.proofs.Common.{◌≡◌, ℕ, zero, suc, Bool, true, false, List, [], ◌∷◌, ◌++◌, ◌-◌, Option, Some, None, if◌then◌else◌, codes, filter, map, replicate, refl, sym, ap, subst, ◌∙◌}
+use Rattle.std.proofs.lemmas.Cmp.{nat_list_cmp_total, on_total}
+use Rattle.std.proofs.lemmas.List.{map-append}
+use Rattle.std.proofs.lemmas.Simd.{map-map}
+use Rattle.compile_contents.specs.Conditions.{IsConditionOf}
+use Rattle.compile_contents.specs.Contents.{class_name, condition_name, content_pattern, define_name, element_pattern, holds_element, holds_macro, macro_name, macro_pattern, members_pattern, part_patterns, reference, references_pattern}
+use Rattle.compile_contents.specs.Repeating as repeating
+use Rattle.compile_contents.specs.Repeating.{choice_pattern, group_pattern, repeated, repeated_within}
+use Rattle.compile_core.proofs.OneGrammarOf.{one_members}
+use Rattle.compile_core.specs.SchemaText as text
+use Rattle.compile_core.specs.SchemaText.{Defines, Held, IsSchemaText, choice, condition_markup, content_markup, element_throughout, further, group, held_cmp, members_markup, often, often_within, parts_markup, refs, schema_markup, within_spaces}
+use Rattle.compile_defines.proofs.NamedDefines.{define_total}
+use Rattle.compile_defines.specs.Compiled as compiled
+use Rattle.compile_defines.specs.Compiled.{IsDefineOf, IsGrammarOf, body_requiring, body_within, content_throughout, define_cmp, space_part, spaces_left}
+use Rattle.odd_content.specs.ConditionOrder.{condition_cmp, condition_total}
+use Rattle.odd_content.specs.Picking.{is_picked}
+use Rattle.odd_content.specs.declared.content.Condition.{Condition}
+use Rattle.odd_content.specs.declared.content.Content.{Content, Empty, Text, Element, Class, Macro, Any, Sequence', Alternate', Row_of-Content, end_of-Content, more_of-Content}
+use Rattle.odd_content.specs.declared.content.Pick.{Pick}
+use Rattle.odd_content.specs.declared.content.Pick.TheVariants as pick
+use Rattle.odd_forms.proofs.SetOf.{first_below, none_rising, one_set, rest_rising, rising_more}
+use Rattle.odd_forms.specs.Sorted.{AreRising, IsSet}
+use Rattle.odd_library.specs.declared.library.Library.{Library}
+use Rattle.odd_meaning.specs.Classes.{Members}
+use Rattle.odd_tree.proofs.InList.{map_stands, stands_map}
+use Rattle.odd_tree.specs.Elements.{StandsIn}
+use Rattle.odd_tree.specs.Markup.{Markup, file_printed}
+use Rattle.rng_emit.proofs.Shapes.{choice_is, empty_is, group_is, not_allowed_is, one_or_more_is, optional_is, ref_is, text_is, zero_or_more_is}
+use Rattle.rng_emit.specs.Grammar.{any_attributes, body_markup, grammar_markup, grammar_text, named, part_markup, pattern_markup, plain}
+use Rattle.rng_patterns.specs.declared.grammar.Define.{Define}
+use Rattle.rng_patterns.specs.declared.grammar.Expr.{Expr}
+use Rattle.rng_patterns.specs.declared.grammar.Expr.TheVariants as expr
+use Rattle.rng_patterns.specs.declared.grammar.Grammar.{Grammar}
+use Rattle.rng_patterns.specs.declared.grammar.NsPart.{NsPart}
+use Rattle.rng_values.specs.declared.bounds.Bounds.{Bounds}
+use Rattle.std.specs.declared.cmp.Ordering.TheVariants.{Less}
+
+-- the images of copies are copies of the image
+copies : {A B : Type 0} (f : A → B) (n : ℕ) (x : A) → map f (replicate n x) ≡ replicate n (f x)
+copies f zero x = refl
+copies f (suc n) x = ap (λ ys. f x ∷ ys) (copies f n x)
+
+-- the element of a group, a choice and a repetition, by those of its parts
+
+group_markup : (ps : List Expr) → pattern_markup (group_pattern ps) ≡ group (map pattern_markup ps)
+group_markup [] = empty_is
+group_markup (p ∷ []) = refl
+group_markup (p ∷ q ∷ ps) = group_is (p ∷ q ∷ ps)
+
+choice_markup : (ps : List Expr) → pattern_markup (choice_pattern ps) ≡ choice (map pattern_markup ps)
+choice_markup [] = not_allowed_is
+choice_markup (p ∷ []) = refl
+choice_markup (p ∷ q ∷ ps) = choice_is (p ∷ q ∷ ps)
+
+further_markup : (p : Expr) (min : ℕ) (max : Option ℕ) → map pattern_markup (repeating.further p min max) ≡ further (pattern_markup p) min max
+further_markup p min None = ap (λ m. m ∷ []) (zero_or_more_is p)
+further_markup p min (Some max) = copies pattern_markup (max - min) (expr.Optional p) ∙ ap (λ m. replicate (max - min) m) (optional_is p)
+
+repeated_markup : (p : Expr) (min : ℕ) (max : Option ℕ) → pattern_markup (repeated_within p min max) ≡ often_within (pattern_markup p) min max
+repeated_markup p (suc zero) None = one_or_more_is p
+repeated_markup p min max =
+    group_markup (replicate min p ++ repeating.further p min max)
+    ∙ ap group (map-append pattern_markup (replicate min p) (repeating.further p min max) ∙ (λ i. copies pattern_markup min p i ++ further_markup p min max i))
+
+often_is : (p : Expr) (m : Markup) (b : Bounds) → pattern_markup p ≡ m → pattern_markup (repeated p b) ≡ often m b
+often_is p m b e = repeated_markup p b.min b.max ∙ ap (λ x. often x b) e
+
+-- references to elements
+refs_is : (idents : List (List ℕ)) → pattern_markup (references_pattern idents) ≡ refs idents
+refs_is idents = choice_markup (map reference idents) ∙ ap choice (map-map pattern_markup reference idents ∙ (λ i. map (λ ident. ref_is (define_name ident) i) idents))
+
+-- what is held, and else nothing
+if_held : (p : Expr) (m : Markup) (held : Bool) → pattern_markup p ≡ m → pattern_markup (if held then p else expr.NotAllowed) ≡ (if held then m else plain (codes "notAllowed") [])
+if_held p m true e = e
+if_held p m false e = not_allowed_is
+
+-- the members of a class, by what is listed
+members_is : (key : List ℕ) (p : Pick) (listed : Option (List (List ℕ))) → pattern_markup (members_pattern key p listed) ≡ members_markup key p listed
+members_is key p None = not_allowed_is
+members_is key pick.All (Some idents) = ref_is (class_name key)
+members_is key (pick.Include words) (Some idents) = refs_is (filter (is_picked (pick.Include words)) idents)
+members_is key (pick.Except words) (Some idents) = refs_is (filter (is_picked (pick.Except words)) idents)
+
+module _ (library : Library) (conditions : List Condition) (members : Members) where
+  mutual
+    -- a content, by what it is made of
+    content_is : (c : Content) → pattern_markup (content_pattern library conditions members c) ≡ content_markup library conditions members c
+    content_is Empty = empty_is
+    content_is Text = text_is
+    content_is (Element key b) = often_is (element_pattern library key) _ b (if_held (reference key) _ (holds_element library key) (ref_is (define_name key)))
+    content_is (Class key p b) = often_is (members_pattern key p (members key)) _ b (members_is key p (members key))
+    content_is (Macro key b) = often_is (macro_pattern library key) _ b (if_held (expr.Ref (macro_name key)) _ (holds_macro library key) (ref_is (macro_name key)))
+    content_is (Any c b) = often_is (expr.Ref (condition_name conditions c)) _ b (ref_is (condition_name conditions c))
+    content_is (Sequence' shape parts b) = often_is _ _ b (group_markup (part_patterns library conditions members parts) ∙ ap group (parts_are parts))
+    content_is (Alternate' shape parts b) = often_is _ _ b (choice_markup (part_patterns library conditions members parts) ∙ ap choice (parts_are parts))
+
+    -- and each of its parts
+    parts_are : {n : _} (parts : Row_of-Content n) → map pattern_markup (part_patterns library conditions members parts) ≡ parts_markup library conditions members parts
+    parts_are end_of-Content = refl
+    parts_are (more_of-Content part parts) = λ i. content_is part i ∷ parts_are parts i
+
+-- an element with any attributes, over texts and such elements
+throughout_is : (name : List ℕ) (m : Markup) → plain (codes "element") (m ∷ any_attributes ∷ pattern_markup (content_throughout name) ∷ []) ≡ element_throughout name m
+throughout_is name m = simp (zero_or_more_is, choice_is, text_is, ref_is)
+
+-- in one of some namespaces
+within_is : (name : List ℕ) (parts : List NsPart) → body_markup (body_within name parts) ≡ within_spaces name (map part_markup parts)
+within_is name [] = not_allowed_is
+within_is name (part ∷ []) = throughout_is name _
+within_is name (part ∷ other ∷ parts) = throughout_is name _
+
+-- that meets a condition
+condition_is : (name : List ℕ) (c : Condition) (spaces : List (List ℕ)) → body_markup (body_requiring name c spaces) ≡ condition_markup name c spaces
+condition_is name c [] = throughout_is name _
+condition_is name c (space ∷ spaces) = within_is name (map (space_part c) (spaces_left c)) ∙ ap (within_spaces name) (map-map part_markup (space_part c) (spaces_left c))
+
+-- what the text says of a define
+abbrev held : Define → Held
+held d = (d.name, body_markup d.body)
+
+-- this of defines that rise rises
+held_rise : (ds : List Define) → AreRising define_cmp ds → AreRising held_cmp (map held ds)
+held_rise [] r = none_rising held_cmp
+held_rise (d ∷ ds) r =
+    rising_more held_cmp (held d) (map held ds)
+    (λ h s. let at = stands_map held ds h s in subst (λ x. held_cmp (held d) x ≡ Less) (sym at.2) (first_below define_cmp define_total d ds r at.0 at.1))
+    (held_rise ds (rest_rising define_cmp define_total d ds r))
+
+module _ (library : Library) (conditions : List Condition) (members : Members) where
+  -- the text says each define of the grammar
+  held_is : (d : Define) → IsDefineOf library conditions members d → Defines library conditions members (held d)
+  held_is d (compiled.of_condition c s e) = text.of_condition c s (ap held e ∙ rw (condition_is (condition_name conditions c) c c.require))
+  held_is d (compiled.of_class ident idents listed e) = text.of_class ident idents listed (ap held e ∙ rw (refs_is idents))
+  held_is d (compiled.of_element ident part at e) = text.of_element ident part at (ap held e ∙ rw (content_is library conditions members part.content))
+  held_is d (compiled.of_macro ident part at e) = text.of_macro ident part at (ap held e ∙ rw (content_is library conditions members part.content))
+
+  -- and nothing else
+  is_held : (h : Held) → Defines library conditions members h → (d : Define) × IsDefineOf library conditions members d × (h ≡ held d)
+  is_held h (text.of_condition c s e) = (_, compiled.of_condition c s refl, e ∙ rw (condition_is (condition_name conditions c) c c.require))
+  is_held h (text.of_class ident idents listed e) = (_, compiled.of_class ident idents listed refl, e ∙ rw (refs_is idents))
+  is_held h (text.of_element ident part at e) = (_, compiled.of_element ident part at refl, e ∙ rw (content_is library conditions members part.content))
+  is_held h (text.of_macro ident part at e) = (_, compiled.of_macro ident part at refl, e ∙ rw (content_is library conditions members part.content))
+
+  -- so it says the set of them
+  held_set : (ds : List Define) → IsSet define_cmp (IsDefineOf library conditions members) ds → IsSet held_cmp (Defines library conditions members) (map held ds)
+  held_set ds set = record {
+    rising = held_rise ds set.rising;
+    none_else = λ h s. let at = stands_map held ds h s in subst (Defines library conditions members) (sym at.2) (held_is at.0 (set.none_else at.0 at.1));
+    each = λ h is. let of = is_held h is in subst (StandsIn (map held ds)) (sym of.2) (map_stands held ds of.0 (set.each of.0 of.1));
+  }
+
+-- the text of the grammar of a library and a list of start words is that of their schema
+pub schema_text : (library : Library) (start : List (List ℕ)) (g : Grammar) → IsGrammarOf library start g → IsSchemaText library start (grammar_text g)
+schema_text library start g is = record {
+  conditions = is.conditions;
+  are_conditions = is.are_conditions;
+  members = is.members;
+  are_members = is.are_members;
+  defines = map held g.defines;
+  are_defines = held_set library is.conditions is.members g.defines is.are_defines;
+  text_is =
+      let begin = ap pattern_markup is.start_is ∙ refs_is start in
+      let defines = sym (map-map (λ (d : Held). named (codes "define") d.0 (d.1 ∷ [])) held g.defines) in
+      λ i. file_printed (grammar_markup (begin i) (defines i));
+}
+
+-- and that is one text
+pub one_schema_text : (library : Library) (start : List (List ℕ)) (text other : List ℕ) → IsSchemaText library start text → IsSchemaText library start other → text ≡ other
+one_schema_text library start text other p q =
+    let conditions : p.conditions ≡ q.conditions = one_set condition_cmp condition_total (IsConditionOf library) p.conditions q.conditions p.are_conditions q.are_conditions in
+    let members : p.members ≡ q.members = one_members library p.members q.members p.are_members q.are_members in
+    let same : Defines library p.conditions p.members ≡ Defines library q.conditions q.members = λ i. Defines library (conditions i) (members i) in
+    let set : IsSet held_cmp (Defines library q.conditions q.members) p.defines = subst (λ (Is : Held → Type 0). IsSet held_cmp Is p.defines) same p.are_defines in
+    let defines : p.defines ≡ q.defines = one_set held_cmp (on_total (λ (d : Held). d.0) nat_list_cmp_total) (Defines library q.conditions q.members) p.defines q.defines set q.are_defines in
+    p.text_is ∙ ap (λ ds. file_printed (schema_markup (refs start) ds)) defines ∙ sym q.text_is
