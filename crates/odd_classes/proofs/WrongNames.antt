@@ -19,7 +19,7 @@ use Rattle.odd_text.specs.KeyOrder.{key_total}
 use Rattle.odd_text.specs.declared.key.Key.{Key}
 use Rattle.odd_text.specs.declared.key.Kind.TheVariants as kind
 use Rattle.odd_tree.proofs.InList.{StandsOnce}
-use Rattle.rng_values.specs.declared.bounds.Bounds.{Bounds}
+use Rattle.rng_types.specs.declared.bounds.Bounds.{Bounds}
 use Rattle.odd_classes.proofs.Places.{entry_held, held_at, places_rise}
 use Rattle.odd_classes.specs.Placing.{IsFirstAmong, NamesWrongly, IsEntryAt, IsWrong}
 use Rattle.odd_classes.specs.declared.rules.WrongReference.{WrongReference}

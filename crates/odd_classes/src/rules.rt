@@ -94,9 +94,12 @@ fn names(
 fn is_wrong(library: &Library, wrong: WrongReference, key: &Key) -> bool
     ensures { IsTrue result ↔ IsWrong library.now wrong key.now }
 {
-    match (wrong, key.kind, library.find(key)) {
-        (WrongReference::MacroNotHeld, Kind::Macro, None) => true,
-        (WrongReference::OfAttributes, Kind::Class, Some(part)) => is_of_attributes(part),
+    match (wrong, key.kind) {
+        (WrongReference::MacroNotHeld, Kind::Macro) => library.find(key).is_none(),
+        (WrongReference::OfAttributes, Kind::Class) => match library.find(key) {
+            Some(part) => is_of_attributes(part),
+            None => false,
+        },
         _ => false,
     }
 }

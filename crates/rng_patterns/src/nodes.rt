@@ -129,21 +129,32 @@ fn add_place(
     Ok(())
 }
 
-// The place of a name, where it has one. It is looked for first behind the one that was found last: the members of a class
-// are referred to in the order of their names.
+// The place of a name, where it has one. It is looked for first behind the one that was found last, since the members of a class
+// are referred to in the order of their names, and then where that one was: a part that stands several times is referred to again.
 fn place_of(places: &Places, name: &Text, last: &mut usize) -> Option<usize>
     ensures { result ≡ find text_cmp name.now places.now }
 {
     let next = last.saturating_add(1);
-    if let Some((key, place)) = places.entries().get(next) {
-        if key == name {
-            *last = next;
-            return Some(*place);
-        }
+    if let Some(place) = place_at(places, name, next) {
+        *last = next;
+        return Some(place);
+    }
+    if let Some(place) = place_at(places, name, *last) {
+        return Some(place);
     }
     let place = places.find(name).copied();
     *last = place.unwrap_or(next);
     place
+}
+
+// The place of a name, where its entry is the one at `at`.
+fn place_at(places: &Places, name: &Text, at: usize) -> Option<usize>
+    ensures { (place : ℕ) → result ≡ Some place → find text_cmp name.now places.now ≡ Some place }
+{
+    match places.entries().get(at) {
+        Some((key, place)) if key == name => Some(*place),
+        _ => None,
+    }
 }
 
 // The patterns that stand in one.
