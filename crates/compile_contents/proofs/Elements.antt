@@ -11,7 +11,7 @@ use Rattle.rng_emit.specs.Grammar.{all_of, pattern_markup}
 use Rattle.rng_emit.specs.Nodes.{elements_among, elements_in}
 use Rattle.rng_patterns.specs.declared.grammar.Expr.{Expr}
 use Rattle.rng_patterns.specs.declared.grammar.Expr.TheVariants as expr
-use Rattle.rng_values.specs.declared.bounds.Bounds.{Bounds}
+use Rattle.rng_types.specs.declared.bounds.Bounds.{Bounds}
 use Rattle.compile_contents.specs.Budget.{joined_elements, joint_elements, pattern_elements}
 use Rattle.compile_contents.specs.Contents.{define_name, reference, references_pattern}
 use Rattle.compile_contents.specs.Parts.{is_never, never_within}

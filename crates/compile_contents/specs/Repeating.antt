@@ -2,7 +2,7 @@
 use Rattle.std.specs.Prelude.{ℕ, zero, suc, ◌-◌, List, [], ◌∷◌, ◌++◌, Option, Some, None, replicate}
 use Rattle.rng_patterns.specs.declared.grammar.Expr.{Expr}
 use Rattle.rng_patterns.specs.declared.grammar.Expr.TheVariants as expr
-use Rattle.rng_values.specs.declared.bounds.Bounds.{Bounds}
+use Rattle.rng_types.specs.declared.bounds.Bounds.{Bounds}
 
 -- a group of none is `empty`, of one is that one
 abbrev pub group_pattern : List Expr → Expr

@@ -15,7 +15,7 @@ use odd_content::{Condition, Content, Contents, Pick};
 use odd_library::{Component, Library};
 use odd_text::{Kind, NoMemory, Text, Words};
 use rng_patterns::{Expr, Exprs};
-use rng_values::Bounds;
+use rng_types::Bounds;
 use std::alloc::Global;
 
 /// The pattern of a content in the schema of a library, whose conditions these are, in rising order, and of whose classes these

@@ -21,7 +21,7 @@ use Rattle.rng_patterns.specs.declared.grammar.Expr.TheVariants as expr
 use Rattle.rng_patterns.specs.declared.grammar.NameClass.{NameClass}
 use Rattle.rng_patterns.specs.declared.grammar.NameClass.TheVariants as class
 use Rattle.rng_patterns.specs.declared.grammar.NsPart.{NsPart}
-use Rattle.rng_values.specs.declared.bounds.Bounds.{Bounds}
+use Rattle.rng_types.specs.declared.bounds.Bounds.{Bounds}
 
 -- it holds of what is made of patterns of which it holds; nothing is said of references, lists and values
 pub record IsClosed (Good : Expr → Type 0) : Type 0 where

@@ -33,7 +33,7 @@ use Rattle.rng_patterns.specs.declared.grammar.Expr.{Expr}
 use Rattle.rng_patterns.specs.declared.grammar.Expr.TheVariants as expr
 use Rattle.rng_patterns.specs.declared.grammar.Grammar.{Grammar}
 use Rattle.rng_patterns.specs.declared.grammar.NsPart.{NsPart}
-use Rattle.rng_values.specs.declared.bounds.Bounds.{Bounds}
+use Rattle.rng_types.specs.declared.bounds.Bounds.{Bounds}
 use Rattle.std.specs.declared.cmp.Ordering.TheVariants.{Less}
 
 -- the images of copies are copies of the image

@@ -24,7 +24,7 @@ use Rattle.odd_meaning.specs.Classes.{AreMembers, Members}
 use Rattle.odd_meaning.specs.Links.{macro_key}
 use Rattle.rng_emit.specs.Grammar.{all_of, named, plain}
 use Rattle.rng_patterns.specs.Names.{datatype_library, relax_ng_namespace}
-use Rattle.rng_values.specs.declared.bounds.Bounds.{Bounds}
+use Rattle.rng_types.specs.declared.bounds.Bounds.{Bounds}
 use Rattle.compile_contents.specs.Conditions.{IsConditionOf}
 use Rattle.compile_contents.specs.Contents.{class_name, condition_name, define_name, holds_element, holds_macro, macro_name}
 use Rattle.compile_defines.specs.Compiled.{spaces_left}

@@ -1,6 +1,6 @@
 use odd_content::{Condition, Content, Contents, Pick};
 use odd_text::{Name, Names, NoMemory, Text, Words};
-use rng_values::Bounds;
+use rng_types::Bounds;
 use std::alloc::Global;
 
 /// Puts a content: the idents and the conditions with their bounds, and parts in parentheses.

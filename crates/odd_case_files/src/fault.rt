@@ -35,6 +35,8 @@ pub enum CaseFault {
     NoPattern,
     #[error("a word is not read")]
     NoWord,
+    #[error("a line of values is not read")]
+    NoValue,
     #[error("a line of docs is not read")]
     NoItem,
     #[error("an answer stands before its docs")]

@@ -23,9 +23,9 @@ use Rattle.odd_tree.specs.Formed.{IsFormed, IsFormedTag}
 use Rattle.odd_tree.specs.Names.{IsBinding, in_force, last_bound, xml_namespace, xmlns_namespace}
 use Rattle.odd_tree.specs.declared.tree.Attr.{Attr}
 use Rattle.odd_tree.specs.declared.tree.Tree.{Tree, out-Tree}
-use Rattle.rng_values.specs.Bounds.{IsFormedBounds}
+use Rattle.rng_types.specs.Bounds.{IsFormedBounds}
 use Rattle.odd_forms.proofs.Colon.{and_no, name_decides, name_parts, no_and, prefixed_read}
-use Rattle.odd_forms.proofs.Spaced.{words_legal}
+use Rattle.rng_types.proofs.Spaced.{words_legal}
 use Rattle.odd_forms.specs.Children.{IsChild}
 use Rattle.odd_forms.specs.Deep.{DeepFault, is_level, left_inside}
 use Rattle.odd_forms.specs.Excepting.{excepted_of, is_colon, is_name, named_in}

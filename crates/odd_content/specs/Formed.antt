@@ -9,7 +9,7 @@ use Rattle.odd_tokens.specs.Characters.{IsLegal, IsNCName, is_space}
 use Rattle.odd_tree.specs.Names.{IsBinding, xmlns_namespace}
 use Rattle.odd_forms.specs.Excepting.{IsPrefixed}
 use Rattle.odd_forms.specs.Sorted.{AreRising}
-use Rattle.rng_values.specs.Bounds.{IsFormedBounds}
+use Rattle.rng_types.specs.Bounds.{IsFormedBounds}
 use Rattle.odd_content.specs.declared.content.Condition.{Condition}
 use Rattle.odd_content.specs.declared.content.Content.{Content, Empty, Text, Element, Class, Macro, Any, Sequence', Alternate', Row_of-Content, end_of-Content, more_of-Content}
 use Rattle.odd_content.specs.declared.content.Pick.{Pick}

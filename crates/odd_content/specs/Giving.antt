@@ -8,7 +8,7 @@ use Rattle.odd_tree.specs.declared.tree.Attr.{Attr}
 use Rattle.odd_tree.specs.declared.tree.Node.{Node, Node-F, fold-Node}
 use Rattle.odd_tree.specs.declared.tree.Node.TheOpen.{Element, Text}
 use Rattle.odd_tree.specs.declared.tree.Tree.{Tree, Tree-F, out-Tree}
-use Rattle.rng_values.specs.declared.bounds.Bounds.{Bounds}
+use Rattle.rng_types.specs.declared.bounds.Bounds.{Bounds}
 use Rattle.odd_forms.specs.Form.{number_told}
 use Rattle.odd_forms.specs.Names.{tei_namespace}
 use Rattle.odd_forms.specs.Table.{form_at}

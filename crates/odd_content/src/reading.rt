@@ -13,7 +13,7 @@ use crate::picking::read_pick;
 use odd_forms::{Element, LEVELS, child_of, deep_fault, number};
 use odd_text::{NoMemory, Scope, Text, TryCopy};
 use odd_tree::{Bindings, Node, Tree, attribute, entered};
-use rng_values::Bounds;
+use rng_types::Bounds;
 use std::alloc::Global;
 
 /// Why a `content` gives no content model.

@@ -3,6 +3,6 @@ pub mod Children
 pub mod Colon
 pub mod Forms
 pub mod Least
+pub mod Numerals
 pub mod SetOf
-pub mod Spaced
 pub mod Values

@@ -10,9 +10,10 @@ ghost use Rattle.odd_tokens.specs.Characters.{IsNCName};
 
 use crate::faults::{LEFT_OUT, MALFORMED, fault_where};
 use crate::form::{AttributeForm, Kind};
-use crate::words::{is_among, words_of};
+use crate::words::is_among;
 use odd_text::{NoMemory, Text};
 use odd_tree::{Tree, attribute, is_ncname};
+use rng_types::words_of;
 use std::alloc::Global;
 
 /// The least rule that an element breaks by an attribute that it may have.

@@ -22,8 +22,9 @@ pub use faults::{
 };
 pub use form::{AttributeForm, Demand, Form, Kind, Level};
 pub use names::{is_one_of, is_passed_over, is_relax_ng, is_tei};
+pub use rng_types::words_of;
 pub use sorting::sorted;
-pub use words::{words_given, words_of};
+pub use words::words_given;
 
 /// The namespace of the TEI Guidelines.
 pub const TEI: &str = "http://www.tei-c.org/ns/1.0";

@@ -3,6 +3,7 @@ use crate::draft::read_question;
 use crate::letters::Letters;
 use crate::patterns::told_lines;
 use crate::question::{Chain, Question};
+use crate::values::told_values;
 use odd_case_files::{Asking, CaseFault, Over, Part, text_difference};
 use odd_patterns::Children;
 use odd_text::{Bytes, Words};
@@ -19,6 +20,7 @@ impl Asking for Layers {
                 asked,
                 wanted,
             } => patterns_difference(alloc, over, &asked, &wanted),
+            Question::Values { wanted } => values_difference(alloc, &wanted),
             Question::Chains(chains) => chains_difference(alloc, chains.as_slice()),
         }
     }
@@ -39,6 +41,15 @@ fn patterns_difference(
         Over::Children => told_lines(alloc, &Children, asked, lines)?,
     };
     text_difference(alloc, "patterns", wanted, &text)
+}
+
+// What is told of the values of lines otherwise than the lines say.
+fn values_difference(alloc: Global, wanted: &Bytes) -> Result<Option<String>, CaseFault> {
+    let Ok(lines) = str::from_utf8(wanted.as_slice()) else {
+        return Err(CaseFault::NotText);
+    };
+    let text = told_values(alloc, lines)?;
+    text_difference(alloc, "values", wanted, &text)
 }
 
 // What is answered otherwise than wanted of the first chain where something is.

@@ -5,7 +5,7 @@ use odd_forms::{TEI, sorted};
 use odd_library::{Entries, Entry, Mode, OddDoc, Spec};
 use odd_members::{ClassMarks, Membership};
 use odd_text::{Key, Kind, NoMemory, Text, Words};
-use rng_values::Bounds;
+use rng_types::Bounds;
 use std::alloc::Global;
 
 // The bounds of a part that stands once.

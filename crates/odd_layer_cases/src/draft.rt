@@ -10,6 +10,7 @@ use std::alloc::Global;
 struct Draft {
     asked: Option<Words>,
     patterns: Option<(Over, Bytes)>,
+    values: Option<Bytes>,
     chains: Vec<Chain>,
     // whether something stands there that no layer is asked
     has_others: bool,
@@ -20,6 +21,7 @@ pub fn read_question(alloc: Global, parts: Vec<Part<'_>>) -> Result<Question, Ca
     let mut draft = Draft {
         asked: None,
         patterns: None,
+        values: None,
         chains: Vec::new(alloc),
         has_others: false,
     };
@@ -39,6 +41,7 @@ fn put_part(alloc: Global, draft: &mut Draft, part: Part<'_>) -> Result<(), Case
             set_once(&mut draft.asked, all_words(alloc, length, symbols)?)
         }
         Head::Patterns(over) => set_once(&mut draft.patterns, (over, said_answer(alloc, text)?)),
+        Head::Values => set_once(&mut draft.values, said_answer(alloc, text)?),
         Head::Docs => {
             draft.chains.push(begun_chain(alloc, text)?)?;
             Ok(())
@@ -81,18 +84,20 @@ fn finish(draft: Draft) -> Result<Question, CaseFault> {
     let Draft {
         asked,
         patterns,
+        values,
         chains,
         has_others,
     } = draft;
-    match (asked, patterns) {
-        (None, None) if chains.is_empty() && !has_others => Err(CaseFault::NothingAsked),
-        (None, None) if !has_others => chains_question(chains),
+    match (asked, patterns, values) {
+        (None, None, None) if chains.is_empty() && !has_others => Err(CaseFault::NothingAsked),
+        (None, None, None) if !has_others => chains_question(chains),
         _ if !chains.is_empty() => Err(CaseFault::DocsNotAlone),
-        (Some(asked), Some((over, wanted))) if !has_others => Ok(Question::Patterns {
+        (Some(asked), Some((over, wanted)), None) if !has_others => Ok(Question::Patterns {
             over,
             asked,
             wanted,
         }),
+        (None, None, Some(wanted)) if !has_others => Ok(Question::Values { wanted }),
         _ => Err(CaseFault::NotAlone),
     }
 }

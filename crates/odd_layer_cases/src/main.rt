@@ -10,7 +10,9 @@ mod letters;
 mod patterns;
 mod postfix;
 mod question;
+mod regexes;
 mod spelled;
+mod values;
 
 use crate::answering::Layers;
 use anyhow::Result;

@@ -23,6 +23,10 @@ pub enum Question {
         asked: Words,
         wanted: Bytes,
     },
+    /// What is told of values, with which the lines begin.
+    Values {
+        wanted: Bytes,
+    },
     /// The library after the docs of each chain, or what the last of them chooses.
     Chains(Vec<Chain>),
 }

@@ -6,7 +6,7 @@ use rng_emit::print_rng;
 use rng_patterns::{
     AttrPart, AttrRule, Body, Define, Defines, Expr, Exprs, Grammar, NameClass, Rules,
 };
-use rng_values::{DataType, Facet, FacetName, Facets};
+use rng_types::{DataType, Facet, FacetName, Facets};
 use sqlite_items::Boxed;
 use std::alloc::Global;
 use std::test::Fail;

@@ -2,7 +2,7 @@
 
 use crate::making::{many_words, text};
 use odd_text::TryCopy;
-use rng_values::{DataType, Facet, FacetName, Facets, Item, ListKind, ValList};
+use rng_types::{DataType, Facet, FacetName, Facets, Item, ListKind, ValList};
 use std::test::Fail;
 
 #[test]

@@ -6,7 +6,7 @@ use Rattle.odd_tree.specs.Significant.{Marking}
 use Rattle.odd_tree.specs.Splits.{Counted, Pieces}
 use Rattle.odd_tree.specs.declared.tree.Node.{Node, Element as AnElement}
 use Rattle.odd_tree.specs.declared.tree.Tree.{Tree}
-use Rattle.rng_values.specs.declared.bounds.Bounds.{Bounds}
+use Rattle.rng_types.specs.declared.bounds.Bounds.{Bounds}
 use Rattle.odd_content.specs.declared.content.Content.{Content, Alternate, Element, Sequence}
 use Rattle.odd_library.specs.declared.library.Library.{Library}
 use Rattle.odd_meaning.specs.Contents.{Admits, IsOfMacro, IsOne, IsWithin}

@@ -3,7 +3,7 @@ use Rattle.std.proofs.Common.{◌≡◌, ◌↔◌, ◌⊎◌, ℕ, zero, suc, L
 use Rattle.odd_tree.specs.Significant.{Marking}
 use Rattle.odd_tree.specs.Splits.{Counted, Pieces, Then}
 use Rattle.odd_tree.specs.declared.tree.Node.{Node}
-use Rattle.rng_values.specs.declared.bounds.Bounds.{Bounds}
+use Rattle.rng_types.specs.declared.bounds.Bounds.{Bounds}
 use Rattle.odd_content.specs.declared.content.Content.{Content, Sequence, Alternate, Row_of-Content, end_of-Content, more_of-Content, items-the_row-Content, items_hidden-the_row-Content-0}
 use Rattle.odd_content.specs.declared.content.Content.TheBlock.{hidden-the_row-Content-0}
 use Rattle.odd_library.specs.declared.library.Library.{Library}

@@ -7,7 +7,7 @@ use Rattle.odd_tree.specs.Significant.{Marking, is_element}
 use Rattle.odd_tree.specs.Splits.{Counted, Then}
 use Rattle.odd_tree.specs.declared.tree.Node.{Node, Element as AnElement}
 use Rattle.odd_tree.specs.declared.tree.Tree.{Tree}
-use Rattle.rng_values.specs.declared.bounds.Bounds.{Bounds}
+use Rattle.rng_types.specs.declared.bounds.Bounds.{Bounds}
 use Rattle.odd_content.specs.Picking.{is_picked}
 use Rattle.odd_content.specs.declared.content.Content.{Content, Empty, Text, Element, Class, Macro, Any, Sequence', Alternate', Row_of-Content, end_of-Content, more_of-Content}
 use Rattle.odd_content.specs.declared.content.Pick.{Pick}

@@ -2,7 +2,9 @@ use crate::fault::{Fault, wants};
 use crate::making::{only, word};
 use odd_base::{NoMemory, Text, TryCopy};
 use rng_values::{
-    Bounds, DataType, Facet, FacetName, FacetText, FacetTexts, Facets, Item, ListKind, ValList,
+    Atom, Bounds, DataType, Facet, FacetName, FacetText, FacetTexts, Facets, Item, ItemRefusal,
+    ListKind, Member, Members, PatternRefusal, Piece, Regex, RegexBranches, RegexPieces, ValList,
+    collapse, fits, make_item, read_pattern,
 };
 use std::alloc::Global;
 
@@ -11,9 +13,13 @@ pub fn names(alloc: Global) -> Result<&'static str, Fault> {
     call_facet(alloc)?;
     call_item(alloc)?;
     call_list(alloc)?;
+    call_make_item(alloc)?;
+    call_read_pattern(alloc)?;
+    wants(collapse(alloc, &Text::from_str(alloc, " a  b")?)?.as_str() == "a b")?;
+    wants(fits(DataType::Integer, &Text::from_str(alloc, "-07")?))?;
     Ok(
-        "rng_values: Bounds DataType FacetName Facet Facets FacetText FacetTexts Item ListKind ValList\n  \
-        Facet::copy Facets::copy Item::copy ValList::copy",
+        "rng_values: Bounds DataType FacetName Facet Facets FacetText FacetTexts Item ItemRefusal ListKind ValList Regex RegexBranches RegexPieces Piece Atom Member Members PatternRefusal\n  \
+        Facet::copy Facets::copy Item::copy ValList::copy make_item read_pattern collapse fits",
     )
 }
 
@@ -65,4 +71,55 @@ fn call_list(alloc: Global) -> Result<(), Fault> {
         values: word(alloc, "a")?,
     };
     wants(list.copy(alloc)?.values.len() == 1)
+}
+
+fn call_make_item(alloc: Global) -> Result<(), Fault> {
+    let facets = only(alloc, facet_text(alloc)?)?;
+    match make_item(alloc, &Text::from_str(alloc, "token")?, &facets) {
+        Ok(Item::Typed { kind, facets }) => {
+            wants(kind == DataType::Token)?;
+            wants(facets.len() == 1)?;
+        }
+        Ok(Item::Key(_)) | Err(_) => return Err(Fault::Wrong),
+    }
+    match make_item(alloc, &Text::from_str(alloc, "double")?, &facets) {
+        Err(ItemRefusal::Rule(2)) => Ok(()),
+        Ok(_) | Err(ItemRefusal::Rule(_) | ItemRefusal::NoMemory) => Err(Fault::Wrong),
+    }
+}
+
+fn call_read_pattern(alloc: Global) -> Result<(), Fault> {
+    match read_pattern(alloc, &Text::from_str(alloc, "a{2,1}")?) {
+        Err(PatternRefusal::BadPattern { at: 5 }) => {}
+        Ok(_) | Err(_) => return Err(Fault::Wrong),
+    }
+    let Ok(regex) = read_pattern(alloc, &Text::from_str(alloc, "[a-c]*|")?) else {
+        return Err(Fault::Wrong);
+    };
+    let Regex { branches } = &regex;
+    let branches: &RegexBranches = branches;
+    wants(branches.len() == 2)?;
+    let Some(pieces) = branches.get(0) else {
+        return Err(Fault::Wrong);
+    };
+    let pieces: &RegexPieces = pieces;
+    match pieces.get(0) {
+        Some(Piece { atom, bounds }) => {
+            wants(bounds.min == 0)?;
+            call_atom(atom)
+        }
+        None => Err(Fault::Wrong),
+    }
+}
+
+fn call_atom(atom: &Atom) -> Result<(), Fault> {
+    let Atom::Class { negated, members } = atom else {
+        return Err(Fault::Wrong);
+    };
+    wants(!*negated)?;
+    let members: &Members = members;
+    match members.get(0) {
+        Some(Member::Range { low, high }) => wants(*low == 'a' && *high == 'c'),
+        Some(Member::Char(_)) | None => Err(Fault::Wrong),
+    }
 }

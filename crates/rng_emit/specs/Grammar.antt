@@ -2,11 +2,11 @@
 use Rattle.std.specs.Prelude.{ℕ, List, [], ◌∷◌, ◌++◌, map, codes}
 use Rattle.odd_text.specs.declared.name.Name.{Name}
 use Rattle.odd_tree.specs.Markup.{Markup, Markups, Pair, element, line, none, more, file_printed}
-use Rattle.rng_values.specs.declared.data_type.DataType.TheVariants as kind
-use Rattle.rng_values.specs.declared.data_type.DataType.{DataType}
-use Rattle.rng_values.specs.declared.facet.Facet.{Facet}
-use Rattle.rng_values.specs.declared.facet.FacetName.TheVariants as facet
-use Rattle.rng_values.specs.declared.facet.FacetName.{FacetName}
+use Rattle.rng_types.specs.declared.data_type.DataType.TheVariants as kind
+use Rattle.rng_types.specs.declared.data_type.DataType.{DataType}
+use Rattle.rng_types.specs.declared.facet.Facet.{Facet}
+use Rattle.rng_types.specs.declared.facet.FacetName.TheVariants as facet
+use Rattle.rng_types.specs.declared.facet.FacetName.{FacetName}
 use Rattle.rng_patterns.specs.Names.{datatype_library, relax_ng_namespace}
 use Rattle.rng_patterns.specs.declared.grammar.AttrPart.TheVariants as attributes
 use Rattle.rng_patterns.specs.declared.grammar.AttrPart.{AttrPart}

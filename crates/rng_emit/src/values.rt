@@ -5,7 +5,7 @@ ghost use Rattle.rng_emit.specs.Grammar.{all_of, facet_name, param_markup, type_
 use crate::tags::{begin_tag_with, end_line};
 use odd_printing::{add_end_tag, begin_tag, end_empty_tag, end_start_tag};
 use odd_text::{NoMemory, Text};
-use rng_values::{DataType, Facet, FacetName, Facets};
+use rng_types::{DataType, Facet, FacetName, Facets};
 
 /// The name of a datatype of XML Schema. ID and IDREF are written as NCName.
 fn type_name(kind: DataType) -> &'static str

@@ -1,7 +1,7 @@
 ghost use Rattle.std.specs.Prelude.{◌≡◌, IfOk};
 
 use odd_text::{Name, Names, NoMemory, Seq, Text, TryCopy, Words};
-use rng_values::{DataType, Facets};
+use rng_types::{DataType, Facets};
 use sqlite_items::Boxed;
 use std::alloc::Global;
 

@@ -1,1 +1,10 @@
-pub mod Bounds
+pub mod Facets
+pub mod Formed
+pub mod Items
+pub mod Lexical
+pub mod Making
+pub mod Names
+pub mod Signs
+pub mod Tags
+pub mod Treated
+pub mod Trimmed

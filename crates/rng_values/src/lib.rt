@@ -2,14 +2,26 @@
 //! may stand.
 #![tactic(auto)]
 
-pub mod bounds;
-pub mod data_type;
-pub mod facet;
-pub mod item;
-pub mod val_list;
+mod facets;
+mod fitting;
+mod forms;
+mod making;
+mod meeting;
+mod names;
+mod ordering;
+mod refusal;
+mod signs;
+mod white_space;
 
-pub use bounds::Bounds;
-pub use data_type::DataType;
-pub use facet::{Facet, FacetName, FacetText, FacetTexts, Facets};
-pub use item::Item;
-pub use val_list::{ListKind, ValList};
+pub use fitting::fits;
+pub use making::make_item;
+pub use meeting::meets;
+pub use refusal::ItemRefusal;
+pub use rng_dialect::{
+    Atom, Member, Members, PatternRefusal, Piece, Regex, RegexBranches, RegexPieces, read_pattern,
+};
+pub use rng_types::{
+    Bounds, DataType, Facet, FacetName, FacetText, FacetTexts, Facets, Item, ListKind, ValList,
+    words_of,
+};
+pub use white_space::collapse;

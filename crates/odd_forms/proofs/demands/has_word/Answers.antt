@@ -5,7 +5,7 @@ use Rattle.std.specs.Str.{chars}
 use Rattle.std.proofs.lemmas.Iterator.{YieldsList-from_chars}
 use Rattle.std.proofs.lemmas.Iterator.Search.{any_from_yields_List}
 use Rattle.odd_tree.specs.Elements.{given}
-use Rattle.odd_forms.proofs.Spaced.{any_word, no_space}
+use Rattle.rng_types.proofs.Spaced.{any_word, no_space}
 use Rattle.odd_forms.proofs.demands.has_word.Goals as goal
 
 pub returns-in-Some : goal.returns-in-Some

@@ -1,0 +1,219 @@
+ghost use Rattle.std.specs.Prelude.{All};
+ghost use Rattle.std.specs.Str.{chars};
+ghost use Rattle.rng_values.specs.Formed.{IsFormedFacet};
+ghost use Rattle.rng_values.specs.Lexical.{Fits};
+
+use crate::regexes::add_regex;
+use odd_case_files::CaseFault;
+use odd_text::{NoMemory, Text};
+use rng_values::{
+    DataType, Facet, FacetName, FacetText, FacetTexts, Facets, Item, ItemRefusal, PatternRefusal,
+    collapse, fits, make_item, meets, read_pattern,
+};
+use std::alloc::Global;
+
+// The types in their order, with their names.
+const TYPES: [(&str, DataType); 15] = [
+    ("string", DataType::String),
+    ("normalizedString", DataType::NormalizedString),
+    ("token", DataType::Token),
+    ("NMTOKEN", DataType::Nmtoken),
+    ("Name", DataType::Name),
+    ("NCName", DataType::NcName),
+    ("ID", DataType::Id),
+    ("IDREF", DataType::Idref),
+    ("language", DataType::Language),
+    ("anyURI", DataType::AnyUri),
+    ("boolean", DataType::Boolean),
+    ("integer", DataType::Integer),
+    ("nonNegativeInteger", DataType::NonNegativeInteger),
+    ("positiveInteger", DataType::PositiveInteger),
+    ("decimal", DataType::Decimal),
+];
+
+/// The lines, of each its question and what is answered to it. The fields of a line have tabs between them, and the last is the
+/// answer.
+pub fn told_values(alloc: Global, lines: &str) -> Result<Text, CaseFault> {
+    let mut out = Text::new(alloc);
+    for line in lines.split('\n') {
+        if !out.as_str().is_empty() {
+            out.push('\n')?;
+        }
+        let Some((question, _)) = line.rsplit_once('\t') else {
+            return Err(CaseFault::NoValue);
+        };
+        out.push_str(question)?;
+        out.push('\t')?;
+        add_answer(alloc, &mut out, question)?;
+    }
+    Ok(out)
+}
+
+// Puts the answer to a question.
+fn add_answer(alloc: Global, out: &mut Text, question: &str) -> Result<(), CaseFault> {
+    let Some((call, rest)) = question.split_once('\t') else {
+        return Err(CaseFault::NoValue);
+    };
+    match call {
+        "pattern" => add_pattern(alloc, out, &text_of(alloc, rest)?),
+        "collapse" => {
+            let collapsed = collapse(alloc, &text_of(alloc, rest)?)?;
+            add_text(out, collapsed.as_str())
+        }
+        "fits" => add_fitting(alloc, out, rest),
+        "item" => add_item(alloc, out, rest),
+        "meets" => add_meeting(alloc, out, rest),
+        _ => Err(CaseFault::NoValue),
+    }
+}
+
+// Puts the pattern that a text spells, or the byte where it spells none.
+fn add_pattern(alloc: Global, out: &mut Text, text: &Text) -> Result<(), CaseFault> {
+    match read_pattern(alloc, text) {
+        Ok(regex) => Ok(add_regex(alloc, out, &regex)?),
+        Err(PatternRefusal::BadPattern { at }) => {
+            Ok(out.push_str(format!(in alloc; "none at {at}")?.as_str())?)
+        }
+        Err(PatternRefusal::NoMemory) => Err(CaseFault::NoMemory),
+    }
+}
+
+// Puts whether a text is of a type.
+fn add_fitting(alloc: Global, out: &mut Text, question: &str) -> Result<(), CaseFault> {
+    let Some((name, text)) = question.split_once('\t') else {
+        return Err(CaseFault::NoValue);
+    };
+    let Some(kind) = kind_named(name) else {
+        return Err(CaseFault::NoValue);
+    };
+    out.push_str(said(fits(kind, &text_of(alloc, text)?)))?;
+    Ok(())
+}
+
+fn said(yes: bool) -> &'static str {
+    if yes { "yes" } else { "no" }
+}
+
+fn kind_named(name: &str) -> Option<DataType> {
+    for (known, kind) in TYPES {
+        if known == name {
+            return Some(kind);
+        }
+    }
+    None
+}
+
+fn name_of(kind: DataType) -> &'static str {
+    for (name, known) in TYPES {
+        if known == kind {
+            return name;
+        }
+    }
+    ""
+}
+
+// Puts the item that a type's name and facets give, or the rule that they break. A facet stands as its name, `=` and its value.
+fn add_item(alloc: Global, out: &mut Text, question: &str) -> Result<(), CaseFault> {
+    let mut fields = question.split('\t');
+    let name = text_of(alloc, fields.next().unwrap_or(""))?;
+    let mut facets = FacetTexts::new(alloc);
+    for field in fields {
+        facets.push(facet_of(alloc, field)?)?;
+    }
+    match make_item(alloc, &name, &facets) {
+        Ok(Item::Typed { kind, facets }) => {
+            out.push_str(name_of(kind))?;
+            for facet in facets.as_slice() {
+                add_facet(out, facet)?;
+            }
+            Ok(())
+        }
+        Ok(Item::Key(_)) => Err(CaseFault::NoValue),
+        Err(ItemRefusal::Rule(rule)) => {
+            Ok(out.push_str(format!(in alloc; "rule {rule}")?.as_str())?)
+        }
+        Err(ItemRefusal::NoMemory) => Err(CaseFault::NoMemory),
+    }
+}
+
+// Puts whether a text meets a facet of a type.
+fn add_meeting(alloc: Global, out: &mut Text, question: &str) -> Result<(), CaseFault> {
+    let Some((item, text)) = question.rsplit_once('\t') else {
+        return Err(CaseFault::NoValue);
+    };
+    let Some((name, facet)) = item.split_once('\t') else {
+        return Err(CaseFault::NoValue);
+    };
+    let mut facets = FacetTexts::new(alloc);
+    facets.push(facet_of(alloc, facet)?)?;
+    let text = text_of(alloc, text)?;
+    let Ok(Item::Typed { kind, facets }) = make_item(alloc, &text_of(alloc, name)?, &facets) else {
+        return Err(CaseFault::NoValue);
+    };
+    if !fits(kind, &text) {
+        return Ok(out.push_str("not of the type")?);
+    }
+    Ok(out.push_str(said(meets_all(kind, &facets, &text)))?)
+}
+
+// Whether a text of a type meets all facets but patterns.
+fn meets_all(kind: DataType, facets: &Facets, text: &Text) -> bool
+    requires formed { All (IsFormedFacet kind) facets.now }
+    requires fits { Fits kind (chars text.now) }
+{
+    for facet in facets.as_slice() {
+        if facet.name != FacetName::Pattern && !meets(kind, facet, text) {
+            return false;
+        }
+    }
+    true
+}
+
+fn facet_of(alloc: Global, field: &str) -> Result<FacetText, CaseFault> {
+    let Some((name, value)) = field.split_once('=') else {
+        return Err(CaseFault::NoValue);
+    };
+    Ok(FacetText {
+        name: text_of(alloc, name)?,
+        value: text_of(alloc, value)?,
+    })
+}
+
+fn add_facet(out: &mut Text, facet: &Facet) -> Result<(), CaseFault> {
+    out.push_str(match facet.name {
+        FacetName::Length => " length=",
+        FacetName::MaxInclusive => " maxInclusive=",
+        FacetName::MaxLength => " maxLength=",
+        FacetName::MinInclusive => " minInclusive=",
+        FacetName::MinLength => " minLength=",
+        FacetName::Pattern => " pattern=",
+    })?;
+    add_text(out, facet.value.as_str())
+}
+
+// The text of a field, in which pictures of tab, LF and CR stand for these.
+fn text_of(alloc: Global, field: &str) -> Result<Text, NoMemory> {
+    let mut text = String::new(alloc);
+    for c in field.chars() {
+        text.push(match c {
+            '\u{2409}' => '\t',
+            '\u{240A}' => '\n',
+            '\u{240D}' => '\r',
+            _ => c,
+        })?;
+    }
+    Text::from_string(alloc, text)
+}
+
+// Puts a text as a field.
+fn add_text(out: &mut Text, text: &str) -> Result<(), CaseFault> {
+    for c in text.chars() {
+        out.push(match c {
+            '\t' => '\u{2409}',
+            '\n' => '\u{240A}',
+            '\r' => '\u{240D}',
+            _ => c,
+        })?;
+    }
+    Ok(())
+}

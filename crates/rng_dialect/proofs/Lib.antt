@@ -1,0 +1,10 @@
+pub mod Alive
+pub mod Capped
+pub mod Classes
+pub mod Complete
+pub mod Fronts
+pub mod Levels
+pub mod Numbers
+pub mod Quantifiers
+pub mod Reaching
+pub mod Sound

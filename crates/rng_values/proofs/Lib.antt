@@ -1,0 +1,16 @@
+pub mod Asked
+pub mod Booleans
+pub mod Collapsing
+pub mod Digits
+pub mod FormedItems
+pub mod InOrder
+pub mod ItemFaults
+pub mod Named
+pub mod Naming
+pub mod Numerals
+pub mod Ordered
+pub mod Spaceless
+pub mod Splitting
+pub mod Standing
+pub mod Tags
+pub mod Trimming
