@@ -30,7 +30,7 @@ class Reading:
         self.text = text
 
     def branches(self, at):
-        for end, first in self.pieces(at):
+        for end, first in self.any_number(self.piece, at):
             if end == MORE:
                 yield MORE, None
                 continue
@@ -41,14 +41,15 @@ class Reading:
                 for last, others in self.branches(end + 1):
                     yield last, None if last == MORE else (first, *others)
 
-    def pieces(self, at):
+    def any_number(self, one, at):
+        """None of them, or one and then any number."""
         yield at, ()
-        for end, piece in self.piece(at):
+        for end, first in one(at):
             if end == MORE:
                 yield MORE, None
             else:
-                for last, others in self.pieces(end):
-                    yield last, None if last == MORE else (piece, *others)
+                for last, others in self.any_number(one, end):
+                    yield last, None if last == MORE else (first, *others)
 
     def piece(self, at):
         for end, atom in self.atom(at):
@@ -133,7 +134,7 @@ class Reading:
             if begin == MORE:
                 yield MORE, None
                 continue
-            for middle, listed in self.listed(begin):
+            for middle, listed in self.any_number(self.member, begin):
                 if middle == MORE:
                     yield MORE, None
                     continue
@@ -149,15 +150,6 @@ class Reading:
             yield MORE, None
         elif self.text[at] == "-":
             yield at + 1, ("-",)
-
-    def listed(self, at):
-        yield at, ()
-        for end, member in self.member(at):
-            if end == MORE:
-                yield MORE, None
-            else:
-                for last, others in self.listed(end):
-                    yield last, None if last == MORE else (member, *others)
 
     def member(self, at):
         for end, low in self.single(at, ""):
