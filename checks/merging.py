@@ -15,7 +15,7 @@ import re
 import sys
 
 SEED = 20261128
-COUNT = 300
+COUNT = 1000
 TEI = "http://www.tei-c.org/ns/1.0"
 KINDS = ["element", "class", "macro", "datatype"]
 IDENTS, MODULES = "abcdef", "mno"
@@ -24,13 +24,18 @@ NAMESPACES = ["", "urn:x", "urn:y", TEI]
 CONTENTS = 8 * ["empty", "text", "a", "b"] + ["class/a", "class/b", "macro/a", "macro/b", "text,class/b", "macro/b,a,class/a"]
 TYPES, CLASSES = ["model", "model", "atts"], {"element": "abuv", "class": "buvw"}
 # The fields that a declaration of a kind may have.
-FIELDS = {"element": "module ns classes content", "class": "module type classes", "macro": "module content", "datatype": "module content"}
+FIELDS = {
+    "element": "module ns alt classes content atts",
+    "class": "module type classes atts",
+    "macro": "module content",
+    "datatype": "module content",
+}
 MODES = ["add", "delete", "change", "replace"]
 
 # A key is a kind and an ident. A library is a dictionary from keys to components. An item is the list of its words.
-Component = collections.namedtuple("Component", "module ns type classes content")
+Component = collections.namedtuple("Component", "module ns alt type classes content atts")
 Doc = collections.namedtuple("Doc", "ident start items")
-BY_ITSELF = Component("", TEI, "model", "", "empty")
+BY_ITSELF = Component("", TEI, "", "model", "", "empty", "")
 
 
 class Offence(Exception):
@@ -127,10 +132,45 @@ def split(words):
     return words.split(",") if words else []
 
 
+# An edit of an attribute: `set` with `req` or `opt` and perhaps a datatype, `change` with what it gives of these, or `delete`.
+USAGES = ("req", "opt")
+
+
+def edits_of(words):
+    """The edits of attributes by their idents."""
+    return dict(edit.split(":") for edit in split(words))
+
+
+def edit_fields(edit):
+    """The usage and the datatype that an edit gives, or the empty text."""
+    words = edit.split(".")[1:]
+    usage = next((word for word in words if word in USAGES), "")
+    return usage, next((word for word in words if word not in USAGES), "")
+
+
+def edit_after(earlier, later):
+    """An edit and then another as one."""
+    if earlier is None or not later.startswith("change"):
+        return later
+    if earlier == "delete":
+        return earlier
+    usage, datatype = (new or old for new, old in zip(edit_fields(later), edit_fields(earlier)))
+    return ".".join(word for word in (earlier.split(".")[0], usage, datatype) if word)
+
+
+def attributes(before, later):
+    """Edits and then others as one, in the order of their idents."""
+    edits = edits_of(before)
+    for ident, edit in edits_of(later).items():
+        edits[ident] = edit_after(edits.get(ident), edit)
+    return ",".join(f"{ident}:{edits[ident]}" for ident in sorted(edits))
+
+
 def laid_over(part, fields):
     """A component with these fields in place of its own."""
     given = {name: value for name, value in fields.items() if name in Component._fields}
-    return part._replace(**{**given, "classes": memberships(part.classes, fields)})
+    edited = {"classes": memberships(part.classes, fields), "atts": attributes(part.atts, fields.get("atts", ""))}
+    return part._replace(**{**given, **edited})
 
 
 def held_after(library, doc):
@@ -299,8 +339,20 @@ def random_fields(rng, kind):
             yield f"change={','.join(marks)}"
         elif name == "classes":
             yield f"classes={','.join(rng.sample(CLASSES[kind], rng.randrange(4)))}"
+        elif name == "atts":
+            yield f"atts={','.join(f'{ident}:{random_edit(rng)}' for ident in rng.sample('pqr', rng.randrange(1, 4)))}"
         else:
-            yield f"{name}={rng.choice({'module': MODULES, 'ns': NAMESPACES, 'type': TYPES, 'content': CONTENTS}[name])}"
+            values = {"module": MODULES, "ns": NAMESPACES, "alt": "xy", "type": TYPES, "content": CONTENTS}
+            yield f"{name}={rng.choice(values[name])}"
+
+
+def random_edit(rng):
+    """An edit of an attribute."""
+    kind = rng.choice(["set", "change", "change", "delete"])
+    if kind == "delete":
+        return kind
+    usage = rng.choice(USAGES if kind == "set" else ("", *USAGES))
+    return ".".join(word for word in (kind, usage, rng.choice(["", "d", "e"])) if word)
 
 
 def random_declaration(rng, taken, key):

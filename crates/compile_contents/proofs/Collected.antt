@@ -20,7 +20,7 @@ use Rattle.std.specs.declared.cmp.Ordering.TheVariants.{Less, Equal, Greater}
 use Rattle.std.specs.declared.result.Result.{Result}
 use Rattle.odd_content.specs.Picking.{is_picked}
 use Rattle.odd_content.specs.declared.content.Condition.{Condition}
-use Rattle.odd_content.specs.declared.content.Content.{Content, Empty, Text, Element, Class, Macro, Any, Sequence, Alternate, Sequence', Alternate', Row_of-Content, end_of-Content, more_of-Content, items-the_row-Content, items_hidden-the_row-Content-0}
+use Rattle.odd_content.specs.declared.content.Content.{Content, Empty, Text, Value, Vals, Element, Class, Macro, Any, Sequence, Alternate, Sequence', Alternate', Row_of-Content, end_of-Content, more_of-Content, items-the_row-Content, items_hidden-the_row-Content-0}
 use Rattle.odd_content.specs.declared.content.Content.TheBlock.{hidden-the_row-Content-0}
 use Rattle.odd_content.specs.declared.content.Pick.TheVariants as pick
 use Rattle.odd_forms.proofs.SetOf.{rest_rising}
@@ -131,6 +131,8 @@ module _ (library : Library) (conditions : List Condition) (members : Members) w
   content_is : (content : Content) → content_pattern library conditions members content ≡ repeated (part_pattern library conditions members content) (bounds_of content)
   content_is Empty = refl
   content_is Text = refl
+  content_is (Value item) = refl
+  content_is (Vals list) = refl
   content_is (Element key b) = refl
   content_is (Class key p b) = refl
   content_is (Macro key b) = refl

@@ -3,7 +3,7 @@ use Rattle.std.specs.Prelude.{List, [], ◌∷◌, ◌++◌, Option, Some, None}
 use Rattle.odd_text.specs.declared.key.Key.{Key}
 use Rattle.odd_tree.specs.Elements.{StandsIn}
 use Rattle.odd_content.specs.declared.content.Condition.{Condition}
-use Rattle.odd_content.specs.declared.content.Content.{Content, Empty, Text, Element, Class, Macro, Any, Sequence', Alternate', Row_of-Content, end_of-Content, more_of-Content}
+use Rattle.odd_content.specs.declared.content.Content.{Content, Empty, Text, Value, Vals, Element, Class, Macro, Any, Sequence', Alternate', Row_of-Content, end_of-Content, more_of-Content}
 use Rattle.odd_library.specs.Library.{content_of}
 use Rattle.odd_library.specs.declared.library.Component.{Component}
 use Rattle.odd_library.specs.declared.library.Library.{Library}
@@ -13,6 +13,8 @@ abbrev mutual
   pub conditions_in : Content → List Condition
   conditions_in Empty = []
   conditions_in Text = []
+  conditions_in (Value item) = []
+  conditions_in (Vals list) = []
   conditions_in (Element key b) = []
   conditions_in (Class key p b) = []
   conditions_in (Macro key b) = []

@@ -7,7 +7,7 @@ use Rattle.odd_text.specs.Key.{key_cmp}
 use Rattle.odd_text.specs.Text.{text_cmp}
 use Rattle.odd_content.specs.Picking.{is_picked}
 use Rattle.odd_content.specs.declared.content.Condition.{Condition}
-use Rattle.odd_content.specs.declared.content.Content.{Content, Empty, Text, Element, Class, Macro, Any, Sequence', Alternate', Row_of-Content, end_of-Content, more_of-Content}
+use Rattle.odd_content.specs.declared.content.Content.{Content, Empty, Text, Value, Vals, Element, Class, Macro, Any, Sequence', Alternate', Row_of-Content, end_of-Content, more_of-Content}
 use Rattle.odd_content.specs.declared.content.Pick.{Pick}
 use Rattle.odd_content.specs.declared.content.Pick.TheVariants as pick
 use Rattle.odd_library.specs.Odd.{element_key}
@@ -88,6 +88,8 @@ abbrev mutual
   pub content_pattern : Library → List Condition → Members → Content → Expr
   content_pattern library conditions members Empty = expr.Empty
   content_pattern library conditions members Text = expr.Text
+  content_pattern library conditions members (Value item) = expr.NotAllowed
+  content_pattern library conditions members (Vals list) = expr.NotAllowed
   content_pattern library conditions members (Element key b) = repeated (element_pattern library key) b
   content_pattern library conditions members (Class key p b) = repeated (members_pattern key p (members key)) b
   content_pattern library conditions members (Macro key b) = repeated (macro_pattern library key) b

@@ -1,7 +1,7 @@
 -- A content as a part and how often it stands.
 use Rattle.std.specs.Prelude.{ℕ, zero, Bool, true, false, List, Option, Some}
 use Rattle.odd_content.specs.declared.content.Condition.{Condition}
-use Rattle.odd_content.specs.declared.content.Content.{Content, Empty, Text, Element, Class, Macro, Any, Sequence', Alternate'}
+use Rattle.odd_content.specs.declared.content.Content.{Content, Empty, Text, Value, Vals, Element, Class, Macro, Any, Sequence', Alternate'}
 use Rattle.odd_library.specs.declared.library.Library.{Library}
 use Rattle.odd_meaning.specs.Classes.{Members}
 use Rattle.rng_patterns.specs.declared.grammar.Expr.{Expr}
@@ -14,6 +14,8 @@ use Rattle.compile_contents.specs.Repeating.{choice_pattern, group_pattern}
 abbrev pub bounds_of : Content → Bounds
 bounds_of Empty = record { min = 1; max = Some 1 }
 bounds_of Text = record { min = 1; max = Some 1 }
+bounds_of (Value item) = record { min = 1; max = Some 1 }
+bounds_of (Vals list) = record { min = 1; max = Some 1 }
 bounds_of (Element key b) = b
 bounds_of (Class key p b) = b
 bounds_of (Macro key b) = b
@@ -25,6 +27,8 @@ bounds_of (Alternate' shape parts b) = b
 abbrev pub part_pattern : Library → List Condition → Members → Content → Expr
 part_pattern library conditions members Empty = expr.Empty
 part_pattern library conditions members Text = expr.Text
+part_pattern library conditions members (Value item) = expr.NotAllowed
+part_pattern library conditions members (Vals list) = expr.NotAllowed
 part_pattern library conditions members (Element key b) = element_pattern library key
 part_pattern library conditions members (Class key p b) = members_pattern key p (members key)
 part_pattern library conditions members (Macro key b) = macro_pattern library key

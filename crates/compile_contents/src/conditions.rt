@@ -43,6 +43,7 @@ fn add_conditions(alloc: Global, held: &mut Conditions, content: &Content) -> Re
         Content::Alternate { parts, bounds: _ } => add_conditions_in(alloc, held, parts),
         Content::Empty => Ok(()),
         Content::Text => Ok(()),
+        Content::Value(_) | Content::Vals(_) => Ok(()),
         Content::Element { .. } | Content::Class { .. } | Content::Macro { .. } => Ok(()),
     }
 }

@@ -51,7 +51,7 @@ fn bounds_of(content: &Content) -> Bounds
     ensures { result ≡ the_bounds_of content.now }
 {
     match content {
-        Content::Empty | Content::Text => Bounds {
+        Content::Empty | Content::Text | Content::Value(_) | Content::Vals(_) => Bounds {
             min: 1,
             max: Some(1),
         },
@@ -97,6 +97,7 @@ fn part_pattern(
     match content {
         Content::Empty => single(Expr::Empty, budget),
         Content::Text => single(Expr::Text, budget),
+        Content::Value(_) | Content::Vals(_) => single(Expr::NotAllowed, budget),
         Content::Element { key, .. } => element_pattern(alloc, library, key, budget),
         Content::Class { key, pick, .. } => members_pattern(alloc, members, key, pick, budget),
         Content::Macro { key, .. } => macro_pattern(alloc, library, key, budget),

@@ -167,7 +167,7 @@ condition_formed : (k : Kind) (part : Component) (c : Condition) → IsFormedPar
 condition_formed kind.Element (component.Element part) c f s = All-contains IsFormedCondition (conditions_in part.content) c (conditions_formed 60 part.content f.content) (contained (conditions_in part.content) c s)
 condition_formed kind.Macro (component.Macro part) c f s = All-contains IsFormedCondition (conditions_in part.content) c (conditions_formed 60 part.content f.content) (contained (conditions_in part.content) c s)
 condition_formed kind.Class (component.Class part) c f s = absurd (nothing_stands c s)
-condition_formed kind.Datatype (component.Datatype part) c f s = absurd f.content
+condition_formed kind.Datatype (component.Datatype part) c f s = All-contains IsFormedCondition (conditions_in part.content) c (conditions_formed 60 part.content f.content.0) (contained (conditions_in part.content) c s)
 condition_formed k part c f s = absurd f
 
 module _ (library : Library) (start : List (List ℕ)) (g : Grammar) (f : IsFormedLibrary library) (is : IsGrammarOf library start g) where

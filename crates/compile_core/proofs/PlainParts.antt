@@ -19,7 +19,7 @@ use Rattle.compile_defines.specs.Compiled as compiled
 use Rattle.compile_defines.specs.Compiled.{HoldsStart, IsDefineOf, class_define, condition_body, condition_define, element_define, macro_define}
 use Rattle.odd_content.specs.Picking.{is_picked}
 use Rattle.odd_content.specs.declared.content.Condition.{Condition}
-use Rattle.odd_content.specs.declared.content.Content.{Content, Empty, Text, Element, Class, Macro, Any, Sequence', Alternate', Row_of-Content, end_of-Content, more_of-Content}
+use Rattle.odd_content.specs.declared.content.Content.{Content, Empty, Text, Value, Vals, Element, Class, Macro, Any, Sequence', Alternate', Row_of-Content, end_of-Content, more_of-Content}
 use Rattle.odd_content.specs.declared.content.Pick.{Pick}
 use Rattle.odd_content.specs.declared.content.Pick.TheVariants as pick
 use Rattle.odd_forms.specs.Sorted.{IsSet}
@@ -92,6 +92,8 @@ module _ (Good : Expr → Type 0) (closed : IsClosed Good) (library : Library) (
     pub content_good : (c : Content) → IsGoodFor Good library conditions members (named_in c) (conditions_in c) → Good (content_pattern library conditions members c)
     content_good Empty h = closed.empty
     content_good Text h = closed.text
+    content_good (Value item) h = closed.not_allowed
+    content_good (Vals list) h = closed.not_allowed
     content_good (Element key b) h = repeated_good Good closed (element_pattern library key) b (if_held (reference key) (holds_element library key) (h.elements key))
     content_good (Class key p b) h = repeated_good Good closed (members_pattern key p (members key)) b (members_good key p (members key) (h.classes key) (h.each_member key))
     content_good (Macro key b) h =

@@ -16,7 +16,7 @@ use Rattle.compile_defines.specs.Compiled.{IsDefineOf, IsGrammarOf, body_requiri
 use Rattle.odd_content.specs.ConditionOrder.{condition_cmp, condition_total}
 use Rattle.odd_content.specs.Picking.{is_picked}
 use Rattle.odd_content.specs.declared.content.Condition.{Condition}
-use Rattle.odd_content.specs.declared.content.Content.{Content, Empty, Text, Element, Class, Macro, Any, Sequence', Alternate', Row_of-Content, end_of-Content, more_of-Content}
+use Rattle.odd_content.specs.declared.content.Content.{Content, Empty, Text, Value, Vals, Element, Class, Macro, Any, Sequence', Alternate', Row_of-Content, end_of-Content, more_of-Content}
 use Rattle.odd_content.specs.declared.content.Pick.{Pick}
 use Rattle.odd_content.specs.declared.content.Pick.TheVariants as pick
 use Rattle.odd_forms.proofs.SetOf.{first_below, none_rising, one_set, rest_rising, rising_more}
@@ -88,6 +88,8 @@ module _ (library : Library) (conditions : List Condition) (members : Members) w
     content_is : (c : Content) → pattern_markup (content_pattern library conditions members c) ≡ content_markup library conditions members c
     content_is Empty = empty_is
     content_is Text = text_is
+    content_is (Value item) = not_allowed_is
+    content_is (Vals list) = not_allowed_is
     content_is (Element key b) = often_is (element_pattern library key) _ b (if_held (reference key) _ (holds_element library key) (ref_is (define_name key)))
     content_is (Class key p b) = often_is (members_pattern key p (members key)) _ b (members_is key p (members key))
     content_is (Macro key b) = often_is (macro_pattern library key) _ b (if_held (expr.Ref (macro_name key)) _ (holds_macro library key) (ref_is (macro_name key)))

@@ -12,7 +12,7 @@ use Rattle.odd_forms.specs.Sorted.{IsSet}
 use Rattle.odd_content.specs.ConditionOrder.{condition_cmp}
 use Rattle.odd_content.specs.Picking.{is_picked}
 use Rattle.odd_content.specs.declared.content.Condition.{Condition}
-use Rattle.odd_content.specs.declared.content.Content.{Content, Empty, Text, Element, Class, Macro, Any, Sequence', Alternate', Row_of-Content, end_of-Content, more_of-Content}
+use Rattle.odd_content.specs.declared.content.Content.{Content, Empty, Text, Value, Vals, Element, Class, Macro, Any, Sequence', Alternate', Row_of-Content, end_of-Content, more_of-Content}
 use Rattle.odd_content.specs.declared.content.Pick.{Pick}
 use Rattle.odd_content.specs.declared.content.Pick.TheVariants as pick
 use Rattle.odd_library.specs.Odd.{element_key}
@@ -79,6 +79,8 @@ module _ (library : Library) (conditions : List Condition) (members : Members) w
     pub content_markup : Content → Markup
     content_markup Empty = empty
     content_markup Text = plain (codes "text") []
+    content_markup (Value item) = not_allowed
+    content_markup (Vals list) = not_allowed
     content_markup (Element key b) = often (if holds_element library key then ref (define_name key) else not_allowed) b
     content_markup (Class key p b) = often (members_markup key p (members key)) b
     content_markup (Macro key b) = often (if holds_macro library key then ref (macro_name key) else not_allowed) b

@@ -7,7 +7,7 @@ use Rattle.compile_contents.specs.Contents.{condition_pattern, content_pattern, 
 use Rattle.compile_contents.specs.Repeating.{further, group_pattern, repeated, repeated_within, choice_pattern}
 use Rattle.odd_content.specs.Formed.{AreFormedWithin, IsFormedWithin}
 use Rattle.odd_content.specs.declared.content.Condition.{Condition}
-use Rattle.odd_content.specs.declared.content.Content.{Content, Empty, Text, Element, Class, Macro, Any, Sequence', Alternate', Row_of-Content, end_of-Content, more_of-Content}
+use Rattle.odd_content.specs.declared.content.Content.{Content, Empty, Text, Value, Vals, Element, Class, Macro, Any, Sequence', Alternate', Row_of-Content, end_of-Content, more_of-Content}
 use Rattle.odd_content.specs.declared.content.Pick.{Pick}
 use Rattle.odd_library.specs.declared.library.Library.{Library}
 use Rattle.odd_meaning.specs.Classes.{Members}
@@ -166,6 +166,8 @@ module _ (library : Library) (numbered : List Condition) (members : Members) (g 
           → Same Q (AdmitsBy macros library counts k) (IsMatched g marks (content_pattern library numbered members k))
       content_law left Empty f a = group_law Q g marks []
       content_law left Text f a = λ w q. (patterns.text, told g marks expr.Text shape.Text w text_shown)
+      content_law left (Value item) f a = choice_law g marks Q []
+      content_law left (Vals list) f a = choice_law g marks Q []
       content_law left (Element key b) f a = repeated_law Q g marks (IsOne counts (element key)) (element_pattern library key) b f.1 (kept.elements key)
       content_law left (Class key p b) f a =
           repeated_law Q g marks (IsOneMember library counts key p) (members_pattern key p (members key)) b f.2 (kept.classes key p (a.classes key (stands_first (class_key key) [])))

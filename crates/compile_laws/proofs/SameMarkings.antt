@@ -7,7 +7,7 @@ use Rattle.odd_tree.specs.Elements.{StandsIn}
 use Rattle.odd_tree.specs.Significant.{Marking}
 use Rattle.odd_tree.specs.declared.tree.Node.{Node, Element as AnElement}
 use Rattle.odd_tree.specs.declared.tree.Tree.{Tree}
-use Rattle.odd_content.specs.declared.content.Content.{Content, Empty, Text, Element, Class, Macro, Any, Sequence', Alternate', Row_of-Content, end_of-Content, more_of-Content}
+use Rattle.odd_content.specs.declared.content.Content.{Content, Empty, Text, Value, Vals, Element, Class, Macro, Any, Sequence', Alternate', Row_of-Content, end_of-Content, more_of-Content}
 use Rattle.odd_content.specs.declared.content.Pick.{Pick}
 use Rattle.odd_library.specs.declared.library.Library.{Library}
 use Rattle.odd_meaning.specs.Contents.{Admits, AdmitsBy, ByOne, InOrder, IsOfMacro, IsOne, IsOneMember, MacroAdmits, Macros}
@@ -44,6 +44,8 @@ module _ (Q : Node → Type 0) (library : Library) (a b : Marking Label) (carry 
       pub content_into : (k : Content) → AreCarried (named_in k) → Into Q (AdmitsBy some library a k) (AdmitsBy others library b k)
       content_into Empty macros = λ w q h. h
       content_into Text macros = λ w q h. h
+      content_into (Value item) macros = λ w q h. h
+      content_into (Vals list) macros = λ w q h. h
       content_into (Element key bounds) macros = counted_into Q (one_into (element key))
       content_into (Class key p bounds) macros = counted_into Q (member_into key p)
       content_into (Macro key bounds) macros = counted_into Q (macros key (stands_first (macro_key key) []))

@@ -1,6 +1,6 @@
 use odd_content::{Condition, Content, Contents, Pick};
 use odd_text::{Name, Names, NoMemory, Text, Words};
-use rng_types::Bounds;
+use rng_types::{Bounds, Item, ValList};
 use std::alloc::Global;
 
 /// Puts a content: the idents and the conditions with their bounds, and parts in parentheses.
@@ -9,6 +9,8 @@ pub fn add_content(alloc: Global, out: &mut Text, content: &Content) -> Result<(
     match content {
         Content::Empty => out.push_str("empty"),
         Content::Text => out.push_str("text"),
+        Content::Value(item) => add_item(alloc, out, item),
+        Content::Vals(list) => add_list(alloc, out, list),
         Content::Element { key, bounds } => {
             out.push_str(key.as_str())?;
             add_bounds(alloc, out, *bounds)
@@ -39,6 +41,32 @@ pub fn add_content(alloc: Global, out: &mut Text, content: &Content) -> Result<(
             add_bounds(alloc, out, *bounds)
         }
     }
+}
+
+// Puts the datatype of a value, by its key or with its facets.
+fn add_item(alloc: Global, out: &mut Text, item: &Item) -> Result<(), NoMemory> {
+    match item {
+        Item::Key(key) => {
+            out.push_str("value ")?;
+            out.push_str(key.as_str())
+        }
+        Item::Typed { kind, facets } => {
+            out.push_str(format!(in alloc; "value {kind:?}")?.as_str())?;
+            for facet in facets.as_slice() {
+                let name = facet.name;
+                out.push_str(format!(in alloc; " {name:?}=")?.as_str())?;
+                out.push_str(facet.value.as_str())?;
+            }
+            Ok(())
+        }
+    }
+}
+
+// Puts the kind of a list of values, and its values.
+fn add_list(alloc: Global, out: &mut Text, list: &ValList) -> Result<(), NoMemory> {
+    let kind = list.kind;
+    out.push_str(format!(in alloc; "list {kind:?}")?.as_str())?;
+    add_words(out, &list.values)
 }
 
 #[cycle(contents)]

@@ -85,7 +85,11 @@ fn push_named(alloc: Global, keys: &mut Keys, content: &Content) -> Result<(), N
         Content::Macro { key, bounds: _ } => push_key(alloc, keys, Kind::Macro, key),
         Content::Sequence { parts, bounds: _ } => push_named_in(alloc, keys, parts),
         Content::Alternate { parts, bounds: _ } => push_named_in(alloc, keys, parts),
-        Content::Empty | Content::Text | Content::Any { .. } => Ok(()),
+        Content::Empty
+        | Content::Text
+        | Content::Value(_)
+        | Content::Vals(_)
+        | Content::Any { .. } => Ok(()),
     }
 }
 

@@ -1,19 +1,18 @@
 -- What a content gives, part by part, for theorems that go by induction over its parts.
-use Rattle.std.proofs.Common.{◌≡◌, ◌<◌, ◌≤◌, ℕ, zero, suc, max, fold, List, [], ◌∷◌, ◌++◌, Option, Some, None, inl, inr, refl, sym, ap, subst, ◌∙◌, arith, rules, map}
+use Rattle.std.proofs.Common.{◌≡◌, ◌<◌, ◌≤◌, ℕ, zero, suc, max, fold, List, [], ◌∷◌, ◌++◌, Option, Some, None, inl, inr, refl, sym, subst, arith, rules, map}
 use Rattle.odd_text.specs.declared.name.Bind.{Bind}
 use Rattle.odd_tree.specs.Elements.{StandsIn, children_of, elements_of, within}
 use Rattle.odd_tree.specs.Significant.{depth, node_depth, tree_depth}
-use Rattle.odd_tree.specs.declared.tree.Node.{Node, Element, Text, fold-Node, out-Node, roll-Node, roll-out-Node}
+use Rattle.odd_tree.specs.declared.tree.Node.{Node, Element, Text, fold-Node}
 use Rattle.odd_tree.specs.declared.tree.Node as N
-use Rattle.odd_tree.specs.declared.tree.Node.TheOpen as shown
-use Rattle.odd_tree.specs.declared.tree.Node.TheVariants.{rolls-Element, rolls-Text}
 use Rattle.odd_tree.specs.declared.tree.Tree.{Tree, out-Tree}
 use Rattle.odd_tree.specs.declared.tree.Tree as T
 use Rattle.odd_tree.proofs.InList.{first_or_later, map_stands, nothing_stands, stands_first, stands_later, with_element, with_text}
+use Rattle.odd_forms.specs.Tags.{tags_in}
 use Rattle.odd_forms.specs.declared.element.Element.{Element as Kind}
 use Rattle.odd_content.specs.Giving.{given_by, part_content, part_named, parts_in}
 use Rattle.odd_content.specs.declared.content.Content.{Content}
-use Rattle.odd_content.proofs.Parts.{element_gives, text_gives}
+use Rattle.odd_content.proofs.Parts.{IsOfKind, element_gives, kind_of, text_gives}
 
 -- the greatest of some numbers is none less
 from_start : (start : ℕ) (ns : List ℕ) → start ≤ fold max start ns
@@ -46,22 +45,11 @@ child_less t u s =
     let d : depth t ≡ suc (fold max 0 (map levels_of (out-Tree t).children)) = depth_is t in
     omega arith
 
--- a child is an element or a text
-data IsOfKind : Node → Type 0 where
-  element : (t : Tree) → IsOfKind (Element t)
-  text : (x : List ℕ) → IsOfKind (Text x)
-
-kind_of : (n : Node) → IsOfKind n
-kind_of n = elim (out-Node n) as (λ q. out-Node n ≡ q → IsOfKind n) [
-  | shown.Element t ↦ λ e. subst IsOfKind (sym (rolls-Element t) ∙ ap roll-Node (sym e) ∙ roll-out-Node n) (element t)
-  | shown.Text x ↦ λ e. subst IsOfKind (sym (rolls-Text x) ∙ ap roll-Node (sym e) ∙ roll-out-Node n) (text x)
-] refl
-
 mutual
   -- what a part gives under the declarations around it
   pub data IsPart : List Bind → Tree → Content → Type 0 where
     part : {around : List Bind} {t : Tree} {parts : List Content} (kind : Kind) → part_named (out-Tree t).name ≡ Some kind → AreParts (within around t) (children_of t) parts
-        → IsPart around t (part_content kind (within around t) (out-Tree t).attrs parts)
+        → IsPart around t (part_content kind (within around t) (out-Tree t).attrs (tags_in t) parts)
 
   -- and what the parts among some elements give
   pub data AreParts : List Bind → List Tree → List Content → Type 0 where
@@ -80,7 +68,7 @@ module _ (around : List Bind) (ns : List Node) (rest : AreParts around (elements
       (subst (λ cs. AreParts around (t ∷ elements_of ns) (cs ++ parts_in around ns)) (sym (element_gives around t)) (by_kind (part_named (out-Tree t).name) refl))
     where
       by_kind : (o : Option Kind) → part_named (out-Tree t).name ≡ o
-          → AreParts around (t ∷ elements_of ns) (given_by o (within around t) (out-Tree t).attrs (parts_in (within around t) (out-Tree t).children) ++ parts_in around ns)
+          → AreParts around (t ∷ elements_of ns) (given_by o (within around t) (out-Tree t).attrs (tags_in t) (parts_in (within around t) (out-Tree t).children) ++ parts_in around ns)
       by_kind None e = AreParts.other e rest
       by_kind (Some kind) e = AreParts.more (IsPart.part kind e (inner t (stands_first (Element t) ns))) rest
   first_given _ (IsOfKind.text x) inner =

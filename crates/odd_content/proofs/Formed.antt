@@ -1,48 +1,50 @@
 -- What a formed tree that breaks no rule gives as a content model is formed.
-use Rattle.std.proofs.Common.{◌≡◌, ◌≢◌, ◌↔◌, ◌<◌, ◌-◌, ◌^◌, ℕ, suc, List, [], ◌∷◌, ◌&&◌, Bool, true, false, Option, Some, None, All, IsTrue, codes, length, get_or, refl, sym, ap, subst, ◌∙◌, arith, rules, ⊎_elim, filter}
-use Rattle.std.specs.Char.{is_ascii_digit}
-use Rattle.std.specs.List.{after_first, before_first, list_all, list_any}
-use Rattle.std.specs.Prelude.{is_some, nat_le, nat_lt, unwrap_or}
+use Rattle.std.proofs.Common.{◌≡◌, ◌≢◌, ◌-◌, ℕ, suc, List, [], ◌∷◌, ◌&&◌, true, false, Option, Some, None, All, codes, length, get_or, refl, sym, ap, subst, ◌∙◌, arith, ⊎_elim, filter}
+use Rattle.std.specs.List.{after_first, before_first, list_any}
+use Rattle.std.specs.Option.{IfSome}
+use Rattle.std.specs.Prelude.{is_some, nat_le, unwrap_or}
 use Rattle.std.specs.Cmp.Lexicographic.{same_text}
-use Rattle.std.proofs.lemmas.Bool.{and_parts, cases_Bool, false≢true, le-leb, leb-true}
-use Rattle.std.proofs.lemmas.List.Elements.{All-append, All-cons, All-contains, All-filter, All-head, All-nil, All-tail, Contains-get_or, filter_passes}
+use Rattle.std.proofs.lemmas.Bool.{cases_Bool, false≢true, le-leb}
+use Rattle.std.proofs.lemmas.List.Elements.{All-append, All-cons, All-contains, All-filter, All-head, All-nil, All-tail, filter_passes}
 use Rattle.std.proofs.lemmas.List.Sums.{length-filter}
 use Rattle.std.proofs.lemmas.Option.{same_Some}
 use Rattle.std.proofs.lemmas.Str.{chars-nil}
-use Rattle.std.proofs.lemmas.Str.Parse.{digits_value_short, numerals_by_value}
 use Rattle.odd_text.specs.declared.name.Bind.{Bind}
 use Rattle.odd_text.specs.declared.name.Name.{Name}
 use Rattle.odd_tokens.proofs.Ascii.{ascii_legal}
 use Rattle.odd_tokens.specs.Characters.{IsLegal, IsNCName, is_ncname, is_space}
 use Rattle.odd_tokens.specs.Same.{is_same}
-use Rattle.odd_tree.proofs.InList.{contained, standing, stands_first, stands_later}
+use Rattle.odd_tree.proofs.InList.{contained, stands_first, stands_later}
 use Rattle.odd_tree.proofs.LastBound.{last_bound_none, last_bound_some}
-use Rattle.odd_tree.proofs.PrintedTrees.{same_from}
-use Rattle.odd_tree.specs.Elements.{StandsIn, attribute_value, children_of, given, is_named, within}
+use Rattle.odd_tree.specs.Elements.{StandsIn, children_of, given, within}
 use Rattle.odd_tree.specs.Formed.{IsFormed, IsFormedTag}
 use Rattle.odd_tree.specs.Names.{IsBinding, in_force, last_bound, xml_namespace, xmlns_namespace}
-use Rattle.odd_tree.specs.declared.tree.Attr.{Attr}
 use Rattle.odd_tree.specs.declared.tree.Tree.{Tree, out-Tree}
 use Rattle.rng_types.specs.Bounds.{IsFormedBounds}
+use Rattle.rng_types.specs.declared.item.Item.{Item}
 use Rattle.odd_forms.proofs.Colon.{and_no, name_decides, name_parts, no_and, prefixed_read}
 use Rattle.rng_types.proofs.Spaced.{words_legal}
-use Rattle.odd_forms.specs.Children.{IsChild}
 use Rattle.odd_forms.specs.Deep.{DeepFault, is_level, left_inside}
 use Rattle.odd_forms.specs.Excepting.{excepted_of, is_colon, is_name, named_in}
-use Rattle.odd_forms.specs.Faults.{AttributeFault, DemandFault, FormFault, OwnFault, ValueFault}
-use Rattle.odd_forms.specs.Form.{AttributeForm, Suits, any_names, are_digits, count, number_told}
-use Rattle.odd_forms.specs.Table.{bounds, form_at, key, max, min, optional}
-use Rattle.odd_forms.specs.Words.{begun_with, is_among, is_filled, pieces_of, words_given, words_of}
+use Rattle.odd_forms.specs.Faults.{AttributeFault}
+use Rattle.odd_forms.specs.Form.{AttributeForm, any_names}
+use Rattle.odd_forms.specs.Table.{form_at, key, optional}
+use Rattle.odd_forms.specs.Words.{begun_with, is_filled, pieces_of, words_given, words_of}
 use Rattle.odd_forms.specs.declared.element.Element.{Element}
 use Rattle.odd_forms.specs.declared.element.Element.TheVariants as kind
 use Rattle.odd_forms.specs.declared.excepted.Excepted.TheVariants as excepted
 use Rattle.odd_content.proofs.Conditions.{condition_sets}
 use Rattle.odd_content.proofs.EachPart.{AreParts, IsPart, parts_given}
-use Rattle.odd_content.proofs.FormedTrees.{IsFormedSomewhere, child_formed, tag_formed}
+use Rattle.odd_data.specs.Formed.{IsFormedData, IsFormedList}
+use Rattle.odd_data.specs.Values.{list_given}
+use Rattle.odd_data.specs.Items.{item_given}
+use Rattle.odd_data.proofs.Formed.{all_valued, data_formed, list_formed}
+use Rattle.odd_data.proofs.FormedTrees.{IsFormedSomewhere, child_formed, tag_formed}
+use Rattle.odd_data.proofs.Unbroken.{IsUnbroken, attribute_kept, bounds_formed, by_text, child_kept, decided, each_item, legal_given, suited}
 use Rattle.odd_content.specs.Breaking.{ContentFault}
 use Rattle.odd_content.specs.Condition.{condition_of}
-use Rattle.odd_content.specs.Formed.{AreBound, AreFormedWithin, IsExceptedName, IsExceptedNamespace, IsFormedCondition, IsFormedContent, IsFormedPick, IsFormedWithin, IsNamespace}
-use Rattle.odd_content.specs.Giving.{bounds_in, content_of, joined_parts, key_in, maximum_told, part_named, parts_in, pick_given, pick_of}
+use Rattle.odd_content.specs.Formed.{AreBound, AreFormedWithin, IsExceptedName, IsExceptedNamespace, IsFormedCondition, IsFormedContent, IsFormedPick, IsFormedWithin, IsNamespace, once}
+use Rattle.odd_content.specs.Giving.{content_of, joined_parts, key_in, part_named, parts_in, pick_given, pick_of, value_content}
 use Rattle.odd_content.specs.declared.content.Content.{Content, Row_of-Content, end_of-Content, more_of-Content, items-the_row-Content, items_hidden-the_row-Content-0}
 use Rattle.odd_content.specs.declared.content.Content.TheBlock.{hidden-the_row-Content-0}
 
@@ -51,69 +53,6 @@ include = optional (codes "include") any_names
 
 abbrev pub except : AttributeForm
 except = optional (codes "except") any_names
-
--- what holds of each item of a list
-each_item : {A : Type 0} (P : A → Type 0) (xs : List A) → ((x : A) → StandsIn xs x → P x) → All P xs
-each_item P xs h = λ k d l. h (get_or xs k d) (standing xs (get_or xs k d) (Contains-get_or xs k d l))
-
--- what holds of a text that may be absent, by what it is
-by_text : (o : Option (List ℕ)) (P : Option (List ℕ) → Type 0) → (o ≡ None → P None) → ((text : List ℕ) → o ≡ Some text → P (Some text)) → P o
-by_text None P none some = none refl
-by_text (Some text) P none some = some text refl
-
--- what a test decides holds where it can't fail
-decided : {P : Type 0} (b : Bool) → (IsTrue b ↔ P) → ((P → ⊥) → ⊥) → P
-decided b decides sure = ⊎_elim decides.0 (λ f. absurd (sure (λ p. false≢true (sym f ∙ decides.1 p)))) (cases_Bool b)
-
--- where no rule is broken
-abbrev IsUnbroken : (ℕ → Type 0) → Type 0
-IsUnbroken Broken = (rule : ℕ) → Broken rule → ⊥
-
--- an attribute that breaks nothing has a value of its kind
-suited : (a : AttributeForm) (t : Tree) (value : List ℕ) → is_among a.left_out value ≡ false → given t a.local ≡ Some value → IsUnbroken (AttributeFault a t) → (Suits a.kind value → ⊥) → ⊥
-suited a t value kept e unbroken wrong = unbroken a.rule (AttributeFault.value value e (ValueFault.malformed kept wrong))
-
--- a number that is told has at most 9 digits, and so has 1, which stands for one that is not
-number_short : (o : Option (List ℕ)) → unwrap_or (number_told o) 1 < 10 ^ 9
-number_short None = omega arith
-number_short (Some value) =
-    ⊎_elim
-    (λ d. (let p = and_parts (nat_le (length value) 9) (list_all is_ascii_digit value) (and_parts (nat_lt 0 (length value)) (nat_le (length value) 9 && list_all is_ascii_digit value) d).1 in
-    rw d (digits_value_short (numerals_by_value (λ ds. list_all is_ascii_digit ds ≡ true) (search rules)) value 9 p.1 (leb-true (length value) 9 p.0))))
-    (λ d. rw d (omega arith)) (cases_Bool (are_digits value))
-
--- digits tell a number, and where the attribute is absent it is 1
-told : (o : Option (List ℕ)) → ((value : List ℕ) → o ≡ Some value → (IsTrue (are_digits value) → ⊥) → ⊥) → number_told o ≡ Some (unwrap_or (number_told o) 1)
-told None sure = refl
-told (Some value) sure = let d : are_digits value ≡ true = decided (are_digits value) (λ d. d, λ d. d) (sure value refl) in rw d refl
-
--- a maximum that is a number is told
-most_told : (o : Option (List ℕ)) → ((value : List ℕ) → o ≡ Some value → (Suits count value → ⊥) → ⊥) → (n : ℕ) → maximum_told o ≡ Some n → number_told o ≡ Some n
-most_told None sure n h = h
-most_told (Some value) sure n h =
-    ⊎_elim (λ u. (let never = rw u at h in cc))
-    (λ u. told (Some value) (λ v e wrong. sure v e (⊎_elim wrong (λ is. false≢true (sym u ∙ same_from value _ (same_Some _ _ e ∙ is))))) ∙ (rw u at h)) (cases_Bool (is_same value (codes "unbounded")))
-
--- in an element that breaks nothing no attribute and no child breaks anything, and the bounds are formed where its form asks for their order
-module _ {e : Element} {left : ℕ} {around : List Bind} {t : Tree} (unbroken : IsUnbroken (DeepFault e left around t)) where
-  attribute_kept : (a : AttributeForm) → StandsIn (form_at e).attributes a → IsUnbroken (AttributeFault a t)
-  attribute_kept a s rule f = unbroken rule (DeepFault.itself (FormFault.own (OwnFault.attribute a s f)))
-
-  child_kept : (child : Tree) → StandsIn (children_of t) child → (kind : Element) → IsChild e kind child → IsUnbroken (DeepFault kind (left_inside (is_level (form_at e) t) left) (within around t) child)
-  child_kept child s kind is rule f = unbroken rule (DeepFault.inside kind child s is f)
-
-  bounds_formed : StandsIn (form_at e).attributes min → StandsIn (form_at e).attributes max → StandsIn (form_at e).demands bounds → IsFormedBounds (bounds_in (out-Tree t).attrs)
-  bounds_formed least most demand =
-      let m = (bounds_in (out-Tree t).attrs).min in
-      let least_is = told (given t (codes "minOccurs")) (λ value e. suited min t value refl e (attribute_kept min least)) in
-      let most_is = most_told (given t (codes "maxOccurs")) (λ value e. suited max t value refl e (attribute_kept max most)) in
-      record {
-        least = number_short (given t (codes "minOccurs"));
-        greatest = λ n is. subst (λ o. unwrap_or o 1 < 10 ^ 9) (most_is n is) (number_short (given t (codes "maxOccurs")));
-        ordered = λ n is.
-            let kept : n < m → ⊥ = λ h. unbroken 3 (DeepFault.itself (FormFault.own (OwnFault.demand bounds demand (DemandFault.out_of_order m n least_is (most_is n is) h)))) in
-            omega arith;
-      }
 
 -- the ident that a reference gives is a name
 key_named : (t : Tree) → IsUnbroken (AttributeFault key t) → IsNCName (key_in (out-Tree t).attrs)
@@ -137,16 +76,6 @@ words_picked (word ∷ words) excepted named apart = (λ e. cc, named)
 -- what `include` and `except` pick that break nothing is formed
 pub pick_formed : (t : Tree) → ((rule : ℕ) → AttributeFault include t rule → ⊥) → ((rule : ℕ) → AttributeFault except t rule → ⊥) → IsFormedPick (pick_given t)
 pick_formed t included excepted = words_picked _ _ (words_named t (codes "include") included) (words_named t (codes "except") excepted)
-
--- an attribute's value is legal where all are
-value_legal : (attrs : List Attr) (local value : List ℕ) → All (λ (a : Attr). IsLegal a.value) attrs → attribute_value attrs local ≡ Some value → IsLegal value
-value_legal [] local value all e = cc
-value_legal (a ∷ rest) local value all e =
-    ⊎_elim (λ named. subst IsLegal (same_Some a.value value (rw named at e)) (All-head (λ (x : Attr). IsLegal x.value) a rest all))
-    (λ other. value_legal rest local value (All-tail (λ (x : Attr). IsLegal x.value) a rest all) (rw other at e)) (cases_Bool (is_named a local))
-
-pub legal_given : (t : Tree) (local value : List ℕ) → IsFormedTag t → given t local ≡ Some value → IsLegal value
-legal_given t local value f = value_legal (out-Tree t).attrs local value f.valued
 
 -- no byte is white space
 abbrev IsUnspaced : List ℕ → Type 0
@@ -234,12 +163,21 @@ pub within_bound : (around : List Bind) (t : Tree) {first end : ℕ} → AreBoun
 within_bound around t bound f =
     (All-append IsBinding around (out-Tree t).binds bound.0 (tag_formed f).bound, All-append (λ (b : Bind). IsLegal b.ns) around (out-Tree t).binds bound.1 (tag_formed f).bound_to)
 
+-- an item that is said and formed
+value_formed : (left : ℕ) (o : Option Item) → IfSome o IsFormedData → IsFormedWithin left (value_content o)
+value_formed left None formed = tt
+value_formed left (Some item) formed = formed
+
+-- and a list that breaks nothing
+pub values_formed : (t : Tree) {left : ℕ} {around : List Bind} → IsFormedSomewhere t → IsUnbroken (DeepFault kind.ValList left around t) → IsFormedList (list_given t)
+values_formed t formed unbroken = list_formed t (all_valued unbroken formed.2 kind.ValItem (λ child named. rw named refl) ([], _, refl))
+
 -- parts that are formed
 rows_formed : {n : _} (left : ℕ) (row : Row_of-Content n) → All (IsFormedWithin left) (items-the_row-Content n row) → AreFormedWithin left row
 rows_formed left end_of-Content all = tt
 rows_formed left (more_of-Content part row) all = (All-head (IsFormedWithin left) part _ all, rows_formed left row (All-tail (IsFormedWithin left) part _ all))
 
-parts_listed : (left : ℕ) (parts : List Content) → All (IsFormedWithin left) parts → AreFormedWithin left (hidden-the_row-Content-0 parts)
+pub parts_listed : (left : ℕ) (parts : List Content) → All (IsFormedWithin left) parts → AreFormedWithin left (hidden-the_row-Content-0 parts)
 parts_listed left parts all = rows_formed left (hidden-the_row-Content-0 parts) (subst (All (IsFormedWithin left)) (sym (items_hidden-the_row-Content-0 parts)) all)
 
 -- the element is formed, and breaks nothing as the part that it is, where so many levels may still open
@@ -271,6 +209,10 @@ mutual
       let closed : left ≡ 0 → ⊥ = λ none. u 2 (DeepFault.deep refl none) in
       let inner = parts_formed (left - 1) are (within_bound around t bound formed.2) (λ child s. (child_formed formed.2 child s, child_kept u child s)) in
       (omega arith, parts_listed (left - 1) parts inner, bounds_formed u ([], _, refl) (_ ∷ [], _, refl) ([], _, refl))
+  part_formed left {t = t} (IsPart.part kind.DataRef is are) bound (formed, unbroken) =
+      value_formed left (item_given t) (data_formed (unbroken kind.DataRef is) ([], _, refl) (_ ∷ _ ∷ _ ∷ _ ∷ _ ∷ _ ∷ [], _, refl))
+  part_formed left {t = t} (IsPart.part kind.ValList is are) bound (formed, unbroken) =
+      values_formed t formed (unbroken kind.ValList is)
   part_formed left (IsPart.part other is are) bound formed = tt
 
   -- and so is what several give
@@ -282,10 +224,16 @@ mutual
       All-cons (IsFormedWithin left) c cs (part_formed left one bound (formed t (stands_first t ts))) (parts_formed left later bound (λ u s. formed u (stands_later t u ts s)))
 
 -- there are as many as children that may stand there
-parts_counted : {around : List Bind} {ts : List Tree} {cs : List Content} → AreParts around ts cs → length (filter (λ t. is_some (part_named (out-Tree t).name)) ts) ≡ length cs
+pub parts_counted : {around : List Bind} {ts : List Tree} {cs : List Content} → AreParts around ts cs → length (filter (λ t. is_some (part_named (out-Tree t).name)) ts) ≡ length cs
 parts_counted AreParts.nothing = refl
 parts_counted (AreParts.other none later) = rw none (parts_counted later)
 parts_counted (AreParts.more (IsPart.part e is are) later) = rw is (ap suc (parts_counted later))
+
+-- bounds that are not given are formed
+pub once_formed : IsFormedBounds once
+once_formed =
+    let is = λ (n : ℕ) (e : Some 1 ≡ Some n). same_Some 1 n e in
+    record { least = omega arith; greatest = λ n e. omega (arith, is n e); ordered = λ n e. omega (arith, is n e) }
 
 -- what they give together is formed
 joined_formed : (parts : List Content) → All (IsFormedWithin (left_inside (nat_le 2 (length parts)) 60)) parts → IsFormedContent (joined_parts parts)
@@ -293,9 +241,7 @@ joined_formed [] all = tt
 joined_formed (part ∷ []) all = All-head (IsFormedWithin 60) part [] all
 joined_formed (part ∷ next ∷ parts) all =
     let several : nat_le 2 (suc (suc (length parts))) ≡ true = le-leb 2 (suc (suc (length parts))) (omega arith) in
-    let once = λ (n : ℕ) (e : Some 1 ≡ Some n). same_Some 1 n e in
-    let bounds_are : IsFormedBounds (record { min = 1; max = Some 1 }) = record { least = omega arith; greatest = λ n e. omega (arith, once n e); ordered = λ n e. omega (arith, once n e) } in
-    (omega arith, parts_listed 59 (part ∷ next ∷ parts) (rw several at all), bounds_are)
+    (omega arith, parts_listed 59 (part ∷ next ∷ parts) (rw several at all), once_formed)
 
 -- the content model that a `content` says which breaks nothing is formed
 pub content_formed : (around : List Bind) (t : Tree) {first end : ℕ} → AreBound around → IsFormed first end t → ((rule : ℕ) → ContentFault around t rule → ⊥) → IsFormedContent (content_of around t)

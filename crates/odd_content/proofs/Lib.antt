@@ -1,5 +1,5 @@
 pub mod Conditions
+pub mod DataContents
 pub mod EachPart
 pub mod Formed
-pub mod FormedTrees
 pub mod Parts

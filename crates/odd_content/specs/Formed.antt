@@ -1,5 +1,5 @@
 -- What holds of each content model that a `content` gives which breaks no rule.
-use Rattle.std.specs.Prelude.{◌≡◌, ◌≢◌, ◌<◌, ◌-◌, ℕ, false, List, [], All}
+use Rattle.std.specs.Prelude.{◌≡◌, ◌≢◌, ◌<◌, ◌-◌, ℕ, false, List, [], Some, All}
 use Rattle.std.specs.List.{list_any}
 use Rattle.odd_text.specs.NameOrder.{name_cmp}
 use Rattle.odd_text.specs.Text.{text_cmp}
@@ -10,8 +10,10 @@ use Rattle.odd_tree.specs.Names.{IsBinding, xmlns_namespace}
 use Rattle.odd_forms.specs.Excepting.{IsPrefixed}
 use Rattle.odd_forms.specs.Sorted.{AreRising}
 use Rattle.rng_types.specs.Bounds.{IsFormedBounds}
+use Rattle.rng_types.specs.declared.bounds.Bounds.{Bounds}
+use Rattle.odd_data.specs.Formed.{IsFormedData, IsFormedList}
 use Rattle.odd_content.specs.declared.content.Condition.{Condition}
-use Rattle.odd_content.specs.declared.content.Content.{Content, Empty, Text, Element, Class, Macro, Any, Sequence', Alternate', Row_of-Content, end_of-Content, more_of-Content}
+use Rattle.odd_content.specs.declared.content.Content.{Content, Empty, Text, Value, Vals, Element, Class, Macro, Any, Sequence', Alternate', Row_of-Content, end_of-Content, more_of-Content}
 use Rattle.odd_content.specs.declared.content.Pick.{Pick}
 use Rattle.odd_content.specs.declared.content.Pick.TheVariants as pick
 
@@ -57,6 +59,8 @@ abbrev mutual
   pub IsFormedWithin : ℕ → Content → Type 0
   IsFormedWithin left Empty = Unit {0}
   IsFormedWithin left Text = Unit {0}
+  IsFormedWithin left (Value item) = IsFormedData item
+  IsFormedWithin left (Vals list) = IsFormedList list
   IsFormedWithin left (Element key b) = IsNCName key × IsFormedBounds b
   IsFormedWithin left (Class key p b) = IsNCName key × IsFormedPick p × IsFormedBounds b
   IsFormedWithin left (Macro key b) = IsNCName key × IsFormedBounds b
@@ -71,3 +75,25 @@ abbrev mutual
 -- a content has at most 60 levels
 abbrev pub IsFormedContent : Content → Type 0
 IsFormedContent = IsFormedWithin 60
+
+-- bounds that are not given
+abbrev pub once : Bounds
+once = record { min = 1; max = Some 1 }
+
+abbrev mutual
+  -- the forms that the content of a datatype has: items, lists of values, and alternations of these
+  pub IsOfData : Content → Type 0
+  IsOfData (Value item) = Unit {0}
+  IsOfData (Vals list) = Unit {0}
+  IsOfData (Alternate' shape parts b) = (b ≡ once) × AreOfData parts
+  IsOfData Empty = ⊥
+  IsOfData Text = ⊥
+  IsOfData (Element key b) = ⊥
+  IsOfData (Class key p b) = ⊥
+  IsOfData (Macro key b) = ⊥
+  IsOfData (Any c b) = ⊥
+  IsOfData (Sequence' shape parts b) = ⊥
+
+  pub AreOfData : {n : _} → Row_of-Content n → Type 0
+  AreOfData end_of-Content = Unit {0}
+  AreOfData (more_of-Content part parts) = IsOfData part × AreOfData parts

@@ -3,14 +3,17 @@ ghost use Rattle.odd_tree.specs.Elements.{all_binds, within};
 ghost use Rattle.odd_forms.specs.Least.{IsLeast};
 ghost use Rattle.odd_content.specs.Breaking.{ContentFault};
 ghost use Rattle.odd_content.specs.Formed.{AreBound, IsFormedContent};
-ghost use Rattle.odd_content.specs.Giving.{IsContentOf, bounds_in, joined_parts, key_in, part_content, part_named, parts_in};
+ghost use Rattle.odd_forms.specs.Tags.{tags_in};
+ghost use Rattle.odd_content.specs.Giving.{IsContentOf, joined_parts, key_in, part_content, part_named, parts_in, value_content};
+ghost use Rattle.odd_data.specs.Items.{item_given};
 ghost use Rattle.odd_tree.specs.Formed.{IsFormed};
 ghost use Rattle.odd_tree.specs.declared.tree.Tree.{out-Tree};
 
 use crate::condition::read_condition;
 use crate::content::{Content, Contents};
 use crate::picking::read_pick;
-use odd_forms::{Element, LEVELS, child_of, deep_fault, number};
+use odd_data::{read_bounds, read_item, read_list};
+use odd_forms::{Element, LEVELS, child_of, deep_fault};
 use odd_text::{NoMemory, Scope, Text, TryCopy};
 use odd_tree::{Bindings, Node, Tree, attribute, entered};
 use rng_types::Bounds;
@@ -120,7 +123,7 @@ fn read_part(
     tree: &Tree,
     around: &[&Bindings],
 ) -> Result<Content, NoMemory>
-    ensures { IfOk result (λ made. made ≡ part_content part (within (all_binds (map (λ b. b.now) around.now)) tree.now) (out-Tree tree.now).attrs (parts_in (within (all_binds (map (λ b. b.now) around.now)) tree.now) (out-Tree tree.now).children)) }
+    ensures { IfOk result (λ made. made ≡ part_content part (within (all_binds (map (λ b. b.now) around.now)) tree.now) (out-Tree tree.now).attrs (tags_in tree.now) (parts_in (within (all_binds (map (λ b. b.now) around.now)) tree.now) (out-Tree tree.now).children)) }
 {
     if tree.binds.is_empty() {
         return part_in_force(alloc, part, tree, around);
@@ -138,11 +141,13 @@ fn part_in_force(
     tree: &Tree,
     inside: &[&Bindings],
 ) -> Result<Content, NoMemory>
-    ensures { IfOk result (λ made. made ≡ part_content part (all_binds (map (λ b. b.now) inside.now)) (out-Tree tree.now).attrs (parts_in (all_binds (map (λ b. b.now) inside.now)) (out-Tree tree.now).children)) }
+    ensures { IfOk result (λ made. made ≡ part_content part (all_binds (map (λ b. b.now) inside.now)) (out-Tree tree.now).attrs (tags_in tree.now) (parts_in (all_binds (map (λ b. b.now) inside.now)) (out-Tree tree.now).children)) }
 {
-    let bounds = bounds_given(tree);
+    let bounds = read_bounds(tree);
     match part {
         Element::TextNode => Ok(Content::Text),
+        Element::DataRef => data_given(alloc, tree),
+        Element::ValList => Ok(Content::Vals(read_list(alloc, tree)?)),
         Element::ElementRef => Ok(Content::Element {
             key: key_given(alloc, tree)?,
             bounds,
@@ -182,14 +187,12 @@ fn key_given(alloc: Global, tree: &Tree) -> Result<Text, NoMemory>
     }
 }
 
-// How often a part stands, where its numbers are of digits.
-fn bounds_given(tree: &Tree) -> Bounds
-    ensures { result ≡ bounds_in (out-Tree tree.now).attrs }
+// The data of a `dataRef`.
+fn data_given(alloc: Global, tree: &Tree) -> Result<Content, NoMemory>
+    ensures { IfOk result (λ made. made ≡ value_content (item_given tree.now)) }
 {
-    let min = number(tree, "minOccurs").unwrap_or(1);
-    let max = match attribute(&tree.attrs, "maxOccurs") {
-        Some(value) if value.as_str() == "unbounded" => None,
-        _ => Some(number(tree, "maxOccurs").unwrap_or(1)),
-    };
-    Bounds { min, max }
+    match read_item(alloc, tree)? {
+        Some(item) => Ok(Content::Value(item)),
+        None => Ok(Content::Empty),
+    }
 }

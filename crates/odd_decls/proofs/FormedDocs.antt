@@ -1,26 +1,33 @@
 -- What the tree of a formed file declares is formed.
 use Rattle.std.proofs.Common.{◌≡◌, ◌++◌, ◌||◌, ℕ, Bool, true, false, List, [], ◌∷◌, Option, Some, None, if◌then◌else◌, inl, inr, refl, sym, ap, subst, ◌∙◌, get_or, codes, ⊎_elim, is_some}
-use Rattle.std.proofs.lemmas.Bool.{both_ways, cases_Bool}
+use Rattle.std.proofs.lemmas.Bool.{both_ways, cases_Bool, false_from_ne_true}
 use Rattle.std.proofs.lemmas.List.Elements.{All-append, All-cons, All-contains, All-contains_itself, All-head, All-nil, All-weaker}
 use Rattle.std.proofs.lemmas.Option.{same_Some}
 use Rattle.std.specs.List.{Contains}
 use Rattle.std.specs.Option.{IfSome, option_map}
 use Rattle.std.specs.Prelude.{All, IsSome, IsTrue, unwrap_or}
-use Rattle.odd_content.proofs.Formed.{content_formed, except, include, legal_given, pick_formed, within_bound}
-use Rattle.odd_content.proofs.FormedTrees.{IsFormedSomewhere, child_formed, tag_formed}
+use Rattle.odd_attributes.proofs.FormedReading.{attlist_formed, by_child, is_kind, kind_named}
+use Rattle.odd_attributes.specs.Formed.{AreFormedEdits}
+use Rattle.odd_attributes.specs.Giving.{AreEditsGiven, alt_given}
+use Rattle.odd_attributes.specs.declared.att_edit.AttEdit.{AttEdit}
+use Rattle.odd_content.proofs.DataContents.{data_content_formed}
+use Rattle.odd_content.proofs.Formed.{content_formed, except, include, pick_formed, within_bound}
+use Rattle.odd_data.proofs.Unbroken.{legal_given}
+use Rattle.odd_data.proofs.FormedTrees.{IsFormedSomewhere, child_formed, tag_formed}
 use Rattle.odd_content.specs.Formed.{AreBound, IsFormedContent}
 use Rattle.odd_content.specs.Giving.{IsContentOf}
-use Rattle.odd_content.specs.declared.content.Content.{Content}
 use Rattle.odd_forms.proofs.Children.{found_among}
 use Rattle.odd_forms.proofs.Colon.{name_decides}
+use Rattle.odd_forms.proofs.Least.{any_stands}
 use Rattle.odd_forms.specs.Children.{GivesOne, IsChild}
 use Rattle.odd_forms.specs.Deep.{DeepFault, is_level, left_inside}
 use Rattle.odd_forms.specs.Excepting.{is_name}
-use Rattle.odd_forms.specs.Faults.{AttributeFault, DemandFault, FormFault, OwnFault, ValueFault}
-use Rattle.odd_forms.specs.Form.{AreNames, AttributeForm, Suits, name, names}
-use Rattle.odd_forms.specs.Names.{is_one_of, tei_namespace}
+use Rattle.odd_forms.specs.Faults.{AttributeFault, DemandFault, FormFault, OwnFault, ValueFault, has_named}
+use Rattle.odd_forms.specs.Form.{AreNames, AttributeForm, Suits, name, names, own_text}
+use Rattle.odd_forms.specs.Names.{first_named, is_one_of, tei, tei_namespace}
 use Rattle.odd_forms.specs.Sorted.{IsSet}
 use Rattle.odd_forms.specs.Table.{form_at, key, needed, optional}
+use Rattle.odd_forms.specs.Texts.{collapsed_in}
 use Rattle.odd_forms.specs.Words.{is_among, is_given_among, words_of}
 use Rattle.odd_forms.specs.declared.element.Element.{Element}
 use Rattle.odd_forms.specs.declared.element.Element.TheVariants as element
@@ -33,7 +40,6 @@ use Rattle.odd_library.specs.declared.spec.Spec.{Spec}
 use Rattle.odd_members.proofs.Formed.{membership_formed}
 use Rattle.odd_members.specs.Formed.{IsFormedMembership}
 use Rattle.odd_members.specs.Members.{IsMembershipOf}
-use Rattle.odd_members.specs.declared.membership.Membership.{Membership}
 use Rattle.odd_text.specs.Text.{text_cmp}
 use Rattle.odd_text.specs.declared.key.Kind.{Kind}
 use Rattle.odd_text.specs.declared.key.Kind.TheVariants as kind
@@ -41,16 +47,16 @@ use Rattle.odd_text.specs.declared.name.Bind.{Bind}
 use Rattle.odd_tokens.proofs.Ascii as ascii
 use Rattle.odd_tokens.specs.Characters.{IsLegal, IsNCName}
 use Rattle.odd_tokens.specs.Same.{is_same}
-use Rattle.odd_tree.proofs.InList.{contained, nothing_stands, only_item, standing, stands_first, stands_later}
+use Rattle.odd_tree.proofs.InList.{contained, first_or_later, nothing_stands, only_item, standing, stands_first, stands_later}
 use Rattle.odd_tree.specs.Elements.{StandsIn, children_of, given, within}
 use Rattle.odd_tree.specs.Formed.{IsFormed, IsFormedTag}
 use Rattle.odd_tree.specs.Names.{IsBinding}
 use Rattle.odd_tree.specs.declared.tree.Tree.{Tree}
-use Rattle.odd_decls.proofs.ClassesFaults.{classes, classes_anywhere}
+use Rattle.odd_decls.proofs.FaultsAnywhere.{fault_anywhere}
 use Rattle.odd_decls.proofs.ItemElements.{each_item}
 use Rattle.odd_decls.proofs.KeysOnce.{keys_once}
 use Rattle.odd_decls.proofs.Searched.{found_formed}
-use Rattle.odd_decls.specs.Declares.{Declares, IsEntryOf, IsReadAs, kind_taken, mode_given, mode_named, namespace_declared, namespace_given, namespace_in, start_of, type_given}
+use Rattle.odd_decls.specs.Declares.{AreAttsDeclared, Declares, IsEntryOf, IsReadAs, alt_declared, content_of, kind_taken, mode_given, mode_named, namespace_declared, namespace_given, namespace_in, start_of, type_given}
 use Rattle.odd_decls.specs.Offences.{IsItem, ItemFault, ItemOffends, Offends, kind_declared}
 use Rattle.odd_decls.specs.Search as search
 use Rattle.odd_decls.specs.Search.{Finds, FindsAmong, Found}
@@ -104,12 +110,13 @@ start_formed (first ∷ more) words are set = record {
 }
 
 -- what holds of each element that declares a component, with its kind, holds of one that does
-each_declared : (P : Element → Kind → Type 0) → P element.ElementSpec kind.Element → P element.ClassSpec kind.Class → P element.MacroSpec kind.Macro
+each_declared : (P : Element → Kind → Type 0) → P element.ElementSpec kind.Element → P element.ClassSpec kind.Class → P element.MacroSpec kind.Macro → P element.DataSpec kind.Datatype
     → (e : Element) (k : Kind) → kind_declared e ≡ Some k → P e k
-each_declared P es cs ms element.ElementSpec k is = subst (P element.ElementSpec) (same_Some _ _ is) es
-each_declared P es cs ms element.ClassSpec k is = subst (P element.ClassSpec) (same_Some _ _ is) cs
-each_declared P es cs ms element.MacroSpec k is = subst (P element.MacroSpec) (same_Some _ _ is) ms
-each_declared P es cs ms e k is = cc
+each_declared P es cs ms ds element.ElementSpec k is = subst (P element.ElementSpec) (same_Some _ _ is) es
+each_declared P es cs ms ds element.ClassSpec k is = subst (P element.ClassSpec) (same_Some _ _ is) cs
+each_declared P es cs ms ds element.MacroSpec k is = subst (P element.MacroSpec) (same_Some _ _ is) ms
+each_declared P es cs ms ds element.DataSpec k is = subst (P element.DataSpec) (same_Some _ _ is) ds
+each_declared P es cs ms ds e k is = cc
 
 -- an item that takes a component has a key
 takes_keyed : (e : Element) (k : Kind) → kind_taken e ≡ Some k → StandsIn (form_at e).attributes key
@@ -124,6 +131,10 @@ gives_nothing : {X : Type 0} (e kind : Element) (IsOf : Tree → X → Type 0) (
     → GivesOne e kind IsOf children o → o ≡ None
 gives_nothing e kind IsOf children None never gives = refl
 gives_nothing e kind IsOf children (Some x) never (GivesOne.some child s is of) = absurd (never (found_among ((form_at e).many ++ (form_at e).once) child kind is).0)
+
+-- no edits of attributes are formed
+no_edits_formed : (edits : List (List ℕ × AttEdit)) → edits ≡ [] → AreFormedEdits edits
+no_edits_formed edits none = subst AreFormedEdits (sym none) (record { rising = refl; each = λ ident made e. cc })
 
 -- whether a declaration adds or replaces
 abbrev is_new : Mode → Bool
@@ -154,6 +165,15 @@ type_some : (binds : List Bind) (item : Tree) → ((rule : ℕ) → OwnFault (fo
 type_some binds item sound new =
     by_value (λ o. IsSome (option_map (λ word. is_same word (codes "atts")) o)) (given item (codes "type"))
     (λ is. absurd (sound 1 (OwnFault.demand _ (stands_first _ _) (DemandFault.missing is (mode_told (given item (codes "mode")) new))))) (λ word is. refl)
+
+-- and a datatype its content
+content_some : {X : Type 0} (binds : List Bind) (item : Tree) (IsOf : Tree → X → Type 0) (o : Option X) → ((rule : ℕ) → OwnFault (form_at element.DataSpec) binds item rule → ⊥)
+    → IsTrue (is_new (mode_given item)) → GivesOne element.DataSpec element.DataContent IsOf (children_of item) o → IsSome o
+content_some binds item IsOf (Some x) sound new gives = refl
+content_some binds item IsOf None sound new (GivesOne.none h) =
+    let none : has_named element.DataContent item ≡ false = false_from_ne_true _ (λ some.
+    let c = (any_stands (is_one_of (codes "content" ∷ [])) (children_of item)).0 some in h c.0 c.1 (is_kind element.DataSpec element.DataContent (codes "content") c.0 refl c.2)) in
+    absurd (sound 3 (OwnFault.demand _ (stands_first _ _) (DemandFault.no_child none (mode_told (given item (codes "mode")) new))))
 
 -- what adds or replaces is whole where it stands alone
 whole_in : (m : Mode) (spec : Spec) → (IsTrue (is_new m) → StandsAlone spec.key.kind spec) → IsWholeIn m spec
@@ -231,25 +251,33 @@ module _ (t : Tree) (doc : OddDoc) (first end : ℕ) (is_formed : IsFormed first
     -- nor does a child, since an item is no level
     child_sound : (kind : Element) (child : Tree) → StandsIn (children_of item) child → IsChild e kind child → (rule : ℕ) → DeepFault kind 60 (within inside item) child rule → ⊥
     child_sound kind child s of rule f =
-        let never : is_level (form_at e) item ≡ false = each_item (λ k. is_level (form_at k) item ≡ false) refl refl refl refl refl refl refl refl item e is in
+        let never : is_level (form_at e) item ≡ false = each_item (λ k. is_level (form_at k) item ≡ false) refl refl refl refl refl refl refl refl refl item e is in
         item_sound rule (DeepFault.inside kind child s of (subst (λ b. DeepFault kind (left_inside b 60) (within inside item) child rule) (sym never) f))
 
     item_formed : IsFormedSomewhere item
     item_formed = child_formed schema_formed.2 item stands
 
-    -- its content
-    content_given : (o : Option Content) → GivesOne e element.Content (IsContentOf (within inside item)) (children_of item) o → IfSome o IsFormedContent
-    content_given None gives = tt
-    content_given (Some c) (GivesOne.some child s of made) =
-        let f = child_formed item_formed.2 child s in
-        subst IsFormedContent (sym made)
-        (content_formed (within inside item) child (within_bound inside item inside_bound item_formed.2) f.2 (child_sound element.Content child s of))
+    -- what is made of a child that breaks nothing
+    given_formed : {X : Type 0} (kind : Element) (IsOf : Tree → X → Type 0) (P : X → Type 0) (o : Option X)
+        → ((child : Tree) (x : X) → IsFormedSomewhere child → ((rule : ℕ) → DeepFault kind 60 (within inside item) child rule → ⊥) → IsOf child x → P x)
+        → GivesOne e kind IsOf (children_of item) o → IfSome o P
+    given_formed kind IsOf P None h gives = tt
+    given_formed kind IsOf P (Some x) h (GivesOne.some child s of made) = h child x (child_formed item_formed.2 child s) (child_sound kind child s of) made
 
-    -- its memberships
-    classes_given : (o : Option Membership) → GivesOne e element.Classes IsMembershipOf (children_of item) o → IfSome o IsFormedMembership
-    classes_given None gives = tt
-    classes_given (Some m) (GivesOne.some child s of made) =
-        membership_formed child m (λ rule f. child_sound element.Classes child s of rule (classes_anywhere (within inside item) classes f)) made
+    -- the edits of attributes that an element or a class gives
+    atts_formed : (edits : List (List ℕ × AttEdit)) → kind_named e (tei (codes "attList")) ≡ Some element.AttList → AreEditsGiven (first_named (codes "attList") item) edits → AreFormedEdits edits
+    atts_formed edits known =
+        by_child (codes "attList") item (λ o. AreEditsGiven o edits → AreFormedEdits edits) (no_edits_formed edits)
+        (λ list s of. attlist_formed list edits (λ rule f. child_sound element.AttList list s (is_kind e element.AttList (codes "attList") list known of) rule (fault_anywhere (within inside item) refl f))
+        (child_formed item_formed.2 list s).2)
+
+  -- the name in documents that an element gives
+  alt_named : (item : Tree) → StandsIn (children_of d.first.schema) item → IsItem element.ElementSpec item → IfSome (alt_given item) IsNCName
+  alt_named item s is =
+      by_child (codes "altIdent") item (λ o. IfSome (option_map collapsed_in o) IsNCName) tt
+      (λ alt t of. sure_name (collapsed_in alt) (λ no.
+      child_sound item s element.ElementSpec is element.AltIdent alt t (is_kind element.ElementSpec element.AltIdent (codes "altIdent") alt refl of) 1
+      (DeepFault.itself (FormFault.own (OwnFault.demand (own_text name) (stands_first _ _) (DemandFault.not_of_kind no))))))
 
   spec_formed : (item : Tree) (spec : Spec) → StandsIn (children_of d.first.schema) item → IsReadAs d.first item spec → IsFormedSpec spec
   spec_formed item spec s r =
@@ -257,29 +285,62 @@ module _ (t : Tree) (doc : OddDoc) (first end : ℕ) (is_formed : IsFormed first
       let is = r.is_spec.is_item in
       let schema = d.first.schema in
       let children = children_of item in
-      let each : (P : Element → Kind → Type 0) → P element.ElementSpec kind.Element → P element.ClassSpec kind.Class → P element.MacroSpec kind.Macro → P e spec.key.kind =
-      λ P es cs ms. each_declared P es cs ms e spec.key.kind r.is_spec.of_kind in
-      let content = content_given item s e is spec.content r.children.content in
-      let legal = legal_in (mode_given item) schema item (tag_formed schema_formed.2) (tag_formed (item_formed item s e is).2) in
+      let inner = within inside item in
+      let formed = item_formed item s e is in
+      let each : (P : Element → Kind → Type 0) → P element.ElementSpec kind.Element → P element.ClassSpec kind.Class → P element.MacroSpec kind.Macro → P element.DataSpec kind.Datatype
+      → P e spec.key.kind =
+      λ P es cs ms ds. each_declared P es cs ms ds e spec.key.kind r.is_spec.of_kind in
+      let content : GivesOne e element.Content (IsContentOf inner) children spec.content → IfSome spec.content IsFormedContent =
+      given_formed item s e is element.Content (IsContentOf inner) IsFormedContent spec.content
+      (λ child c f sound made. subst IsFormedContent (sym made) (content_formed inner child (within_bound inside item inside_bound formed.2) f.2 sound)) in
+      let of_data : GivesOne e element.DataContent (IsContentOf inner) children spec.content → IfSome spec.content (IsFormedContentOf kind.Datatype) =
+      given_formed item s e is element.DataContent (IsContentOf inner) (IsFormedContentOf kind.Datatype) spec.content
+      (λ child c f sound made. subst (IsFormedContentOf kind.Datatype) (sym made) (data_content_formed inner child f.2 sound)) in
+      let legal = legal_in (mode_given item) schema item (tag_formed schema_formed.2) (tag_formed formed.2) in
+      let no_edits : spec.atts ≡ [] → AreFormedEdits spec.atts = no_edits_formed spec.atts in
       record {
         named = r.is_spec.named;
         of_module = subst IsModule (sym r.of_module)
             (module_named item (item_kept item s e is (optional (codes "module") name)
-            (each (λ x k. StandsIn (form_at x).attributes (optional (codes "module") name)) (stands_later _ _ _ (stands_first _ _)) (stands_later _ _ _ (stands_first _ _)) (stands_later _ _ _ (stands_first _ _)))));
-        ns = subst (λ o. IfSome o IsLegal) (sym r.ns) (each (λ x k. IfSome (namespace_declared k schema item) IsLegal) legal tt tt);
-        classes = classes_given item s e is spec.classes r.children.classes;
-        content = each (λ x k. IfSome spec.content (IsFormedContentOf k)) content content content;
-        fields = each (λ x k. GivesOne x element.Content (IsContentOf (within inside item)) children spec.content → GivesOne x element.Classes IsMembershipOf children spec.classes
-            → spec.ns ≡ namespace_declared k schema item → spec.gives ≡ type_given k item → HasFieldsOf k spec)
-            (λ c m ns gives. gives)
-            (λ c m ns gives. (ns, gives_nothing element.ClassSpec element.Content _ _ _ (λ t. (let no : element.Content ≡ element.Classes = only_item _ _ t in cc)) c))
-            (λ c m ns gives. (ns, gives, gives_nothing element.MacroSpec element.Classes _ _ _ (λ t. (let no : element.Classes ≡ element.Content = only_item _ _ t in cc)) m))
-            r.children.content r.children.classes r.ns r.gives;
+            (each (λ x k. StandsIn (form_at x).attributes (optional (codes "module") name)) (stands_later _ _ _ (stands_first _ _)) (stands_later _ _ _ (stands_first _ _))
+            (stands_later _ _ _ (stands_first _ _)) (stands_later _ _ _ (stands_first _ _)))));
+        ns = subst (λ o. IfSome o IsLegal) (sym r.ns) (each (λ x k. IfSome (namespace_declared k schema item) IsLegal) legal tt tt tt);
+        alt = subst (λ o. IfSome o IsNCName) (sym r.alt) (each (λ x k. IsItem x item → IfSome (alt_declared k item) IsNCName) (alt_named item s) (λ _. tt) (λ _. tt) (λ _. tt) is);
+        classes = given_formed item s e is element.Classes IsMembershipOf IsFormedMembership spec.classes
+            (λ child m f sound made. membership_formed child m (λ rule g. sound rule (fault_anywhere inner refl g)) made) r.children.classes;
+        atts = each (λ x k. IsItem x item → AreAttsDeclared k item spec.atts → AreFormedEdits spec.atts) (λ h. atts_formed item s element.ElementSpec h spec.atts refl)
+            (λ h. atts_formed item s element.ClassSpec h spec.atts refl) (λ h. no_edits) (λ h. no_edits) is r.atts;
+        content = each (λ x k. GivesOne e (content_of x) (IsContentOf inner) children spec.content → IfSome spec.content (IsFormedContentOf k)) content content content of_data r.children.content;
+        fields = each (λ x k. GivesOne x (content_of x) (IsContentOf inner) children spec.content → GivesOne x element.Classes IsMembershipOf children spec.classes
+            → spec.ns ≡ namespace_declared k schema item → spec.alt ≡ alt_declared k item → spec.gives ≡ type_given k item → AreAttsDeclared k item spec.atts → HasFieldsOf k spec)
+            (λ c m ns alt gives atts. gives)
+            (λ c m ns alt gives atts. (
+              ns,
+              alt,
+              gives_nothing element.ClassSpec element.Content _ _ _
+                  (λ t. ⊎_elim (λ one. (let no : element.Content ≡ element.Classes = one in cc)) (λ later. (let no : element.Content ≡ element.AttList = only_item _ _ later in cc)) (first_or_later _ _ _ t)) c,
+            ))
+            (λ c m ns alt gives atts. record {
+              no_ns = ns;
+              no_alt = alt;
+              no_type = gives;
+              no_classes = gives_nothing element.MacroSpec element.Classes _ _ _ (λ t. (let no : element.Classes ≡ element.Content = only_item _ _ t in cc)) m;
+              no_atts = atts;
+            })
+            (λ c m ns alt gives atts. record {
+              no_ns = ns;
+              no_alt = alt;
+              no_type = gives;
+              no_classes = gives_nothing element.DataSpec element.Classes _ _ _ (λ t. (let no : element.Classes ≡ element.DataContent = only_item _ _ t in cc)) m;
+              no_atts = atts;
+            })
+            r.children.content r.children.classes r.ns r.alt r.gives r.atts;
         whole = subst (λ m. IsWholeIn m spec) (sym r.of_mode) (whole_in (mode_given item) spec (λ new.
-            each (λ x k. ((rule : ℕ) → OwnFault (form_at x) (within inside item) item rule → ⊥) → spec.ns ≡ namespace_declared k schema item → spec.gives ≡ type_given k item → StandsAlone k spec)
-            (λ sound ns gives. ap is_some ns ∙ namespace_some (mode_given item) schema item new)
-            (λ sound ns gives. ap is_some gives ∙ type_some (within inside item) item sound new)
-            (λ sound ns gives. tt) (own_sound item s e is) r.ns r.gives));
+            each (λ x k. ((rule : ℕ) → OwnFault (form_at x) inner item rule → ⊥) → spec.ns ≡ namespace_declared k schema item → spec.gives ≡ type_given k item
+            → GivesOne x (content_of x) (IsContentOf inner) children spec.content → StandsAlone k spec)
+            (λ sound ns gives c. ap is_some ns ∙ namespace_some (mode_given item) schema item new)
+            (λ sound ns gives c. ap is_some gives ∙ type_some inner item sound new)
+            (λ sound ns gives c. tt) (λ sound ns gives c. content_some inner item (IsContentOf inner) spec.content sound new c) (own_sound item s e is) r.ns r.gives r.children.content));
       }
 
   entry_formed : (item : Tree) (e : Entry) → StandsIn (children_of d.first.schema) item → IsEntryOf d.first item e → IsFormedEntry e

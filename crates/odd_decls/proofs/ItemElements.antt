@@ -28,7 +28,7 @@ use Rattle.odd_tree.proofs.InList.{contained, stands_first}
 use Rattle.odd_tree.specs.Elements.{StandsIn, given, within}
 use Rattle.odd_tree.specs.declared.tree.Tree.{Tree, out-Tree}
 use Rattle.odd_decls.specs.Declares.{kind_taken, ChildrenGive, IsEntryOf, namespace_declared}
-use Rattle.odd_decls.specs.ItemReading.{reference_of, taken_of, GivesEntry, IsSpecRead, entry_made}
+use Rattle.odd_decls.specs.ItemReading.{reference_of, taken_of, GivesEntry, IsEntryWith, IsSpecRead}
 use Rattle.odd_decls.specs.Offences.{IsItem, kind_declared, IsSpecOf, ItemFault}
 use Rattle.odd_decls.specs.Search.{Found}
 
@@ -37,15 +37,15 @@ items = (form_at element.SchemaSpec).many
 
 -- what holds of each of the elements holds of the one that an item is
 pub each_item : (P : Element → Type 0) → P element.ModuleRef → P element.ElementRefItem → P element.ClassRefItem → P element.MacroRefItem → P element.DataRefItem → P element.ElementSpec
-    → P element.ClassSpec → P element.MacroSpec → (item : Tree) (e : Element) → IsItem e item → P e
-each_item P m er cr mr dr es cs ms item e is =
+    → P element.ClassSpec → P element.MacroSpec → P element.DataSpec → (item : Tree) (e : Element) → IsItem e item → P e
+each_item P m er cr mr dr es cs ms ds item e is =
     All-contains P items e
-    (All-cons P element.ModuleRef (drop 1 items) m (All-cons P element.ElementRefItem (drop 2 items) er (All-cons P element.ClassRefItem (drop 3 items) cr (All-cons P element.MacroRefItem (drop 4 items) mr (All-cons P element.DataRefItem (drop 5 items) dr (All-cons P element.ElementSpec (drop 6 items) es (All-cons P element.ClassSpec (drop 7 items) cs (All-cons P element.MacroSpec (drop 8 items) ms (All-nil P)))))))))
+    (All-cons P element.ModuleRef (drop 1 items) m (All-cons P element.ElementRefItem (drop 2 items) er (All-cons P element.ClassRefItem (drop 3 items) cr (All-cons P element.MacroRefItem (drop 4 items) mr (All-cons P element.DataRefItem (drop 5 items) dr (All-cons P element.ElementSpec (drop 6 items) es (All-cons P element.ClassSpec (drop 7 items) cs (All-cons P element.MacroSpec (drop 8 items) ms (All-cons P element.DataSpec (drop 9 items) ds (All-nil P))))))))))
     (contained items e (found_among items item e is).0)
 
 -- an item has no child of the table that may stand more than once
 child_once : (item : Tree) (e : Element) → IsItem e item → (form_at e).many ≡ []
-child_once item e is = each_item (λ k. (form_at k).many ≡ []) refl refl refl refl refl refl refl refl item e is
+child_once item e is = each_item (λ k. (form_at k).many ≡ []) refl refl refl refl refl refl refl refl refl item e is
 
 -- a child of the table that stands in an item is one of those that may stand once
 pub stands_once : (item : Tree) (e kind : Element) (child : Tree) → IsItem e item → IsChild e kind child → StandsIn (form_at e).once kind × HasName (form_at kind).name child
@@ -90,13 +90,13 @@ pub reference_given : (schema item : Tree) (around : List Bind) (e : Element) �
 reference_given schema item around e is none sound =
     each_item (λ k. kind_declared k ≡ None → GivesReference item k) (λ _. module_given item) (λ _. taken_given item element.ElementRefItem kind.Element refl (stands_first _ _))
     (λ _. taken_given item element.ClassRefItem kind.Class refl (stands_first _ _)) (λ _. taken_given item element.MacroRefItem kind.Macro refl (stands_first _ _))
-    (λ _. taken_given item element.DataRefItem kind.Datatype refl (stands_first _ _)) (λ h. cc) (λ h. cc) (λ h. cc) item e is none schema around is sound
+    (λ _. taken_given item element.DataRefItem kind.Datatype refl (stands_first _ _)) (λ h. cc) (λ h. cc) (λ h. cc) (λ h. cc) item e is none schema around is sound
 
 -- the `ident` of a declaration is needed, and a name
 ident_needed : (item : Tree) (e : Element) (k : Kind) → IsItem e item → kind_declared e ≡ Some k → StandsIn (form_at e).attributes (needed (codes "ident") name)
 ident_needed item e k is declares =
     each_item (λ x. kind_declared x ≡ Some k → StandsIn (form_at x).attributes (needed (codes "ident") name)) (λ h. cc) (λ h. cc) (λ h. cc) (λ h. cc) (λ h. cc) (λ _. stands_first _ _)
-    (λ _. stands_first _ _) (λ _. stands_first _ _) item e is declares
+    (λ _. stands_first _ _) (λ _. stands_first _ _) (λ _. stands_first _ _) item e is declares
 
 -- a declaration that breaks nothing by its form has a key
 pub key_given : (around : List Bind) (item : Tree) (e : Element) (k : Kind) → IsItem e item → kind_declared e ≡ Some k → IsSound around item e → ((key : Key) → IsSpecOf key item → ⊥) → ⊥
@@ -111,18 +111,20 @@ key_given around item e k is declares sound none = by_value (given item (codes "
         none (record { kind = k; ident = word }) (record { element = e; is_item = is; of_kind = declares; ident = h; named = named }))))
 
 -- the entry that is made of it
-pub entry_given : (schema item : Tree) (around : List Bind) (e : Element) (key : Key) (content : Option Content) (classes : Option Membership) (made : Entry) → IsItem e item → IsSpecOf key item
-    → ChildrenGive around e item content classes → made ≡ entry_made schema item key content classes → (first : Found) → first.schema ≡ schema → within first.around first.schema ≡ around
+entry_given : (schema item : Tree) (around : List Bind) (e : Element) (content : Option Content) (classes : Option Membership) (made : Entry) → IsItem e item
+    → ChildrenGive around e item content classes → IsEntryWith schema item content classes made → (first : Found) → first.schema ≡ schema → within first.around first.schema ≡ around
     → IsEntryOf first item made
-entry_given schema item around e key content classes made is spec gives e_made first same inside =
-    subst (IsEntryOf first item) (sym e_made) (IsEntryOf.spec (record {
-      is_spec = spec;
+entry_given schema item around e content classes made is gives w first same inside =
+    subst (IsEntryOf first item) (sym w.is_made) (IsEntryOf.spec (record {
+      is_spec = w.is_spec;
       of_mode = refl;
       of_module = refl;
-      ns = ap (λ s. namespace_declared key.kind s item) (sym same);
+      ns = ap (λ s. namespace_declared w.key.kind s item) (sym same);
+      alt = refl;
       gives = refl;
-      children = subst (λ binds. ChildrenGive binds spec.element item content classes) (sym inside)
-          (subst (λ x. ChildrenGive around x item content classes) (same_Some _ _ (sym is ∙ spec.is_item)) gives);
+      atts = w.declared;
+      children = subst (λ binds. ChildrenGive binds w.is_spec.element item content classes) (sym inside)
+          (subst (λ x. ChildrenGive around x item content classes) (same_Some _ _ (sym is ∙ w.is_spec.is_item)) gives);
     }))
 
 -- the kind of a declaration
@@ -136,7 +138,7 @@ pub declaration_given : (schema item : Tree) (around : List Bind) (e : Element) 
 declaration_given schema item around e None is declares sound read =
     let k = some_declared (kind_declared e) declares in
     absurd (key_given around item e k.0 is k.1 sound read.3)
-declaration_given schema item around e (Some made) is declares sound (c, m, gives, h) = entry_given schema item around e h.0 c m made is h.1 gives h.2
+declaration_given schema item around e (Some made) is declares sound (c, m, gives, h) = entry_given schema item around e c m made is gives h
 
 -- what is no declaration of a kind is one of none
 pub none_declared : (o : Option Kind) → is_some o ≡ false → o ≡ None

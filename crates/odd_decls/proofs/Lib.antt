@@ -1,4 +1,4 @@
-pub mod ClassesFaults
+pub mod FaultsAnywhere
 pub mod FormedDocs
 pub mod ItemElements
 pub mod ItemsRead

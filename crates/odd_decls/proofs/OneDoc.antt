@@ -1,5 +1,5 @@
 -- A tree declares one doc, item by item.
-use Rattle.std.proofs.Common.{◌≡◌, ◌≤◌, None, [], ◌∷◌, Option, Some, refl, sym, ap, subst, ◌∙◌, List}
+use Rattle.std.proofs.Common.{◌≡◌, ◌≤◌, ℕ, codes, None, [], ◌∷◌, Option, Some, refl, sym, ap, subst, ◌∙◌, List}
 use Rattle.std.proofs.lemmas.Cmp.{nat_cmp_total, nat_list_cmp_total, on_total}
 use Rattle.std.proofs.lemmas.Option.{same_Some}
 use Rattle.std.specs.Cmp.{nat_cmp_is}
@@ -9,12 +9,15 @@ use Rattle.std.specs.Prelude.{count_by}
 use Rattle.std.specs.declared.cmp.Ordering.{Ordering}
 use Rattle.std.specs.declared.cmp.Ordering.TheVariants.{Less}
 use Rattle.odd_content.specs.Giving.{IsContentOf, pick_given}
+use Rattle.odd_attributes.specs.Giving.{AreEditsGiven, edits_of}
+use Rattle.odd_attributes.specs.declared.att_edit.AttEdit.{AttEdit}
 use Rattle.odd_forms.proofs.Children.{named_one}
+use Rattle.odd_forms.proofs.Listed.{lists_one}
 use Rattle.odd_forms.proofs.SetOf.{one_set}
 use Rattle.odd_forms.specs.Children.{GivesOne}
 use Rattle.odd_forms.specs.Deep.{DeepFault}
 use Rattle.odd_forms.specs.Faults.{FormFault}
-use Rattle.odd_forms.specs.Names.{is_one_of}
+use Rattle.odd_forms.specs.Names.{first_named, is_one_of}
 use Rattle.odd_forms.specs.Sorted.{IsSet}
 use Rattle.odd_forms.specs.Table.{form_at}
 use Rattle.odd_forms.specs.declared.element.Element.{Element}
@@ -27,12 +30,13 @@ use Rattle.odd_library.specs.declared.spec.Spec.{Spec}
 use Rattle.odd_members.specs.Members.{IsMembershipOf}
 use Rattle.odd_text.specs.Text.{text_cmp}
 use Rattle.odd_text.specs.declared.key.Kind.{Kind}
+use Rattle.odd_text.specs.declared.key.Kind.TheVariants as kind
 use Rattle.odd_tree.specs.Elements.{StandsIn, children_of, within}
 use Rattle.odd_tree.specs.declared.tree.Tree.{Tree, out-Tree}
 use Rattle.odd_decls.proofs.ItemElements.{reference_taken, stands_once}
 use Rattle.odd_decls.proofs.Repeats.{one_key, one_passes}
 use Rattle.odd_decls.proofs.Searched.{one_search}
-use Rattle.odd_decls.specs.Declares.{ChildrenGive, IsEntryOf, IsReadAs, kind_taken, namespace_declared, type_given, AreEntriesOf, Declares, IsDocOf, PlacesRise}
+use Rattle.odd_decls.specs.Declares.{AreAttsDeclared, ChildrenGive, IsEntryOf, IsReadAs, alt_declared, content_of, kind_taken, namespace_declared, type_given, AreEntriesOf, Declares, IsDocOf, PlacesRise}
 use Rattle.odd_decls.specs.ItemReading.{reference_of, taken_of}
 use Rattle.odd_decls.specs.Offences.{IsItem, kind_declared, ItemFault, ItemOffends, Offends}
 use Rattle.odd_decls.specs.Search.{Found}
@@ -58,7 +62,18 @@ one_given e kind IsOf item o p is few one (GivesOne.some {given = x} child s of 
     one_passes (is_one_of ((form_at kind).name ∷ [])) (children_of item) child other (few kind here.0) s (named_one (form_at kind).name child here.1) t (named_one (form_at kind).name other there.1) in
     ap Some (one other x y (subst (λ t. IsOf t x) same told) said)
 
--- and an item is read as one spec
+-- a list says the edits of one list of attributes
+one_edits : (o : Option Tree) (a b : List (List ℕ × AttEdit)) → AreEditsGiven o a → AreEditsGiven o b → a ≡ b
+one_edits None a b p q = p ∙ sym q
+one_edits (Some list) a b p q = p.are ∙ ap edits_of (lists_one p.listed q.listed) ∙ sym q.are
+
+-- and so does a declaration
+one_atts : (k : Kind) (item : Tree) (a b : List (List ℕ × AttEdit)) → AreAttsDeclared k item a → AreAttsDeclared k item b → a ≡ b
+one_atts kind.Element item a b p q = one_edits (first_named (codes "attList") item) a b p q
+one_atts kind.Class item a b p q = one_edits (first_named (codes "attList") item) a b p q
+one_atts k item a b p q = p ∙ sym q
+
+-- so an item is read as one spec
 one_spec : (first : Found) (item : Tree) (a b : Spec) (p : IsReadAs first item a) → HasNoTwo p.is_spec.element item → IsReadAs first item b → a ≡ b
 one_spec first item a b p few q =
     let e = p.is_spec.element in
@@ -70,11 +85,13 @@ one_spec first item a b p few q =
     let modes : a.mode ≡ b.mode = p.of_mode ∙ sym q.of_mode in
     let modules : a.«module» ≡ b.«module» = p.of_module ∙ sym q.of_module in
     let namespaces : a.ns ≡ b.ns = p.ns ∙ ap (λ k. namespace_declared k.kind first.schema item) keys ∙ sym q.ns in
+    let names : a.alt ≡ b.alt = p.alt ∙ ap (λ k. alt_declared k.kind item) keys ∙ sym q.alt in
+    let attributes : a.atts ≡ b.atts = one_atts a.key.kind item a.atts b.atts p.atts (subst (λ k. AreAttsDeclared k.kind item b.atts) (sym keys) q.atts) in
     let types : a.gives ≡ b.gives = p.gives ∙ ap (λ k. type_given k.kind item) keys ∙ sym q.gives in
     let memberships : a.classes ≡ b.classes = one_given e element.Classes IsMembershipOf item _ _ is few (λ child x y h k. h.value ∙ sym k.value) p.children.classes given.classes in
     let contents : a.content ≡ b.content =
-    one_given e element.Content (IsContentOf inside) item _ _ is few (λ child x y h k. h ∙ sym k) p.children.content given.content in
-    λ n. record { key = keys n; mode = modes n; «module» = modules n; ns = namespaces n; gives = types n; classes = memberships n; content = contents n }
+    one_given e (content_of e) (IsContentOf inside) item _ _ is few (λ child x y h k. h ∙ sym k) p.children.content given.content in
+    λ n. record { key = keys n; mode = modes n; «module» = modules n; ns = namespaces n; alt = names n; gives = types n; classes = memberships n; content = contents n; atts = attributes n }
 
 -- an item refers to the entry that it is read as, or is a declaration of it
 pub data IsMadeOf (first : Found) (item : Tree) (k : Element) : Entry → Type 0 where
@@ -86,6 +103,7 @@ takes_none : (k : Element) (of_kind : Kind) → kind_taken k ≡ Some of_kind �
 takes_none element.ElementSpec of_kind h = cc
 takes_none element.ClassSpec of_kind h = cc
 takes_none element.MacroSpec of_kind h = cc
+takes_none element.DataSpec of_kind h = cc
 takes_none k of_kind h = refl
 
 pub made_of : (first : Found) (item : Tree) (e : Entry) → IsEntryOf first item e → (k : Element) × IsItem k item × IsMadeOf first item k e

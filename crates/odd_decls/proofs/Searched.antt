@@ -1,15 +1,15 @@
 -- What the search finds in an element, and on the path to it, child by child; in a formed tree it is formed and rises.
-use Rattle.std.proofs.Common.{◌≡◌, List, [], ◌∷◌, ◌++◌, map, refl, sym, ap₂, ◌∙◌, ℕ, ◌+◌, ◌<◌, true, false, Bor, reverse, length, drop, get_or, Some, codes, ap, subst, append_assoc, suc, ◌≤◌, Bool, if◌then◌else◌, ⊎_elim, arith}
+use Rattle.std.proofs.Common.{◌≡◌, List, [], ◌∷◌, ◌++◌, map, refl, sym, ap₂, ◌∙◌, ℕ, ◌+◌, true, false, Bor, reverse, Some, codes, ap, subst, append_assoc, suc, ◌≤◌, Bool, if◌then◌else◌, ⊎_elim, arith}
 use Rattle.std.proofs.lemmas.Bool.{false≢true}
 use Rattle.std.proofs.lemmas.List.{append-nil, map-append, reverse-append}
-use Rattle.odd_content.proofs.FormedTrees.{IsFormedSomewhere}
+use Rattle.odd_data.proofs.FormedTrees.{IsFormedSomewhere}
 use Rattle.odd_forms.specs.Names.{is_one_of, is_tei}
 use Rattle.odd_text.specs.declared.name.Bind.{Bind}
-use Rattle.odd_tree.proofs.InList.{text_shown, begins, with_element, with_text, first_or_later, map_stands, nothing_stands}
+use Rattle.odd_tree.proofs.InList.{with_element, with_text, first_or_later, map_stands, nothing_stands}
 use Rattle.odd_tree.specs.Elements.{children_of, within, all_binds, elements_of, StandsIn}
 use Rattle.odd_tree.specs.Formed.{AreFormed, IsFormed}
 use Rattle.odd_tree.specs.Formed as formed
-use Rattle.odd_tree.specs.declared.tree.Node.{Node, Text}
+use Rattle.odd_tree.specs.declared.tree.Node.{Node}
 use Rattle.odd_tree.specs.declared.tree.Tree.{Tree, out-Tree}
 use Rattle.odd_decls.specs.Reading.{AddsFound, IsPathTo, AllRise, Rises}
 use Rattle.odd_decls.specs.Search.{Finds, FindsAmong, Found, foreign, through, nothing, element}
@@ -46,10 +46,6 @@ mutual
   one_search_among around ts found others (element {t = t} {ts = rest} first later f fs is) g =
       let h : FoundWith around t rest others = found_with around t rest others g in
       is ∙ ap₂ (λ xs ys. xs ++ ys) (one_search around t first h.0 f h.2) (one_search_among around rest later h.1 fs h.3) ∙ sym h.4
-
--- the elements from a place on, where a text stands there
-pub text_first : (ns : List Node) (i : ℕ) (n : Node) (bytes : List ℕ) → i < length ns → n ≡ get_or ns i n → n ≡ Text bytes → elements_of (drop i ns) ≡ elements_of (drop (i + 1) ns)
-text_first ns i n bytes h at is = ap elements_of (begins ns i n h at) ∙ ap (λ xs. xs ++ elements_of (drop (i + 1) ns)) (text_shown n bytes is)
 
 -- what is found among the children is put after what was found, where what is found among the rest of them is still to come
 abbrev pub AddsSoFar : List Tree → List Tree → List Tree → List Tree → Type 0

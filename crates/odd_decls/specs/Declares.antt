@@ -9,7 +9,9 @@ use Rattle.odd_tokens.specs.Same.{is_same}
 use Rattle.odd_tree.specs.Elements.{StandsIn, children_of, given, within}
 use Rattle.odd_tree.specs.declared.tree.Tree.{Tree, out-Tree}
 use Rattle.odd_forms.specs.Children.{GivesOne}
-use Rattle.odd_forms.specs.Names.{tei_namespace}
+use Rattle.odd_attributes.specs.Giving.{AreEditsGiven, alt_given}
+use Rattle.odd_attributes.specs.declared.att_edit.AttEdit.{AttEdit}
+use Rattle.odd_forms.specs.Names.{first_named, tei_namespace}
 use Rattle.odd_forms.specs.Sorted.{IsSet}
 use Rattle.odd_forms.specs.Words.{words_of}
 use Rattle.odd_content.specs.Giving.{IsContentOf, pick_given}
@@ -58,10 +60,26 @@ abbrev pub type_given : Kind → Tree → Option Bool
 type_given kind.Class item = option_map (λ word. is_same word (codes "atts")) (given item (codes "type"))
 type_given k item = None
 
+-- the `content` of a declaration, which in that of a datatype has a form of its own
+abbrev pub content_of : Element → Element
+content_of element.DataSpec = element.DataContent
+content_of e = element.Content
+
 -- what the children of a declaration give: its content and the classes that it is a member of
 pub record ChildrenGive (around : List Bind) (e : Element) (item : Tree) (c : Option Content) (m : Option Membership) : Type 0 where
-  pub content : GivesOne e element.Content (IsContentOf (within around item)) (children_of item) c
+  pub content : GivesOne e (content_of e) (IsContentOf (within around item)) (children_of item) c
   pub classes : GivesOne e element.Classes IsMembershipOf (children_of item) m
+
+-- the name of an element in documents that its declaration gives by an `altIdent`; other components have none
+abbrev pub alt_declared : Kind → Tree → Option (List ℕ)
+alt_declared kind.Element item = alt_given item
+alt_declared k item = None
+
+-- the edits of attributes that the declaration of an element or a class gives; other components have none
+abbrev pub AreAttsDeclared : Kind → Tree → List (List ℕ × AttEdit) → Type 0
+AreAttsDeclared kind.Element item edits = AreEditsGiven (first_named (codes "attList") item) edits
+AreAttsDeclared kind.Class item edits = AreEditsGiven (first_named (codes "attList") item) edits
+AreAttsDeclared k item edits = edits ≡ []
 
 -- a declaration is read as the spec
 pub record IsReadAs (first : Found) (item : Tree) (spec : Spec) : Type 0 where
@@ -69,7 +87,9 @@ pub record IsReadAs (first : Found) (item : Tree) (spec : Spec) : Type 0 where
   pub of_mode : spec.mode ≡ mode_given item
   pub of_module : spec.«module» ≡ unwrap_or (given item (codes "module")) []
   pub ns : spec.ns ≡ namespace_declared spec.key.kind first.schema item
+  pub alt : spec.alt ≡ alt_declared spec.key.kind item
   pub gives : spec.gives ≡ type_given spec.key.kind item
+  pub atts : AreAttsDeclared spec.key.kind item spec.atts
   pub children : ChildrenGive (within first.around first.schema) is_spec.element item spec.content spec.classes
 
 -- the kind of the component that an item refers to

@@ -1,5 +1,5 @@
 -- What the parts of the reading of an item answer.
-use Rattle.std.specs.Prelude.{◌≡◌, List, [], Option, Some, None, codes, unwrap_or}
+use Rattle.std.specs.Prelude.{◌≡◌, ℕ, List, [], Option, Some, None, codes, unwrap_or}
 use Rattle.std.specs.Option.{option_map}
 use Rattle.odd_text.specs.declared.key.Key.{Key}
 use Rattle.odd_text.specs.declared.key.Kind.{Kind}
@@ -11,28 +11,39 @@ use Rattle.odd_forms.specs.declared.element.Element.{Element}
 use Rattle.odd_forms.specs.declared.element.Element.TheVariants as element
 use Rattle.odd_content.specs.Giving.{pick_given}
 use Rattle.odd_members.specs.declared.membership.Membership.{Membership}
-use Rattle.odd_decls.specs.Declares.{ChildrenGive, IsEntryOf, kind_taken, mode_given, namespace_declared, type_given}
+use Rattle.odd_attributes.specs.declared.att_edit.AttEdit.{AttEdit}
+use Rattle.odd_decls.specs.Declares.{AreAttsDeclared, ChildrenGive, alt_declared, IsEntryOf, kind_taken, mode_given, namespace_declared, type_given}
 use Rattle.odd_decls.specs.Offences.{IsItem, IsSpecOf}
 use Rattle.odd_decls.specs.Search.{Found}
 use Rattle.odd_library.specs.declared.odd.Entry.TheVariants as entry
 use Rattle.odd_library.specs.declared.odd.Entry.{Entry}
 
 -- the entry of a declaration with this key, and with what its children give
-abbrev pub entry_made : Tree → Tree → Key → Option Content → Option Membership → Entry
-entry_made schema item key content classes = entry.Spec (out-Tree item).at (record {
+abbrev pub entry_made : Tree → Tree → Key → Option Content → Option Membership → List (List ℕ × AttEdit) → Entry
+entry_made schema item key content classes atts = entry.Spec (out-Tree item).at (record {
   key = key;
   mode = mode_given item;
   «module» = unwrap_or (given item (codes "module")) [];
   ns = namespace_declared key.kind schema item;
+  alt = alt_declared key.kind item;
   gives = type_given key.kind item;
   classes = classes;
   content = content;
+  atts = atts;
 })
+
+-- it is made of the key that the declaration has, and of the edits of attributes that it gives
+pub record IsEntryWith (schema item : Tree) (c : Option Content) (m : Option Membership) (made : Entry) : Type 0 where
+  pub key : Key
+  pub is_spec : IsSpecOf key item
+  pub atts : List (List ℕ × AttEdit)
+  pub declared : AreAttsDeclared key.kind item atts
+  pub is_made : made ≡ entry_made schema item key c m atts
 
 -- where it has a key
 abbrev pub IsEntryMade : Tree → Tree → Option Content → Option Membership → Option Entry → Type 0
 IsEntryMade schema item c m None = (key : Key) → IsSpecOf key item → ⊥
-IsEntryMade schema item c m (Some made) = (key : Key) × IsSpecOf key item × (made ≡ entry_made schema item key c m)
+IsEntryMade schema item c m (Some made) = IsEntryWith schema item c m made
 
 -- what a declaration gives, by what its children do
 abbrev pub IsSpecRead : Tree → List Bind → Element → Tree → Option Entry → Type 0

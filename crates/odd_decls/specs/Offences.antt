@@ -31,6 +31,7 @@ abbrev pub kind_declared : Element → Option Kind
 kind_declared element.ElementSpec = Some kind.Element
 kind_declared element.ClassSpec = Some kind.Class
 kind_declared element.MacroSpec = Some kind.Macro
+kind_declared element.DataSpec = Some kind.Datatype
 kind_declared e = None
 
 -- what an item breaks: by standing there, or at any depth, where it may

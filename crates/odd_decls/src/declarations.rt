@@ -3,10 +3,11 @@ ghost use Rattle.odd_forms.specs.Children.{GivesOne};
 ghost use Rattle.odd_tree.specs.Elements.{all_binds, children_of, within};
 ghost use Rattle.odd_forms.specs.declared.element.Element.TheVariants as the_element;
 ghost use Rattle.odd_content.specs.Giving.{IsContentOf};
-ghost use Rattle.odd_decls.specs.Declares.{mode_given, mode_named as the_mode_named, namespace_in, namespace_declared as the_namespace_declared, type_given};
+ghost use Rattle.odd_decls.specs.Declares.{AreAttsDeclared, alt_declared as the_alt_declared, content_of as the_content_of, mode_given, mode_named as the_mode_named, namespace_in, namespace_declared as the_namespace_declared, type_given};
 ghost use Rattle.odd_decls.specs.Offences.{kind_declared as the_kind_declared};
 ghost use Rattle.odd_decls.specs.ItemReading.{IsEntryMade, IsKeyOf, IsSpecRead};
 
+use odd_attributes::{AttEdits, edits_given, read_alt};
 use odd_content::{Content, content_in};
 use odd_forms::{Element, TEI, child_of, child_of_kind};
 use odd_library::{Entry, Mode, Spec};
@@ -37,9 +38,9 @@ fn content_given(
     spec: &Tree,
     around: &[&Bindings],
 ) -> Result<Option<Content>, NoMemory>
-    ensures { IfOk result (GivesOne element the_element.Content (IsContentOf (within (all_binds (map (λ b. b.now) around.now)) spec.now)) (children_of spec.now)) }
+    ensures { IfOk result (GivesOne element (the_content_of element) (IsContentOf (within (all_binds (map (λ b. b.now) around.now)) spec.now)) (children_of spec.now)) }
 {
-    let Some(content) = child_of_kind(element, Element::Content, spec) else {
+    let Some(content) = child_of_kind(element, content_of(element), spec) else {
         return Ok(None);
     };
     if spec.binds.is_empty() {
@@ -48,6 +49,16 @@ fn content_given(
     let own = Bindings::new(alloc, spec.binds.copy(alloc)?)?;
     let inside = entered(alloc, around, &own)?;
     Ok(Some(content_in(alloc, content, inside.as_slice())?))
+}
+
+// The `content` of a declaration, which in that of a datatype has a form of its own.
+fn content_of(element: Element) -> Element
+    ensures { result ≡ the_content_of element }
+{
+    match element {
+        Element::DataSpec => Element::DataContent,
+        _ => Element::Content,
+    }
 }
 
 // The entry of a declaration with what its children give, where it has a key.
@@ -68,7 +79,9 @@ fn entry(
         None => Text::new(alloc),
     };
     let ns = namespace_declared(alloc, key.kind, schema, item)?;
+    let alt = alt_declared(alloc, key.kind, item)?;
     let gives = type_of(key.kind, item);
+    let atts = atts_declared(alloc, key.kind, item)?;
     Ok(Some(Entry::Spec {
         at: item.at,
         spec: Spec {
@@ -76,11 +89,33 @@ fn entry(
             mode: mode_of(item),
             module,
             ns,
+            alt,
             gives,
             classes,
             content,
+            atts,
         },
     }))
+}
+
+// The name in documents that the declaration of an element gives; other components have none.
+fn alt_declared(alloc: Global, kind: Kind, item: &Tree) -> Result<Option<Text>, NoMemory>
+    ensures { IfOk result (λ alt. alt ≡ the_alt_declared kind item.now) }
+{
+    match kind {
+        Kind::Element => read_alt(alloc, item),
+        Kind::Class | Kind::Macro | Kind::Datatype => Ok(None),
+    }
+}
+
+// The edits of attributes that the declaration of an element or a class gives; other components have none.
+fn atts_declared(alloc: Global, kind: Kind, item: &Tree) -> Result<AttEdits, NoMemory>
+    ensures { IfOk result (AreAttsDeclared kind item.now) }
+{
+    match kind {
+        Kind::Element | Kind::Class => edits_given(alloc, item),
+        Kind::Macro | Kind::Datatype => Ok(AttEdits::new(alloc)),
+    }
 }
 
 // Whether a declaration says of a class that it is of type `atts`, where it says it.
@@ -159,6 +194,7 @@ pub fn kind_declared(element: Element) -> Option<Kind>
         Element::ElementSpec => Some(Kind::Element),
         Element::ClassSpec => Some(Kind::Class),
         Element::MacroSpec => Some(Kind::Macro),
+        Element::DataSpec => Some(Kind::Datatype),
         _ => None,
     }
 }

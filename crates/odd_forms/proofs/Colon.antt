@@ -1,4 +1,4 @@
--- A word of `except` around its first colon.
+-- A word of `except` around its first colon, and the ident of an attribute after `xml:`.
 use Rattle.std.proofs.Common.{◌≡◌, ◌↔◌, ℕ, ◌<◌, Bool, true, false, ◌&&◌, ◌++◌, ◌∷◌, if◌then◌else◌, List, [], length, get_or, Option, Some, None, Bor, IsTrue, sym, ap, ap₂, subst, refl, ◌∙◌, arith, lit<, ⊎_elim, append_assoc, take, drop, ◌+◌}
 use Rattle.std.specs.List.{after_first, before_first, list_all, position_or_len}
 use Rattle.std.specs.Prelude.{codes}
@@ -19,6 +19,7 @@ use Rattle.odd_tokens.proofs.Characters.{char_scalar, name_char_is_legal}
 use Rattle.odd_tokens.specs.Characters.{IsNCName, is_name_char, is_ncname}
 use Rattle.odd_tree.proofs.PrintedTrees.{same_from}
 use Rattle.odd_tree.specs.Names.{in_force}
+use Rattle.odd_forms.specs.Form.{IsAttributeName}
 use Rattle.odd_forms.specs.Excepting.{IsPrefixed, excepted_of, is_colon, is_name, named_in}
 use Rattle.odd_forms.specs.declared.excepted.Excepted.{Excepted}
 use Rattle.odd_forms.specs.declared.excepted.Excepted.TheVariants as excepted
@@ -124,3 +125,11 @@ module _ (binds : List Bind) (word : List ℕ) (name : Name) where
         | true ↦ λ t f. by_bound _ refl ((name_decides _).0 (and_parts _ _ t).1) f
         | false ↦ λ t f. cc
       ] refl e
+
+-- the ident of an attribute that begins with `xml:` is told by what follows
+pub xml_named : (value local : List ℕ) → value ≡ codes "xml:" ++ local → IsNCName local ↔ IsAttributeName value
+xml_named value local is = (λ n. IsAttributeName.of_xml local is n, back)
+  where
+    back : IsAttributeName value → IsNCName local
+    back (IsAttributeName.plain n) = absurd (both_ways _ (name_apart (codes "xml:" ++ local) 3 (subst IsNCName is n) (omega (arith, length-append (codes "xml:") local))) refl)
+    back (IsAttributeName.of_xml other e n) = subst IsNCName (ap (drop 4) (sym e ∙ is)) n

@@ -16,7 +16,7 @@ use Rattle.odd_forms.specs.Deep.{DeepFault, PlacedFault, is_level, left_inside}
 use Rattle.odd_forms.specs.Least.{Among, IsLeast}
 use Rattle.odd_forms.specs.Names.{is_one_of, is_passed_over, is_relax_ng, is_tei}
 use Rattle.odd_forms.specs.Table.{form_at}
-use Rattle.odd_forms.proofs.Children.{by_name, child_named, named_not_relax, never_left_out}
+use Rattle.odd_forms.proofs.Children.{child_named, named_not_relax, never_left_out}
 use Rattle.odd_forms.proofs.Least.{least_any, least_if, least_or, least_same, lesser_rule}
 
 -- a child breaks no rule below 2
@@ -74,8 +74,7 @@ from_two n h = ⊎_elim (λ e. e) (λ e. absurd (omega (arith, leb-false 2 n e))
 pub named_placed : (parent kind : Element) (child : Tree) (rule : ℕ) → IsChild parent kind child → ChildFault (form_at parent) child rule → ⊥
 named_placed parent kind child rule is (ChildFault.relax_ng h) = both_ways (is_relax_ng child) (named_not_relax (form_at kind).name child (child_named parent kind child is)) h
 named_placed parent kind child rule is (ChildFault.left_out h) =
-    both_ways (is_one_of (form_at parent).left_out_children child)
-    (by_name (form_at kind).name (form_at parent).left_out_children child (child_named parent kind child is) ∙ never_left_out parent kind) h
+    both_ways (is_one_of (form_at parent).left_out_children child) (never_left_out parent kind child is) h
 named_placed parent kind child rule is (ChildFault.unknown u r l none p) = let no : None ≡ Some kind = sym none ∙ is in cc
 
 -- what a child breaks that may stand there

@@ -3,6 +3,7 @@ pub mod Children
 pub mod Colon
 pub mod Forms
 pub mod Least
+pub mod Listed
 pub mod Numerals
 pub mod SetOf
 pub mod Values

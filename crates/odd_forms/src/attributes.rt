@@ -1,9 +1,10 @@
-ghost use Rattle.std.specs.Prelude.{◌≡◌, ◌↔◌, All, IfOk, IsTrue, Some};
+ghost use Rattle.std.specs.Prelude.{◌≡◌, ◌≢◌, ◌↔◌, [], All, IfOk, IsTrue, Some};
 ghost use Rattle.std.specs.Char.{is_ascii_digit};
 ghost use Rattle.std.specs.List.{list_all};
 ghost use Rattle.odd_tree.specs.Elements.{given};
 ghost use Rattle.odd_forms.specs.Faults.{AttributeFault, ValueFault};
-ghost use Rattle.odd_forms.specs.Form.{Suits, are_digits as the_are_digits, number_told};
+ghost use Rattle.odd_forms.specs.Form.{IsAttributeName, Suits, are_digits as the_are_digits, number_told};
+ghost use Rattle.odd_forms.specs.Words.{words_of as the_words_of};
 ghost use Rattle.odd_forms.specs.Least.{IsLeast};
 ghost use Rattle.odd_forms.specs.Seen as seen;
 ghost use Rattle.odd_tokens.specs.Characters.{IsNCName};
@@ -12,6 +13,7 @@ use crate::faults::{LEFT_OUT, MALFORMED, fault_where};
 use crate::form::{AttributeForm, Kind};
 use crate::words::is_among;
 use odd_text::{NoMemory, Text};
+use odd_tokens::is_space;
 use odd_tree::{Tree, attribute, is_ncname};
 use rng_types::words_of;
 use std::alloc::Global;
@@ -43,8 +45,8 @@ fn value_fault(alloc: Global, form: &AttributeForm, value: &Text) -> Result<Opti
     }
 }
 
-// Whether a value is of the kind.
-fn suits(alloc: Global, kind: &Kind, value: &Text) -> Result<bool, NoMemory>
+/// Whether a value is of the kind. The only error is NoMemory, for want of memory.
+pub fn suits(alloc: Global, kind: &Kind, value: &Text) -> Result<bool, NoMemory>
     ensures { IfOk result (λ b. IsTrue b ↔ Suits (seen.kind kind.now) value.now) }
 {
     match kind {
@@ -56,7 +58,27 @@ fn suits(alloc: Global, kind: &Kind, value: &Text) -> Result<bool, NoMemory>
         Kind::AnyNames => Ok(are_names(words_of(alloc, value.as_str())?.as_slice())),
         Kind::Digits => Ok(are_digits(value)),
         Kind::Count => Ok(are_digits(value) || value.as_str() == "unbounded"),
+        Kind::AttributeName => is_attribute_name(alloc, value),
+        Kind::Filled => Ok(is_filled(value)),
+        Kind::Text => Ok(true),
     }
+}
+
+// Whether a value is an NCName, or one after `xml:`.
+fn is_attribute_name(alloc: Global, value: &Text) -> Result<bool, NoMemory>
+    ensures { IfOk result (λ b. IsTrue b ↔ IsAttributeName value.now) }
+{
+    match value.as_str().strip_prefix("xml:") {
+        Some(local) => Ok(is_ncname(&Text::from_str(alloc, local)?)),
+        None => Ok(is_ncname(value)),
+    }
+}
+
+/// Whether a value has more than white space.
+pub fn is_filled(value: &Text) -> bool
+    ensures { IsTrue result ↔ (the_words_of value.now ≢ []) }
+{
+    value.as_str().chars().any(|c| !is_space(c))
 }
 
 // Whether these are all NCNames.

@@ -90,8 +90,8 @@ pub fn own_fault(
     Ok(lesser(attributes, lesser(left_out, demands)))
 }
 
-// The element of the table that an element is, among these.
-fn element_among(elements: &[Element], tree: &Tree) -> Option<Element>
+/// The element of the table that an element is, among these.
+pub fn element_among(elements: &[Element], tree: &Tree) -> Option<Element>
     ensures { result ≡ the_element_among elements.now tree.now }
 {
     elements

@@ -1,3 +1,4 @@
+use crate::edits::add_edits;
 use odd_case_files::add_content;
 use odd_chain::{OddDocs, merge};
 use odd_classes::members;
@@ -120,19 +121,28 @@ fn add_part(alloc: Global, out: &mut Text, part: &Component) -> Result<(), NoMem
         Component::Macro(_) | Component::Datatype(_) => {}
     }
     match part.content() {
-        None | Some(Content::Empty) => Ok(()),
+        None | Some(Content::Empty) => {}
         Some(content) => {
             out.push_str(" content=")?;
-            add_content(alloc, out, content)
+            add_content(alloc, out, content)?;
         }
+    }
+    match part {
+        Component::Element(part) => add_edits(out, &part.atts),
+        Component::Class(part) => add_edits(out, &part.atts),
+        Component::Macro(_) | Component::Datatype(_) => Ok(()),
     }
 }
 
-// Puts the namespace and the memberships of an element.
+// Puts the namespace, the name in documents and the memberships of an element.
 fn add_element(out: &mut Text, part: &ElementPart) -> Result<(), NoMemory> {
     if part.ns.as_str() != TEI {
         out.push_str(" ns=")?;
         out.push_str(part.ns.as_str())?;
+    }
+    if let Some(alt) = &part.alt {
+        out.push_str(" alt=")?;
+        out.push_str(alt.as_str())?;
     }
     add_classes(out, &part.classes)
 }

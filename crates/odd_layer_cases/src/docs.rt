@@ -1,3 +1,5 @@
+use crate::edits::read_edits;
+use odd_attributes::AttEdits;
 use odd_case_files::CaseFault;
 use odd_chain::OddDocs;
 use odd_content::{Content, Contents, Pick};
@@ -123,9 +125,11 @@ fn read_spec(alloc: Global, mode: &str, key: Key, fields: &[&str]) -> Result<Spe
         mode,
         module: Text::new(alloc),
         ns,
+        alt: None,
         gives,
         classes: None,
         content: None,
+        atts: AttEdits::new(alloc),
     };
     put_fields(alloc, &mut spec, fields)?;
     Ok(spec)
@@ -147,6 +151,8 @@ fn put_field(alloc: Global, spec: &mut Spec, name: &str, value: &str) -> Result<
         "classes" => spec.classes = Some(Membership::Replace(read_classes(alloc, value)?)),
         "change" => spec.classes = Some(Membership::Change(read_marks(alloc, value)?)),
         "content" => spec.content = Some(read_content(alloc, value)?),
+        "alt" => spec.alt = Some(Text::from_str(alloc, value)?),
+        "atts" => spec.atts = read_edits(alloc, value)?,
         _ => return Err(CaseFault::NoItem),
     }
     Ok(())

@@ -3,9 +3,11 @@
 
 mod all_words;
 mod answering;
+mod attributes;
 mod chains;
 mod docs;
 mod draft;
+mod edits;
 mod letters;
 mod patterns;
 mod postfix;

@@ -3,6 +3,7 @@ ghost use Rattle.std.specs.Str.{chars};
 ghost use Rattle.rng_values.specs.Formed.{IsFormedFacet};
 ghost use Rattle.rng_values.specs.Lexical.{Fits};
 
+use crate::attributes::{add_definitions, add_edits};
 use crate::regexes::add_regex;
 use odd_case_files::CaseFault;
 use odd_text::{NoMemory, Text};
@@ -63,6 +64,8 @@ fn add_answer(alloc: Global, out: &mut Text, question: &str) -> Result<(), CaseF
         "fits" => add_fitting(alloc, out, rest),
         "item" => add_item(alloc, out, rest),
         "meets" => add_meeting(alloc, out, rest),
+        "edits" => add_edits(alloc, out, rest),
+        "definitions" => add_definitions(alloc, out, rest),
         _ => Err(CaseFault::NoValue),
     }
 }
@@ -103,7 +106,8 @@ fn kind_named(name: &str) -> Option<DataType> {
     None
 }
 
-fn name_of(kind: DataType) -> &'static str {
+/// The name of a type.
+pub fn name_of(kind: DataType) -> &'static str {
     for (name, known) in TYPES {
         if known == kind {
             return name;
@@ -179,7 +183,8 @@ fn facet_of(alloc: Global, field: &str) -> Result<FacetText, CaseFault> {
     })
 }
 
-fn add_facet(out: &mut Text, facet: &Facet) -> Result<(), CaseFault> {
+/// Puts a facet, with a blank before it.
+pub fn add_facet(out: &mut Text, facet: &Facet) -> Result<(), CaseFault> {
     out.push_str(match facet.name {
         FacetName::Length => " length=",
         FacetName::MaxInclusive => " maxInclusive=",
@@ -191,8 +196,8 @@ fn add_facet(out: &mut Text, facet: &Facet) -> Result<(), CaseFault> {
     add_text(out, facet.value.as_str())
 }
 
-// The text of a field, in which pictures of tab, LF and CR stand for these.
-fn text_of(alloc: Global, field: &str) -> Result<Text, NoMemory> {
+/// The text of a field, in which pictures of tab, LF and CR stand for these.
+pub fn text_of(alloc: Global, field: &str) -> Result<Text, NoMemory> {
     let mut text = String::new(alloc);
     for c in field.chars() {
         text.push(match c {
@@ -205,8 +210,8 @@ fn text_of(alloc: Global, field: &str) -> Result<Text, NoMemory> {
     Text::from_string(alloc, text)
 }
 
-// Puts a text as a field.
-fn add_text(out: &mut Text, text: &str) -> Result<(), CaseFault> {
+/// Puts a text as a field.
+pub fn add_text(out: &mut Text, text: &str) -> Result<(), CaseFault> {
     for c in text.chars() {
         out.push(match c {
             '\t' => '\u{2409}',

@@ -12,7 +12,8 @@ use Rattle.odd_tokens.specs.Characters.{IsLegal, IsNCName}
 use Rattle.odd_tokens.specs.Tokens.{NoneTwice}
 use Rattle.odd_tree.specs.Elements.{StandsIn}
 use Rattle.odd_forms.specs.Sorted.{AreRising}
-use Rattle.odd_content.specs.Formed.{IsFormedContent, IsFormedPick}
+use Rattle.odd_attributes.specs.Formed.{AreFormedEdits}
+use Rattle.odd_content.specs.Formed.{IsFormedContent, IsFormedPick, IsOfData}
 use Rattle.odd_content.specs.declared.content.Content.{Content}
 use Rattle.odd_members.specs.Formed.{AreClasses, IsFormedMembership}
 use Rattle.odd_library.specs.declared.library.ClassPart.{ClassPart}
@@ -38,17 +39,25 @@ pub record AreStartWords (words : List (List ℕ)) : Type 0 where
   pub rising : AreRising text_cmp words
   pub named : All IsNCName words
 
--- the content of a component of the kind; none of the forms of a datatype's is read so far
+-- the content of a component of the kind
 abbrev pub IsFormedContentOf : Kind → Content → Type 0
-IsFormedContentOf kind.Datatype content = ⊥
+IsFormedContentOf kind.Datatype content = IsFormedContent content × IsOfData content
 IsFormedContentOf k content = IsFormedContent content
+
+-- a declaration gives no more than a content
+pub record HasContentAlone (spec : Spec) : Type 0 where
+  pub no_ns : spec.ns ≡ None
+  pub no_alt : spec.alt ≡ None
+  pub no_type : spec.gives ≡ None
+  pub no_classes : spec.classes ≡ None
+  pub no_atts : spec.atts ≡ []
 
 -- a declaration has no field that its kind has not
 abbrev pub HasFieldsOf : Kind → Spec → Type 0
 HasFieldsOf kind.Element spec = spec.gives ≡ None
-HasFieldsOf kind.Class spec = (spec.ns ≡ None) × (spec.content ≡ None)
-HasFieldsOf kind.Macro spec = (spec.ns ≡ None) × (spec.gives ≡ None) × (spec.classes ≡ None)
-HasFieldsOf kind.Datatype spec = (spec.ns ≡ None) × (spec.gives ≡ None) × (spec.classes ≡ None)
+HasFieldsOf kind.Class spec = (spec.ns ≡ None) × (spec.alt ≡ None) × (spec.content ≡ None)
+HasFieldsOf kind.Macro spec = HasContentAlone spec
+HasFieldsOf kind.Datatype spec = HasContentAlone spec
 
 -- what one of the kind gives that stands alone: an element its namespace, a class its type, a datatype its content
 abbrev pub StandsAlone : Kind → Spec → Type 0
@@ -67,8 +76,10 @@ pub record IsFormedSpec (spec : Spec) : Type 0 where
   pub named : IsNCName spec.key.ident
   pub of_module : IsModule spec.«module»
   pub ns : IfSome spec.ns IsLegal
+  pub alt : IfSome spec.alt IsNCName
   pub classes : IfSome spec.classes IsFormedMembership
   pub content : IfSome spec.content (IsFormedContentOf spec.key.kind)
+  pub atts : AreFormedEdits spec.atts
   pub fields : HasFieldsOf spec.key.kind spec
   pub whole : IsWholeIn spec.mode spec
 
@@ -93,12 +104,15 @@ pub record IsFormedDoc (doc : OddDoc) : Type 0 where
 pub record IsFormedElement (part : ElementPart) : Type 0 where
   pub of_module : IsModule part.«module»
   pub ns : IsLegal part.ns
+  pub alt : IfSome part.alt IsNCName
   pub classes : AreClasses part.classes
   pub content : IsFormedContent part.content
+  pub atts : AreFormedEdits part.atts
 
 pub record IsFormedClass (part : ClassPart) : Type 0 where
   pub of_module : IsModule part.«module»
   pub classes : AreClasses part.classes
+  pub atts : AreFormedEdits part.atts
 
 pub record IsFormedOther (k : Kind) (part : OtherPart) : Type 0 where
   pub of_module : IsModule part.«module»

@@ -34,12 +34,14 @@ abbrev pub element_of : Spec → ElementPart
 element_of spec = record {
   «module» = spec.«module»;
   ns = unwrap_or spec.ns tei_namespace;
+  alt = spec.alt;
   classes = classes_over spec.classes [];
   content = unwrap_or spec.content content.Empty;
+  atts = spec.atts;
 }
 
 abbrev pub class_of : Spec → ClassPart
-class_of spec = record { «module» = spec.«module»; gives = unwrap_or spec.gives false; classes = classes_over spec.classes [] }
+class_of spec = record { «module» = spec.«module»; gives = unwrap_or spec.gives false; classes = classes_over spec.classes []; atts = spec.atts }
 
 abbrev pub other_of : Spec → OtherPart
 other_of spec = record { «module» = spec.«module»; content = unwrap_or spec.content content.Empty }

@@ -2,32 +2,38 @@ ghost use Rattle.std.specs.Prelude.{◌≡◌, IfOk, unwrap_or};
 ghost use Rattle.std.specs.Option.{option_copied};
 ghost use Rattle.std.specs.FinMap.{find};
 ghost use Rattle.odd_text.specs.Key.{key_cmp};
+ghost use Rattle.odd_forms.specs.Names.{tei_namespace};
 ghost use Rattle.odd_library.specs.Formed.{IsFormedLibrary, IsFormedPart, IsFormedSpec, StandsAlone};
 ghost use Rattle.odd_library.specs.Library.{IsEmptyLibrary, class_of as the_class_of, component_of as the_component_of, content_of, element_of as the_element_of, module_of, other_of as the_other_of};
 
 use crate::spec::Spec;
+use odd_attributes::AttEdits;
 use odd_content::Content;
 use odd_forms::TEI;
 use odd_members::classes_over;
 use odd_text::{Key, Kind, Map, NoMemory, Text, TryCopy, Words};
 use std::alloc::Global;
 
-/// An element of a library: its module, which may be empty, its namespace in documents, the classes that it is a member of
-/// and its content. The classes are in rising order, each once.
+/// An element of a library: its module, which may be empty, its namespace in documents and its name there, where that is not
+/// its ident, the classes that it is a member of, its content and the edits of its attributes. The classes are in rising order,
+/// each once.
 #[derive(Drop)]
 pub struct ElementPart {
     pub module: Text,
     pub ns: Text,
+    pub alt: Option<Text>,
     pub classes: Words,
     pub content: Content,
+    pub atts: AttEdits,
 }
 
-/// A class: its module, whether it is of type `atts`, and the classes that it is a member of.
+/// A class: its module, whether it is of type `atts`, the classes that it is a member of and the edits of its attributes.
 #[derive(Drop)]
 pub struct ClassPart {
     pub module: Text,
     pub gives: bool,
     pub classes: Words,
+    pub atts: AttEdits,
 }
 
 /// A macro or a datatype: its module and its content.
@@ -39,27 +45,24 @@ pub struct OtherPart {
 
 impl TryCopy for ElementPart {
     fn copy(&self, alloc: Global) -> Result<ElementPart, NoMemory> {
-        let module = self.module.copy(alloc)?;
-        let ns = self.ns.copy(alloc)?;
-        let classes = self.classes.copy(alloc)?;
-        let content = self.content.copy(alloc)?;
         Ok(ElementPart {
-            module,
-            ns,
-            classes,
-            content,
+            module: self.module.copy(alloc)?,
+            ns: self.ns.copy(alloc)?,
+            alt: self.alt.copy(alloc)?,
+            classes: self.classes.copy(alloc)?,
+            content: self.content.copy(alloc)?,
+            atts: self.atts.copy(alloc)?,
         })
     }
 }
 
 impl TryCopy for ClassPart {
     fn copy(&self, alloc: Global) -> Result<ClassPart, NoMemory> {
-        let module = self.module.copy(alloc)?;
-        let classes = self.classes.copy(alloc)?;
         Ok(ClassPart {
-            module,
+            module: self.module.copy(alloc)?,
             gives: self.gives,
-            classes,
+            classes: self.classes.copy(alloc)?,
+            atts: self.atts.copy(alloc)?,
         })
     }
 }
@@ -84,15 +87,15 @@ pub enum Component {
 impl Component {
     /// What a declaration declares by itself. Without a namespace that is TEI's, without memberships it is a member of no
     /// class, and without a content the content is empty. The only error is NoMemory, for want of memory.
-    pub fn of(alloc: Global, spec: &Spec) -> Result<Component, NoMemory>
-        ensures value { IfOk result (λ made. made ≡ the_component_of spec.now) }
-        ensures formed { IsFormedSpec spec.now → StandsAlone spec.now.key.kind spec.now → IfOk result (IsFormedPart spec.now.key.kind) }
+    pub fn of(alloc: Global, spec: Spec) -> Result<Component, NoMemory>
+        ensures value { IfOk result (λ made. made ≡ the_component_of spec) }
+        ensures formed { IsFormedSpec spec → StandsAlone spec.key.kind spec → IfOk result (IsFormedPart spec.key.kind) }
     {
         match spec.key.kind {
             Kind::Element => Ok(Component::Element(element_of(alloc, spec)?)),
             Kind::Class => Ok(Component::Class(class_of(alloc, spec)?)),
-            Kind::Macro => Ok(Component::Macro(other_of(alloc, spec)?)),
-            Kind::Datatype => Ok(Component::Datatype(other_of(alloc, spec)?)),
+            Kind::Macro => Ok(Component::Macro(other_of(spec))),
+            Kind::Datatype => Ok(Component::Datatype(other_of(spec))),
         }
     }
 
@@ -120,53 +123,48 @@ impl Component {
 }
 
 // The element that a declaration declares by itself.
-fn element_of(alloc: Global, spec: &Spec) -> Result<ElementPart, NoMemory>
-    ensures { IfOk result (λ made. made ≡ the_element_of spec.now) }
+fn element_of(alloc: Global, spec: Spec) -> Result<ElementPart, NoMemory>
+    ensures { IfOk result (λ made. made ≡ the_element_of spec) }
 {
-    let module = spec.module.copy(alloc)?;
-    let ns = match &spec.ns {
-        Some(ns) => ns.copy(alloc)?,
-        None => Text::from_str(alloc, TEI)?,
-    };
-    let classes = classes_over(alloc, spec.classes.as_ref(), &Words::new(alloc))?;
-    let content = content_of(alloc, spec)?;
     Ok(ElementPart {
-        module,
-        ns,
-        classes,
-        content,
+        module: spec.module,
+        ns: namespace_of(alloc, spec.ns)?,
+        alt: spec.alt,
+        classes: classes_over(alloc, spec.classes, Words::new(alloc))?,
+        content: spec.content.unwrap_or(Content::Empty),
+        atts: spec.atts,
     })
 }
 
-// The class that it declares.
-fn class_of(alloc: Global, spec: &Spec) -> Result<ClassPart, NoMemory>
-    ensures { IfOk result (λ made. made ≡ the_class_of spec.now) }
+// The namespace that is given, or else TEI's.
+fn namespace_of(alloc: Global, given: Option<Text>) -> Result<Text, NoMemory>
+    ensures { IfOk result (λ made. made ≡ unwrap_or given tei_namespace) }
 {
-    let module = spec.module.copy(alloc)?;
-    let classes = classes_over(alloc, spec.classes.as_ref(), &Words::new(alloc))?;
+    match given {
+        Some(ns) => Ok(ns),
+        None => Text::from_str(alloc, TEI),
+    }
+}
+
+// The class that it declares.
+fn class_of(alloc: Global, spec: Spec) -> Result<ClassPart, NoMemory>
+    ensures { IfOk result (λ made. made ≡ the_class_of spec) }
+{
     Ok(ClassPart {
-        module,
+        module: spec.module,
         gives: spec.gives.unwrap_or(false),
-        classes,
+        classes: classes_over(alloc, spec.classes, Words::new(alloc))?,
+        atts: spec.atts,
     })
 }
 
 // The macro or the datatype that it declares.
-fn other_of(alloc: Global, spec: &Spec) -> Result<OtherPart, NoMemory>
-    ensures { IfOk result (λ made. made ≡ the_other_of spec.now) }
+fn other_of(spec: Spec) -> OtherPart
+    ensures { result ≡ the_other_of spec }
 {
-    let module = spec.module.copy(alloc)?;
-    let content = content_of(alloc, spec)?;
-    Ok(OtherPart { module, content })
-}
-
-// The content that it gives, else the empty one.
-fn content_of(alloc: Global, spec: &Spec) -> Result<Content, NoMemory>
-    ensures { IfOk result (λ made. made ≡ unwrap_or spec.now.content Content.Empty) }
-{
-    match &spec.content {
-        Some(content) => content.copy(alloc),
-        None => Ok(Content::Empty),
+    OtherPart {
+        module: spec.module,
+        content: spec.content.unwrap_or(Content::Empty),
     }
 }
 

@@ -1,3 +1,4 @@
+use odd_attributes::AttEdits;
 use odd_content::Content;
 use odd_members::Membership;
 use odd_text::{Key, NoMemory, Text, TryCopy};
@@ -16,44 +17,34 @@ pub enum Mode {
     Replace,
 }
 
-/// A declaration of a component. `module` is empty where none is given, and `ns` is the namespace of an element in
-/// documents: one that is added or replaced has one. `gives` says of a class whether it is of type `atts`: one that is
-/// added or replaced says it.
+/// A declaration of a component. `module` is empty where none is given, `ns` is the namespace of an element in documents: one
+/// that is added or replaced has one; and `alt` is its name there, where that is not its ident. `gives` says of a class whether
+/// it is of type `atts`: one that is added or replaced says it.
 #[derive(Drop)]
 pub struct Spec {
     pub key: Key,
     pub mode: Mode,
     pub module: Text,
     pub ns: Option<Text>,
+    pub alt: Option<Text>,
     pub gives: Option<bool>,
     pub classes: Option<Membership>,
     pub content: Option<Content>,
+    pub atts: AttEdits,
 }
 
 impl TryCopy for Spec {
     fn copy(&self, alloc: Global) -> Result<Spec, NoMemory> {
-        let key = self.key.copy(alloc)?;
-        let module = self.module.copy(alloc)?;
-        let ns = match &self.ns {
-            Some(ns) => Some(ns.copy(alloc)?),
-            None => None,
-        };
-        let classes = match &self.classes {
-            Some(classes) => Some(classes.copy(alloc)?),
-            None => None,
-        };
-        let content = match &self.content {
-            Some(content) => Some(content.copy(alloc)?),
-            None => None,
-        };
         Ok(Spec {
-            key,
+            key: self.key.copy(alloc)?,
             mode: self.mode,
-            module,
-            ns,
+            module: self.module.copy(alloc)?,
+            ns: self.ns.copy(alloc)?,
+            alt: self.alt.copy(alloc)?,
             gives: self.gives,
-            classes,
-            content,
+            classes: self.classes.copy(alloc)?,
+            content: self.content.copy(alloc)?,
+            atts: self.atts.copy(alloc)?,
         })
     }
 }

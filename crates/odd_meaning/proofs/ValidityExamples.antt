@@ -24,7 +24,7 @@ use Rattle.odd_meaning.proofs.ExampleTrees.{attribute, bare_depth, branch, branc
 
 -- a namespace and a content, with no module and in no class
 abbrev pub part_in : List ℕ → Content → ElementPart
-part_in ns k = record { «module» = []; ns = ns; classes = []; content = k }
+part_in ns k = record { «module» = []; ns = ns; alt = None; classes = []; content = k; atts = [] }
 
 -- a library that holds one element, and one that holds an element of TEI's
 abbrev holding_part : List ℕ → ElementPart → Library

@@ -9,7 +9,7 @@ use Rattle.odd_tree.specs.declared.tree.Node.{Node, Element as AnElement}
 use Rattle.odd_tree.specs.declared.tree.Tree.{Tree}
 use Rattle.rng_types.specs.declared.bounds.Bounds.{Bounds}
 use Rattle.odd_content.specs.Picking.{is_picked}
-use Rattle.odd_content.specs.declared.content.Content.{Content, Empty, Text, Element, Class, Macro, Any, Sequence', Alternate', Row_of-Content, end_of-Content, more_of-Content}
+use Rattle.odd_content.specs.declared.content.Content.{Content, Empty, Text, Value, Vals, Element, Class, Macro, Any, Sequence', Alternate', Row_of-Content, end_of-Content, more_of-Content}
 use Rattle.odd_content.specs.declared.content.Pick.{Pick}
 use Rattle.odd_library.specs.Odd.{element_key}
 use Rattle.odd_library.specs.declared.library.Component.TheVariants as component
@@ -44,10 +44,12 @@ abbrev pub Macros : Type 1
 Macros = List ℕ → List Node → Type 0
 
 abbrev mutual
-  -- `empty` no child, `textNode` any number of texts; of any other part a number of pieces within its bounds
+  -- `empty` no child, `textNode` any number of texts; of any other part a number of pieces within its bounds; data is admitted nowhere so far
   pub AdmitsBy : Macros → Library → Marking Label → Content → List Node → Type 0
   AdmitsBy macros library m Empty w = w ≡ []
   AdmitsBy macros library m Text w = list_any is_element w ≡ false
+  AdmitsBy macros library m (Value item) w = ⊥
+  AdmitsBy macros library m (Vals list) w = ⊥
   AdmitsBy macros library m (Element key b) w = Counted (IsWithin b) (IsOne m (element key)) w
   AdmitsBy macros library m (Class key p b) w = Counted (IsWithin b) (IsOneMember library m key p) w
   AdmitsBy macros library m (Macro key b) w = Counted (IsWithin b) (macros key) w

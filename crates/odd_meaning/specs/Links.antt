@@ -6,7 +6,7 @@ use Rattle.odd_text.specs.declared.key.Key.{Key}
 use Rattle.odd_text.specs.declared.key.Kind.{Kind}
 use Rattle.odd_text.specs.declared.key.Kind.TheVariants as kind
 use Rattle.odd_tree.specs.Elements.{StandsIn}
-use Rattle.odd_content.specs.declared.content.Content.{Content, Empty, Text, Element, Class, Macro, Any, Sequence', Alternate', Row_of-Content, end_of-Content, more_of-Content}
+use Rattle.odd_content.specs.declared.content.Content.{Content, Empty, Text, Value, Vals, Element, Class, Macro, Any, Sequence', Alternate', Row_of-Content, end_of-Content, more_of-Content}
 use Rattle.odd_library.specs.Odd.{element_key}
 use Rattle.odd_library.specs.declared.library.Component.{Component}
 use Rattle.odd_library.specs.declared.library.Component.TheVariants as component
@@ -34,6 +34,8 @@ abbrev mutual
   pub named_in : Content → List Key
   named_in Empty = []
   named_in Text = []
+  named_in (Value item) = []
+  named_in (Vals list) = []
   named_in (Element key b) = element_key key ∷ []
   named_in (Class key p b) = class_key key ∷ []
   named_in (Macro key b) = macro_key key ∷ []

@@ -1,23 +1,19 @@
 -- What a `classes` gives that breaks no rule is formed, and so are the classes of a component with what is formed laid over them.
-use Rattle.std.proofs.Common.{◌≡◌, ◌++◌, ℕ, Bool, true, false, if◌then◌else◌, not, filter, fold, List, [], ◌∷◌, Option, Some, None, ⊎_elim, refl, sym, ap, subst}
+use Rattle.std.proofs.Common.{◌≡◌, ℕ, Bool, true, false, if◌then◌else◌, fold, List, [], ◌∷◌, Option, Some, None, ⊎_elim, refl, sym, ap, subst}
 use Rattle.std.proofs.lemmas.Bool.{both_ways, cases_Bool, cond_both}
 use Rattle.std.proofs.lemmas.Cmp.{nat_list_cmp_total}
-use Rattle.std.proofs.lemmas.List.Elements.{All-append, All-cons, All-contains, All-contains_itself, All-filter, All-head, All-map, All-nil, All-tail, All-weaker}
-use Rattle.std.specs.FinMap.{find, nat_cmp-IsAntisymmetric, put, slice_cmp-IsAntisymmetric}
-use Rattle.std.specs.FinMap.Entries.{by_order}
+use Rattle.std.proofs.lemmas.List.Elements.{All-contains, All-contains_itself, All-nil, All-weaker}
+use Rattle.std.specs.FinMap.{nat_cmp-IsAntisymmetric, put, slice_cmp-IsAntisymmetric}
 use Rattle.std.specs.List.{Contains}
 use Rattle.std.specs.Option.{IfSome}
-use Rattle.std.specs.Prelude.{All, codes}
-use Rattle.std.specs.declared.cmp.Ordering.{Ordering}
-use Rattle.std.specs.declared.cmp.Ordering.TheVariants.{Less, Equal, Greater}
+use Rattle.std.specs.Prelude.{codes}
 use Rattle.odd_text.proofs.Entries.{found_contained, put_rises}
 use Rattle.odd_text.specs.Text.{text_cmp}
 use Rattle.odd_tokens.specs.Characters.{IsNCName}
-use Rattle.odd_tree.proofs.InList.{contained, standing, stands_first, stands_later}
+use Rattle.odd_tree.proofs.InList.{nothing_stands, standing, stands_first, stands_later}
 use Rattle.odd_tree.specs.Elements.{StandsIn, children_of, given}
 use Rattle.odd_tree.specs.declared.tree.Tree.{Tree}
 use Rattle.odd_forms.proofs.Colon.{name_decides}
-use Rattle.odd_forms.proofs.SetOf.{set_of_is}
 use Rattle.odd_forms.specs.Deep.{DeepFault}
 use Rattle.odd_forms.specs.Excepting.{is_name}
 use Rattle.odd_forms.specs.Faults.{AttributeFault, FormFault, OwnFault, ValueFault}
@@ -25,9 +21,11 @@ use Rattle.odd_forms.specs.Names.{is_one_of}
 use Rattle.odd_forms.specs.Sorted.{IsSet}
 use Rattle.odd_forms.specs.Table.{key}
 use Rattle.odd_forms.specs.declared.element.Element.TheVariants as element
+use Rattle.odd_overlay.proofs.Laid.{laid_keyed, laid_set, put_keyed}
+use Rattle.odd_overlay.specs.Marks.{IsWordAfter, words_laid}
 use Rattle.odd_members.specs.Formed.{AreClasses, AreClassMarks, IsFormedMembership}
-use Rattle.odd_members.specs.Members.{ClassesFault, IsAddedBy, IsMembershipOf, IsSetOf, added_keys, adds, is_change, marks_of, membership_of, with_child, with_mark}
-use Rattle.odd_members.specs.Membership.{changed, classes_over, takes}
+use Rattle.odd_members.specs.Members.{ClassesFault, IsMembershipOf, IsSetOf, adds, is_change, marks_of, membership_of, with_child, with_mark}
+use Rattle.odd_members.specs.Membership.{changed, classes_over}
 use Rattle.odd_members.specs.declared.membership.Membership.{Membership}
 use Rattle.odd_members.specs.declared.membership.Membership.TheVariants as membership
 
@@ -41,29 +39,13 @@ set_named Is words set named = (set.rising, All-weaker (Contains words) IsNCName
 
 -- with formed marks laid over them classes stay formed
 changed_formed : (marks : List (List ℕ × Bool)) (before : List (List ℕ)) → AreClassMarks marks → AreClasses before → AreClasses (changed marks before)
-changed_formed marks before formed are =
-    let stay = filter (λ (word : List ℕ). not (takes (find text_cmp word marks))) before in
-    let items = stay ++ added_keys marks in
-    let named = All-append IsNCName stay (added_keys marks) (All-filter (λ word. not (takes (find text_cmp word marks))) IsNCName before are.1)
-    (All-map IsNCName (λ (mark : List ℕ × Bool). mark.0) (filter (λ mark. mark.1) marks) (All-filter (λ mark. mark.1) IsOfName marks formed.1)) in
-    set_named (StandsIn items) (changed marks before) (set_of_is text_cmp nat_list_cmp_total (slice_cmp-IsAntisymmetric nat_cmp-IsAntisymmetric) items)
-    (λ word s. All-contains IsNCName items word named (contained items word s))
+changed_formed marks before formed are = ((laid_set marks before).rising, laid_keyed IsNCName marks before formed.1 are.1)
 
 -- and with formed memberships
 pub classes_formed : (o : Option Membership) (before : List (List ℕ)) → IfSome o IsFormedMembership → AreClasses before → AreClasses (classes_over o before)
 classes_formed None before formed are = are
 classes_formed (Some (membership.Replace words)) before formed are = formed
 classes_formed (Some (membership.Change marks)) before formed are = changed_formed marks before formed are
-
--- a mark that is put is of an NCName, as are those that were there
-put_named : (word : List ℕ) (is_added : Bool) (marks : List (List ℕ × Bool)) → IsNCName word → All IsOfName marks → All IsOfName (put text_cmp word is_added marks)
-put_named word is_added [] named all = All-cons IsOfName (word, is_added) [] named all
-put_named word is_added (mark ∷ marks) named all = by (text_cmp word mark.0) (put_named word is_added marks named (All-tail IsOfName mark marks all))
-  where
-    by : (o : Ordering) → All IsOfName (put text_cmp word is_added marks) → All IsOfName (by_order o ((word, is_added) ∷ mark ∷ marks) ((mark.0, is_added) ∷ marks) (mark ∷ put text_cmp word is_added marks))
-    by Less later = All-cons IsOfName (word, is_added) (mark ∷ marks) named all
-    by Equal later = All-cons IsOfName (mark.0, is_added) marks (All-head IsOfName mark marks all) (All-tail IsOfName mark marks all)
-    by Greater later = All-cons IsOfName mark (put text_cmp word is_added marks) (All-head IsOfName mark marks all) later
 
 -- the key of a child is an NCName where it is a `memberOf`
 abbrev IsKeyed : Tree → Type 0
@@ -77,7 +59,7 @@ child_formed marks child keyed formed =
     by : (o : Option (List ℕ)) → ((word : List ℕ) → o ≡ Some word → IsNCName word) → AreClassMarks (with_mark o (adds child) marks)
     by None named = formed
     by (Some word) named =
-        (put_rises text_cmp nat_list_cmp_total word (adds child) marks (put text_cmp word (adds child) marks) formed.0 refl, put_named word (adds child) marks (named word refl) formed.1)
+        (put_rises text_cmp nat_list_cmp_total word (adds child) marks (put text_cmp word (adds child) marks) formed.0 refl, put_keyed text_cmp IsNCName word (adds child) marks (named word refl) formed.1)
 
 -- and so are those with the marks of all children
 marks_formed : (marks : List (List ℕ × Bool)) (children : List Tree) → ((child : Tree) → StandsIn children child → IsKeyed child) → AreClassMarks marks → AreClassMarks (fold with_child marks children)
@@ -100,11 +82,12 @@ module _ (classes : Tree) (sound : (rule : ℕ) → ClassesFault classes rule �
 
   -- and what it gives
   by_kind : (made : Membership) → made ≡ membership_of classes → IsSetOf (marks_of classes) made → IsFormedMembership made
-  by_kind (membership.Replace words) e set = set_named (IsAddedBy (marks_of classes)) words set (λ word h.
-      All-contains IsOfName (marks_of classes) (word, true) own_marks.1 (found_contained text_cmp nat_list_cmp_total (slice_cmp-IsAntisymmetric nat_cmp-IsAntisymmetric) word true (marks_of classes) h))
+  by_kind (membership.Replace words) e set = set_named (IsWordAfter (marks_of classes) []) words set (λ word.
+      ⊎_elim (λ was. absurd (nothing_stands word was.0)) (λ h.
+      All-contains IsOfName (marks_of classes) (word, true) own_marks.1 (found_contained text_cmp nat_list_cmp_total (slice_cmp-IsAntisymmetric nat_cmp-IsAntisymmetric) word true (marks_of classes) h)))
   by_kind (membership.Change marks) e set = subst AreClassMarks (sym (same (is_change classes) e)) own_marks
     where
-      same : (b : Bool) → membership.Change marks ≡ (if b then membership.Change (marks_of classes) else membership.Replace (added_keys (marks_of classes))) → marks ≡ marks_of classes
+      same : (b : Bool) → membership.Change marks ≡ (if b then membership.Change (marks_of classes) else membership.Replace (words_laid (marks_of classes) [])) → marks ≡ marks_of classes
       same true h = cc
       same false h = cc
 

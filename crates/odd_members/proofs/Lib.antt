@@ -1,3 +1,2 @@
-pub mod Changed
 pub mod Formed
 pub mod Marks

@@ -1,6 +1,6 @@
 -- The memberships that a `classes` gives by its `memberOf`, and what it breaks.
-use Rattle.std.specs.Prelude.{◌≡◌, ℕ, Bool, true, not, List, [], ◌∷◌, Option, Some, None, codes, filter, map, unwrap_or, if◌then◌else◌}
-use Rattle.std.specs.FinMap.{find as found, put}
+use Rattle.std.specs.Prelude.{◌≡◌, ℕ, Bool, not, List, [], ◌∷◌, Option, Some, None, codes, unwrap_or, if◌then◌else◌}
+use Rattle.std.specs.FinMap.{put}
 use Rattle.std.specs.List.{fold}
 use Rattle.odd_text.specs.Text.{text_cmp}
 use Rattle.odd_tokens.specs.Same.{is_same}
@@ -10,6 +10,7 @@ use Rattle.odd_forms.specs.Deep.{DeepFault}
 use Rattle.odd_forms.specs.Names.{is_one_of}
 use Rattle.odd_forms.specs.Sorted.{IsSet}
 use Rattle.odd_forms.specs.declared.element.Element.TheVariants as element
+use Rattle.odd_overlay.specs.Marks.{IsWordAfter, words_laid}
 use Rattle.odd_members.specs.declared.membership.Membership.{Membership}
 use Rattle.odd_members.specs.declared.membership.Membership.TheVariants as membership
 
@@ -34,21 +35,13 @@ with_child marks child = if is_one_of (codes "memberOf" ∷ []) child then with_
 abbrev pub marks_of : Tree → List (List ℕ × Bool)
 marks_of classes = fold with_child [] (children_of classes)
 
--- the classes that are added
-abbrev pub added_keys : {K : Type 0} → List (K × Bool) → List K
-added_keys marks = map (λ mark. mark.0) (filter (λ mark. mark.1) marks)
-
--- the memberships that a `classes` gives
+-- the memberships that a `classes` gives: to replace is to change none
 abbrev pub membership_of : Tree → Membership
-membership_of classes = if is_change classes then membership.Change (marks_of classes) else membership.Replace (added_keys (marks_of classes))
-
--- a mark adds the class
-abbrev pub IsAddedBy : List (List ℕ × Bool) → List ℕ → Type 0
-IsAddedBy marks word = found text_cmp word marks ≡ Some true
+membership_of classes = if is_change classes then membership.Change (marks_of classes) else membership.Replace (words_laid (marks_of classes) [])
 
 -- the words of a membership by replacement are in rising order, each once: those that the marks add, and nothing else
 abbrev pub IsSetOf : List (List ℕ × Bool) → Membership → Type 0
-IsSetOf marks (membership.Replace words) = IsSet text_cmp (IsAddedBy marks) words
+IsSetOf marks (membership.Replace words) = IsSet text_cmp (IsWordAfter marks []) words
 IsSetOf marks (membership.Change others) = Unit {0}
 
 -- what a `classes` gives

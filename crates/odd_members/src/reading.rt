@@ -1,18 +1,16 @@
-ghost use Rattle.std.specs.Prelude.{◌≡◌, IfOk, IsTrue, None};
+ghost use Rattle.std.specs.Prelude.{◌≡◌, IfOk, None};
 ghost use Rattle.std.specs.Option.{IfSome};
-ghost use Rattle.std.specs.FinMap.{is_sorted};
-ghost use Rattle.odd_text.specs.Text.{text_cmp};
 ghost use Rattle.odd_forms.specs.Children.{ChildOfFault, GivesOne};
 ghost use Rattle.odd_forms.specs.Least.{Among, IsLeast};
-ghost use Rattle.odd_forms.specs.Sorted.{IsSet};
 ghost use Rattle.odd_forms.specs.declared.element.Element.TheVariants as the_element;
 ghost use Rattle.odd_tree.specs.Elements.{children_of};
 ghost use Rattle.odd_members.specs.Formed.{IsFormedMembership};
-ghost use Rattle.odd_members.specs.Members.{ClassesFault, IsAddedBy, IsMembershipOf, IsSetOf, added_keys, adds as the_adds, is_change as the_is_change, marks_of as the_marks_of, membership_of as the_membership_of};
+ghost use Rattle.odd_members.specs.Members.{ClassesFault, IsMembershipOf, IsSetOf, adds as the_adds, is_change as the_is_change, marks_of as the_marks_of, membership_of as the_membership_of};
 
 use crate::membership::{ClassMarks, Membership};
 use odd_forms::{Element, LEVELS, child_of_kind, deep_fault, is_child, is_one_of};
-use odd_text::{NoMemory, Text, TryCopy, Words, lesser};
+use odd_overlay::{map_of, words_laid};
+use odd_text::{NoMemory, TryCopy, Words, lesser};
 use odd_tree::{Tree, attribute, elements};
 use std::alloc::Global;
 use std::collections::BTreeMap;
@@ -74,7 +72,7 @@ fn membership_of(alloc: Global, classes: &Tree) -> Result<Membership, NoMemory>
     if is_change(classes) {
         Ok(Membership::Change(marks))
     } else {
-        Ok(Membership::Replace(added(alloc, &marks)?))
+        Ok(Membership::Replace(words_laid(alloc, marks, Words::new(alloc))?))
     }
 }
 
@@ -90,33 +88,7 @@ fn marks_of(alloc: Global, classes: &Tree) -> Result<ClassMarks, NoMemory>
             }
         }
     }
-    as_marks(alloc, named)
-}
-
-// The named classes as marks. They are put in rising order, each behind those before it.
-fn as_marks(alloc: Global, named: BTreeMap<Text, bool>) -> Result<ClassMarks, NoMemory>
-    requires { IsTrue (is_sorted text_cmp named.entries) }
-    ensures { IfOk result (λ marks. marks ≡ named.entries) }
-{
-    let mut marks = ClassMarks::new(alloc);
-    for (word, is_added) in named {
-        marks.put(word, is_added)?;
-    }
-    Ok(marks)
-}
-
-// The classes that are added.
-fn added(alloc: Global, marks: &ClassMarks) -> Result<Words, NoMemory>
-    ensures value { IfOk result (λ words. words ≡ added_keys marks.now) }
-    ensures set { IfOk result (IsSet text_cmp (IsAddedBy marks.now)) }
-{
-    let mut words = Words::new(alloc);
-    for (word, is_added) in marks.entries() {
-        if *is_added {
-            words.push(word.copy(alloc)?)?;
-        }
-    }
-    Ok(words)
+    map_of(alloc, named)
 }
 
 // Whether a `classes` changes the memberships: it replaces them, where its `mode` says nothing else.

@@ -1,18 +1,15 @@
--- With a declaration laid over it a component stays formed, and so does a library with one file more.
+-- A library stays formed with one file more.
 use Rattle.std.proofs.Common.{◌≡◌, Bool, true, false, List, Option, Some, None, if◌then◌else◌, refl, sym, subst, ◌∙◌}
 use Rattle.std.specs.FinMap.{find, is_sorted}
 use Rattle.std.specs.Option.{IfSome}
 use Rattle.std.specs.Prelude.{IsTrue}
 use Rattle.odd_text.specs.Key.{key_cmp}
 use Rattle.odd_text.specs.declared.key.Key.{Key}
-use Rattle.odd_text.specs.declared.key.Kind.{Kind}
-use Rattle.odd_text.specs.declared.key.Kind.TheVariants as kind
-use Rattle.odd_tokens.specs.Characters.{IsLegal, IsNCName}
-use Rattle.odd_members.proofs.Formed.{classes_formed}
-use Rattle.odd_library.proofs.Formed.{alone_formed, content_formed, given_or}
+use Rattle.odd_tokens.specs.Characters.{IsNCName}
+use Rattle.odd_library.proofs.Formed.{alone_formed, over_formed}
 use Rattle.odd_library.specs.Formed.{AreStartWords, IsFormedDoc, IsFormedLibrary, IsFormedPart, IsFormedSpec, IsWholeIn}
+use Rattle.odd_library.specs.Over.{declared}
 use Rattle.odd_library.specs.declared.library.Component.{Component}
-use Rattle.odd_library.specs.declared.library.Component.TheVariants as component
 use Rattle.odd_library.specs.declared.library.Library.{Library}
 use Rattle.odd_library.specs.declared.odd.Entry.{Entry}
 use Rattle.odd_library.specs.declared.odd.Entry.TheVariants as entry
@@ -21,21 +18,8 @@ use Rattle.odd_library.specs.declared.spec.Mode.{Mode}
 use Rattle.odd_library.specs.declared.spec.Mode.TheVariants as mode
 use Rattle.odd_library.specs.declared.spec.Spec.{Spec}
 use Rattle.odd_modes.proofs.SpecAt.{spec_stands}
-use Rattle.odd_modes.specs.After.{after_one, declared, held_by, kept, laid_over, spec_at}
+use Rattle.odd_modes.specs.After.{after_one, held_by, kept, spec_at}
 use Rattle.odd_modes.specs.Choosing.{is_referred}
-
--- a datatype is never formed, so that nothing is laid over one
-pub over_formed : (k : Kind) (part : Component) (spec : Spec) → IsFormedPart k part → IsFormedSpec spec → IsFormedPart k (laid_over part spec)
-over_formed kind.Element (component.Element part) spec h f = record {
-  of_module = h.of_module;
-  ns = given_or IsLegal spec.ns part.ns f.ns h.ns;
-  classes = classes_formed spec.classes part.classes f.classes h.classes;
-  content = content_formed spec part.content f h.content;
-}
-over_formed kind.Class (component.Class part) spec h f = record { of_module = h.of_module; classes = classes_formed spec.classes part.classes f.classes h.classes }
-over_formed kind.Macro (component.Macro part) spec h f = record { of_module = h.of_module; content = content_formed spec part.content f h.content }
-over_formed kind.Datatype (component.Datatype part) spec h f = absurd h.content
-over_formed k part spec h f = absurd h
 
 -- what is held at the key is formed
 abbrev IsFormedAt : Key → Component → Type 0
@@ -47,7 +31,7 @@ declared_formed mode.Add spec held f whole h = (f.named, alone_formed spec f who
 declared_formed mode.Replace spec held f whole h = (f.named, alone_formed spec f whole)
 declared_formed mode.Delete spec held f whole h = tt
 declared_formed mode.Change spec None f whole h = tt
-declared_formed mode.Change spec (Some part) f whole h = (h.0, over_formed spec.key.kind part spec h.1 f)
+declared_formed mode.Change spec (Some part) f whole h = (h.0, over_formed spec f spec.key.kind refl part h.1)
 
 -- where it is kept
 kept_formed : (entries : List Entry) (key : Key) (held : Option Component) → IfSome held (IsFormedAt key) → IfSome (kept entries key held) (IsFormedAt key)

@@ -1,53 +1,18 @@
 -- The library after the files of a chain.
-use Rattle.std.specs.Prelude.{◌≡◌, ℕ, List, [], ◌∷◌, reverse, Option, Some, None, if◌then◌else◌, codes, unwrap_or, IsTrue}
+use Rattle.std.specs.Prelude.{◌≡◌, ℕ, List, [], ◌∷◌, reverse, Option, Some, None, if◌then◌else◌, codes, IsTrue}
 use Rattle.std.specs.FinMap.{find, is_sorted}
-use Rattle.std.specs.Option.{option_map, option_or}
+use Rattle.std.specs.Option.{option_or}
 use Rattle.std.specs.Ordering.{eq_by_cmp}
 use Rattle.odd_text.specs.Key.{key_cmp}
 use Rattle.odd_text.specs.declared.key.Key.{Key}
-use Rattle.odd_library.specs.Library.{component_of}
-use Rattle.odd_members.specs.Membership.{classes_over}
-use Rattle.odd_library.specs.declared.library.ClassPart.{ClassPart}
+use Rattle.odd_library.specs.Over.{declared}
 use Rattle.odd_library.specs.declared.library.Component.{Component}
-use Rattle.odd_library.specs.declared.library.ElementPart.{ElementPart}
-use Rattle.odd_library.specs.declared.library.OtherPart.{OtherPart}
-use Rattle.odd_library.specs.declared.library.Component.TheVariants as component
 use Rattle.odd_library.specs.declared.library.Library.{Library}
 use Rattle.odd_library.specs.declared.odd.Entry.{Entry}
 use Rattle.odd_library.specs.declared.odd.Entry.TheVariants as entry
 use Rattle.odd_library.specs.declared.odd.OddDoc.{OddDoc}
-use Rattle.odd_library.specs.declared.spec.Mode.{Mode}
-use Rattle.odd_library.specs.declared.spec.Mode.TheVariants as mode
 use Rattle.odd_library.specs.declared.spec.Spec.{Spec}
 use Rattle.odd_modes.specs.Choosing.{is_referred}
-
--- a spec laid over a component: its module stays, as does the type of a class, and what else the spec gives is put in place of what was there
-abbrev pub element_laid_over : ElementPart → Spec → ElementPart
-element_laid_over part spec = record {
-  «module» = part.«module»;
-  ns = unwrap_or spec.ns part.ns;
-  classes = classes_over spec.classes part.classes;
-  content = unwrap_or spec.content part.content;
-}
-
-abbrev pub class_laid_over : ClassPart → Spec → ClassPart
-class_laid_over part spec = record { «module» = part.«module»; gives = part.gives; classes = classes_over spec.classes part.classes }
-
-abbrev pub other_laid_over : OtherPart → Spec → OtherPart
-other_laid_over part spec = record { «module» = part.«module»; content = unwrap_or spec.content part.content }
-
-abbrev pub laid_over : Component → Spec → Component
-laid_over (component.Element part) spec = component.Element (element_laid_over part spec)
-laid_over (component.Class part) spec = component.Class (class_laid_over part spec)
-laid_over (component.Macro part) spec = component.Macro (other_laid_over part spec)
-laid_over (component.Datatype part) spec = component.Datatype (other_laid_over part spec)
-
--- what is held where a spec of the mode is over what was held
-abbrev pub declared : Mode → Spec → Option Component → Option Component
-declared mode.Add spec held = Some (component_of spec)
-declared mode.Replace spec held = Some (component_of spec)
-declared mode.Delete spec held = None
-declared mode.Change spec held = option_map (λ part. laid_over part spec) held
 
 -- the spec of an item, where it is one for the key
 abbrev pub spec_in : Entry → Key → Option Spec

@@ -12,12 +12,13 @@ use Rattle.odd_tokens.specs.Same.{is_same}
 use Rattle.odd_library.specs.First.{IsFirstOf}
 use Rattle.odd_library.specs.Library.{module_of}
 use Rattle.odd_library.specs.Odd.{place_of}
+use Rattle.odd_library.specs.Over.{declared}
 use Rattle.odd_library.specs.declared.fault.Fault.{Fault}
 use Rattle.odd_library.specs.declared.library.Component.{Component}
 use Rattle.odd_library.specs.declared.library.Library.{Library}
 use Rattle.odd_library.specs.declared.odd.Entry.{Entry}
 use Rattle.odd_library.specs.declared.spec.Spec.{Spec}
-use Rattle.odd_modes.specs.After.{declared, spec_at}
+use Rattle.odd_modes.specs.After.{spec_at}
 use Rattle.odd_modes.specs.Choosing.{is_referred}
 use Rattle.odd_modes.specs.Offences.{IsOfModule}
 use Rattle.odd_modes.specs.declared.named.Named.{Named}

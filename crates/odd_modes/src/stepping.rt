@@ -7,7 +7,8 @@ ghost use Rattle.odd_text.specs.declared.offence.Offence.{Offence as AnOffence};
 ghost use Rattle.odd_tree.specs.Elements.{StandsIn};
 ghost use Rattle.odd_library.specs.Formed.{IsFormedDoc, IsFormedLibrary};
 ghost use Rattle.odd_library.specs.declared.odd.OddDoc.{OddDoc as ADoc};
-ghost use Rattle.odd_modes.specs.After.{IsLibraryAfter, after_one, declared as the_declared};
+ghost use Rattle.odd_library.specs.Over.{declared as the_declared};
+ghost use Rattle.odd_modes.specs.After.{IsLibraryAfter, after_one};
 ghost use Rattle.odd_modes.specs.Index.{AreReferencesOf, IsKeyOfSpec, over};
 ghost use Rattle.odd_modes.specs.Offences.{IsFirstOffence, Offends};
 
@@ -113,7 +114,7 @@ fn declared(
     ensures { IfOk result (λ made. made ≡ the_declared spec.now.mode spec.now (option_copied held.entry)) }
 {
     match (spec.mode, held) {
-        (Mode::Add | Mode::Replace, _) => Ok(Some(Component::of(alloc, spec)?)),
+        (Mode::Add | Mode::Replace, _) => Ok(Some(Component::of(alloc, spec.copy(alloc)?)?)),
         (Mode::Change, Some(part)) => Ok(Some(edit(alloc, part.copy(alloc)?, spec)?)),
         (Mode::Change, None) | (Mode::Delete, _) => Ok(None),
     }

@@ -1,6 +1,7 @@
 use crate::fault::{Fault, wants};
 use crate::making::{key_of, word};
 use crate::reader::tree_of;
+use odd_attributes::AttEdits;
 use odd_base::{Kind, NoMemory, Text, TryCopy};
 use odd_content::Content;
 use odd_decls::{
@@ -68,8 +69,10 @@ pub fn element(alloc: Global) -> Result<Component, NoMemory> {
     Ok(Component::Element(ElementPart {
         module: Text::new(alloc),
         ns: Text::from_str(alloc, "urn:x")?,
+        alt: None,
         classes: word(alloc, "c")?,
         content: Content::Empty,
+        atts: AttEdits::new(alloc),
     }))
 }
 
@@ -112,9 +115,11 @@ pub fn spec(alloc: Global) -> Result<Spec, NoMemory> {
         mode: Mode::Change,
         module: Text::new(alloc),
         ns: None,
+        alt: None,
         gives: None,
         classes: Some(membership(alloc)?),
         content: None,
+        atts: AttEdits::new(alloc),
     })
 }
 
@@ -148,6 +153,7 @@ fn class(alloc: Global) -> Result<Component, NoMemory> {
         module: Text::new(alloc),
         gives: false,
         classes: word(alloc, "c")?,
+        atts: AttEdits::new(alloc),
     }))
 }
 

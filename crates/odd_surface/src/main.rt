@@ -2,6 +2,7 @@
 //! names of a layer once each of its calls has answered as it is to.
 #![tactic(auto)]
 
+mod attributes;
 mod base;
 mod chain;
 mod classes;
@@ -26,6 +27,7 @@ fn main(rt: HostRuntime) -> Result<()> {
     println!(rt; "{}", values::names(alloc)?)?;
     println!(rt; "{}", patterns::names(alloc)?)?;
     println!(rt; "{}", content::names(alloc)?)?;
+    println!(rt; "{}", attributes::names(alloc)?)?;
     println!(rt; "{}", decls::names(alloc)?)?;
     println!(rt; "{}", modes::names(alloc)?)?;
     println!(rt; "{}", classes::names(alloc)?)?;

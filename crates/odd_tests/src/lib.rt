@@ -1,5 +1,8 @@
-//! Libraries that no file gives: that they compile, and that what they hold is copied, each once with ample memory.
+//! Libraries that no file gives: that they compile, and that what they hold is copied, each once with ample memory. Edits after
+//! one another.
 #![tactic(auto)]
 
+#[cfg(test)]
+mod edits;
 #[cfg(test)]
 mod library;

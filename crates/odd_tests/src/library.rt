@@ -1,6 +1,7 @@
 //! Libraries that no file gives, and the copies of what they hold.
 
 use compile_core::{CompileRefusal, compile};
+use odd_attributes::AttEdits;
 use odd_classes::check_library;
 use odd_content::Content;
 use odd_layer_tests::making::{key, many_words, text};
@@ -18,8 +19,10 @@ fn element(alloc: Global, content: Content) -> Result<ElementPart, NoMemory> {
     Ok(ElementPart {
         module: Text::new(alloc),
         ns: text(alloc, TEI)?,
+        alt: None,
         classes: Words::new(alloc),
         content,
+        atts: AttEdits::new(alloc),
     })
 }
 
@@ -116,6 +119,7 @@ fn a_class_is_copied(rt: HostRuntime) -> Result<(), Fail> {
         module: text(rt.alloc(), "m")?,
         gives: true,
         classes: words_of(rt.alloc(), "c d")?,
+        atts: AttEdits::new(rt.alloc()),
     };
     let copy = part.copy(rt.alloc())?;
     assert_eq!(rt; copy.module.as_str(), "m");
@@ -142,9 +146,11 @@ fn a_declaration_is_copied(rt: HostRuntime) -> Result<(), Fail> {
         mode: Mode::Change,
         module: text(rt.alloc(), "m")?,
         ns: Some(text(rt.alloc(), "n")?),
+        alt: Some(text(rt.alloc(), "b")?),
         gives: None,
         classes: Some(Membership::Replace(words_of(rt.alloc(), "c d")?)),
         content: Some(Content::Text),
+        atts: AttEdits::new(rt.alloc()),
     };
     let copy = spec.copy(rt.alloc())?;
     assert!(rt; copy.key == spec.key && copy.mode == Mode::Change);

@@ -61,6 +61,14 @@ impl<K: ExactOrd, V> Map<K, V> {
         self.entries.as_slice()
     }
 
+    /// The entries themselves, moved out, in strictly rising order of key.
+    pub fn into_entries(self) -> Vec<(K, V)>
+        ensures all { result.items ≡ self }
+        ensures rising { IsTrue (is_sorted K.cmp self) }
+    {
+        self.entries
+    }
+
     /// The key at a place in the order of the keys, counted from 0.
     pub fn key(&self, at: usize) -> Option<&K>
         ensures value { option_copied result ≡ option_map (λ e. e.0) (slice_get self.now at) }

@@ -39,19 +39,6 @@ piece_kept l a n size bounds old new read h k s eb ep es el least = record {
   levels = el ∙ omega (arith, h.levels, k.levels);
 }
 
--- so is a level with a piece past them, which is not kept
-pub piece_passed : (l : LevelRead) (a : AtomRead) (n size : ℕ) (bounds : Bounds) (old new : Level) (read : ReadAtom) → KeepsLevel l old → KeepsAtom a read → IsSizeOf n size
-    → new.size ≡ min (old.size + size) 20001 → new.levels ≡ max old.levels read.levels → ((new.size ≤ 20000) × (new.levels ≤ 60) → ⊥) → KeepsLevel (with_piece l a bounds n) new
-piece_passed l a n size bounds old new read h k s es el past =
-    let sizes : IsSizeOf (l.size + n) new.size = es ∙ omega (arith, h.size, s) in
-    let levels : new.levels ≡ min (max l.levels a.levels) 61 = el ∙ omega (arith, h.levels, k.levels) in
-    record {
-      branches = λ small low. absurd (past (omega arith, omega arith));
-      pieces = λ small low. absurd (past (omega arith, omega arith));
-      size = sizes;
-      levels = levels;
-    }
-
 -- a size so many times is no smaller, and stands still where it does
 pub times_kept : (size kept times : ℕ) → IsSizeOf size kept → 1 ≤ times → (size ≤ size * times) × IsSizeOf (size * times) (min (kept * times) 20001)
 times_kept size kept zero h some = absurd (omega arith)

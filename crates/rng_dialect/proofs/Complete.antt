@@ -187,14 +187,6 @@ one_pattern cs r q d e =
     let same : h.0 ≡ k.0 = cc (h.1, k.1) in
     sym h.2 ∙ ap regex_of same ∙ k.2
 
--- and of one size, with one number of levels
-pub one_size : (cs : List ℕ) (r q : Regex) (size levels other others : ℕ) → Spells cs r size levels → Spells cs q other others → (size ≡ other) × (levels ≡ others)
-one_size cs r q size levels other others d e =
-    let h = complete cs r size levels d in
-    let k = complete cs q other others e in
-    let same : h.0 ≡ k.0 = cc (h.1, k.1) in
-    (sym h.3 ∙ ap (λ l. l.size) same ∙ k.3, sym h.4 ∙ ap (λ l. l.levels) same ∙ k.4)
-
 -- what begins a pattern leads to a state
 pub begun_alive : (cs : List ℕ) → BeginsPattern cs → (s : State) × (after new_state cs ≡ Some s)
 begun_alive cs d =

@@ -1,9 +1,9 @@
-ghost use Rattle.std.specs.Prelude.{◌≡◌, ◌≤◌, ◌<◌, ◌+◌, ◌*◌, [], ◌∷◌, ℕ, List, Some, None, IfOk, OnOk, max};
+ghost use Rattle.std.specs.Prelude.{◌<◌, ◌+◌, ◌*◌, [], ◌∷◌, ℕ, List, Some, None, IfOk, OnOk, max};
 ghost use Rattle.rng_dialect.specs.ClassReading.{class_step};
 ghost use Rattle.rng_dialect.specs.Dialect.{between};
 ghost use Rattle.rng_dialect.specs.Keeping.{Finishes, Keeps, KeepsEnd, KeepsPlace, Takes};
 ghost use Rattle.rng_dialect.specs.Kept.{KeepsAtom, KeepsDigits, KeepsLevel};
-ghost use Rattle.rng_dialect.specs.Reading.{AtomRead, LevelRead, Start, State, atom_read, behind_step, closed, ended, ended_at, in_class, least_step, most_step, new_level, new_state, once, start_step, state_at, step, step_at, with_piece};
+ghost use Rattle.rng_dialect.specs.Reading.{AtomRead, LevelRead, Start, State, atom_read, behind_step, closed, ended, ended_at, in_class, least_step, most_step, new_level, new_state, start_step, state_at, step, step_at, with_piece};
 ghost use Rattle.rng_dialect.specs.Reading as reading;
 
 use crate::class::{ClassReader, ClassTaken, is_escaped};

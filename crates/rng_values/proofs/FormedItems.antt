@@ -1,6 +1,6 @@
 -- The facets of an item that breaks no rule are formed.
-use Rattle.std.proofs.Common.{ℕ, ◌+◌, List, [], ◌∷◌, All, Any, ◌⊎◌, inl, inr, ⊎_elim, length, refl, sym, subst, arith}
-use Rattle.std.proofs.lemmas.Bool.{cases_Bool, cases_lt}
+use Rattle.std.proofs.Common.{◌≡◌, ℕ, ◌+◌, false, List, [], ◌∷◌, Some, All, Any, ◌⊎◌, inl, inr, ⊎_elim, length, refl, sym, subst, arith}
+use Rattle.std.proofs.lemmas.Bool.{cases_Bool, cases_lt, false_from_ne_true}
 use Rattle.std.proofs.lemmas.List.Elements.{All-contains_itself, All-weaker}
 use Rattle.std.specs.Char.{is_ascii_digit}
 use Rattle.std.specs.List.{Contains, list_all}
@@ -10,13 +10,16 @@ use Rattle.rng_types.specs.declared.facet.Facet.{Facet}
 use Rattle.rng_types.specs.declared.facet.FacetName.{FacetName}
 use Rattle.rng_types.specs.declared.facet.FacetName.TheVariants as facet
 use Rattle.rng_types.specs.declared.facet.FacetText.{FacetText}
+use Rattle.rng_types.specs.declared.item.Item.TheVariants as items
 use Rattle.rng_values.specs.Facets.{AreFewDigits, IsNumberOf, takes_facet}
 use Rattle.rng_values.specs.Formed.{IsFormedFacet}
-use Rattle.rng_values.specs.Items.{FacetFault}
-use Rattle.rng_values.specs.Making.{IsUntaken, in_order}
+use Rattle.rng_values.specs.Items.{FacetFault, ItemFault}
+use Rattle.rng_values.specs.Making.{IsMadeOf, IsUntaken, has_twice, in_order}
+use Rattle.rng_values.specs.Names.{named, type_names}
 use Rattle.std.specs.Str.Parse.{without_leading_sign}
 use Rattle.rng_values.proofs.Digits.{bound_tested}
-use Rattle.rng_values.proofs.InOrder.{none_else}
+use Rattle.rng_values.proofs.InOrder.{made_item, none_else}
+use Rattle.rng_values.proofs.ItemFaults.{malformed_least, twice_least, untaken_least}
 use Rattle.rng_values.proofs.Standing.{one_of}
 
 -- digits are few, or they are not
@@ -51,3 +54,12 @@ made_is_formed facets k well taken g stands =
 
 pub made_formed : (facets : List FacetText) (k : DataType) → (Any (λ f. FacetFault f 1) facets → ⊥) → (Any (IsUntaken k) facets → ⊥) → All (IsFormedFacet k) (in_order facets)
 made_formed facets k well taken = All-weaker (Contains (in_order facets)) (IsFormedFacet k) (made_is_formed facets k well taken) (in_order facets) (All-contains_itself (in_order facets))
+
+-- the item of a name and facets that break nothing is the one that they say
+pub made_whole : (name : List ℕ) (facets : List FacetText) (k : DataType) → named type_names name ≡ Some k → ((rule : ℕ) → ItemFault name facets rule → ⊥)
+    → IsMadeOf name facets (Some (items.Typed k (in_order facets)))
+made_whole name facets k e sound =
+    let well : Any (λ f. FacetFault f 1) facets → ⊥ = λ a. sound 1 (malformed_least name facets a).0 in
+    let taken : Any (IsUntaken k) facets → ⊥ = λ a. sound 2 (untaken_least name facets k well e a).0 in
+    let once : has_twice facets ≡ false = false_from_ne_true (has_twice facets) (λ t. sound 4 (twice_least name facets k well e taken t).0) in
+    record { item = items.Typed k (in_order facets); is_made = refl; said = made_item name facets k e taken once; formed = made_formed facets k well taken }

@@ -1,5 +1,5 @@
 -- What facets break, and the least rule of it.
-use Rattle.std.proofs.Common.{◌≡◌, ◌≤◌, ◌↔◌, ℕ, Bool, true, false, not, List, Some, None, Result, Ok, Err, length, ◌⊎◌, inl, inr, ⊎_elim, refl, sym, ◌∙◌, ap, subst, arith, IsTrue, Any}
+use Rattle.std.proofs.Common.{◌≡◌, ◌≤◌, ◌↔◌, ℕ, Bool, true, false, not, List, Option, Some, None, Result, Ok, Err, length, ◌⊎◌, inl, inr, ⊎_elim, refl, sym, ◌∙◌, ap, subst, arith, IsTrue, Any}
 use Rattle.std.proofs.lemmas.Bool.{both_ways, false_from_ne_true, le-leb, leb-true, not-true}
 use Rattle.std.proofs.lemmas.List.Sums.{length-filter}
 use Rattle.std.proofs.lemmas.List.Folds.{Any-from_list_any, list_any-from_Any}
@@ -7,14 +7,13 @@ use Rattle.std.proofs.lemmas.Option.{same_Some}
 use Rattle.std.specs.List.{filter}
 use Rattle.std.specs.Prelude.{IfOk, count_by, nat_le}
 use Rattle.std.specs.Str.{chars}
+use Rattle.odd_text.specs.declared.memory.NoMemory.{NoMemory}
 use Rattle.rng_dialect.specs.Dialect.{IsPattern}
 use Rattle.rng_dialect.specs.declared.regex.Regex.{Regex}
 use Rattle.rng_types.specs.declared.data_type.DataType.{DataType}
 use Rattle.rng_types.specs.declared.facet.FacetName.{FacetName}
 use Rattle.rng_types.specs.declared.facet.FacetName.TheVariants as facet
 use Rattle.rng_types.specs.declared.facet.FacetText.{FacetText}
-use Rattle.rng_values.specs.declared.refusal.ItemRefusal.{ItemRefusal}
-use Rattle.rng_values.specs.declared.refusal.ItemRefusal.TheVariants.{Rule}
 use Rattle.rng_values.specs.Facets.{IsNumberOf, takes_facet}
 use Rattle.rng_values.specs.Items.{FacetFault, ItemFault}
 use Rattle.rng_values.specs.Making.{IsUntaken, all_names, has_twice, is_of}
@@ -174,7 +173,7 @@ pub no_fault : (name : List ℕ) (facets : List FacetText) (k : DataType) → (A
     → (rule : ℕ) → ItemFault name facets rule → ⊥
 no_fault name facets k sound e taken h rule f = both_ways (has_twice facets) h (from_four name facets k sound e taken rule f).1
 
--- a refusal names one rule
-pub refused : {T : Type 0} (name : List ℕ) (texts facets : List FacetText) (least rule : ℕ) → texts ≡ facets → IsLeastFault name texts least
-    → ◌≡◌ {A = Result T ItemRefusal} (Err (Rule least)) (Err (Rule rule)) → IsLeastFault name facets rule
+-- one rule is told
+pub refused : (name : List ℕ) (texts facets : List FacetText) (least rule : ℕ) → texts ≡ facets → IsLeastFault name texts least
+    → ◌≡◌ {A = Result (Option ℕ) NoMemory} (Ok (Some least)) (Ok (Some rule)) → IsLeastFault name facets rule
 refused name texts facets least rule e h same = let one : least ≡ rule = cc in subst (λ fs. IsLeastFault name fs rule) e (subst (IsLeastFault name texts) one h)

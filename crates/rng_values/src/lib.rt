@@ -14,7 +14,7 @@ mod signs;
 mod white_space;
 
 pub use fitting::fits;
-pub use making::make_item;
+pub use making::{item_fault, item_of, make_item};
 pub use meeting::meets;
 pub use refusal::ItemRefusal;
 pub use rng_dialect::{

@@ -1,4 +1,4 @@
-ghost use Rattle.std.specs.Prelude.{◌≡◌, ◌≤◌, ◌↔◌, ℕ, Any, count_by, Err, IfOk, IsTrue, nat_le, not, OnOk};
+ghost use Rattle.std.specs.Prelude.{◌≡◌, ◌≤◌, ◌↔◌, ℕ, Any, count_by, Err, IfOk, IsTrue, None, nat_le, not, Ok, OnOk, Some};
 ghost use Rattle.std.specs.List.{find};
 ghost use Rattle.std.specs.Option.{option_copied};
 ghost use Rattle.std.specs.Str.{chars};
@@ -7,8 +7,7 @@ ghost use Rattle.rng_dialect.specs.declared.regex.Regex.{Regex};
 ghost use Rattle.rng_types.specs.declared.facet.FacetText.{FacetText};
 ghost use Rattle.rng_values.specs.Formed.{IsFormedItem};
 ghost use Rattle.rng_values.specs.Items.{FacetFault, IsItemOf, ItemFault};
-ghost use Rattle.rng_values.specs.Making.{IsUntaken, has_twice as the_has_twice, in_order as the_in_order, is_of as the_is_of};
-ghost use Rattle.rng_values.specs.Names.{facet_names, named};
+ghost use Rattle.rng_values.specs.Making.{IsMadeOf, IsUntaken, has_twice as the_has_twice, in_order as the_in_order, is_of as the_is_of, item_of as the_item_of};
 
 use crate::facets::{is_number_of, takes_facet};
 use crate::names::{facet_named, type_named};
@@ -45,21 +44,48 @@ pub fn make_item(alloc: Global, name: &Text, facets: &FacetTexts) -> Result<Item
     ensures ok { OnOk result ((rule : ℕ) → ItemFault name.now facets.now rule → ⊥) }
     ensures rule { (rule : ℕ) → result ≡ Err (ItemRefusal.Rule rule) → ItemFault name.now facets.now rule × ((other : ℕ) → ItemFault name.now facets.now other → rule ≤ other) }
 {
+    if let Some(rule) = item_fault(alloc, name, facets)? {
+        return Err(ItemRefusal::Rule(rule));
+    }
+    match item_of(alloc, name, facets)? {
+        Some(item) => Ok(item),
+        None => Err(ItemRefusal::Rule(UNKNOWN)),
+    }
+}
+
+/// The least rule that a datatype's name and facets break, as `make_item` says it. The only error is NoMemory, for want of
+/// memory.
+pub fn item_fault(alloc: Global, name: &Text, facets: &FacetTexts) -> Result<Option<u8>, NoMemory>
+    ensures sound { result ≡ Ok None → (rule : ℕ) → ItemFault name.now facets.now rule → ⊥ }
+    ensures rule { (rule : ℕ) → result ≡ Ok (Some rule) → ItemFault name.now facets.now rule × ((other : ℕ) → ItemFault name.now facets.now other → rule ≤ other) }
+{
     let texts = facets.as_slice();
     if has_malformed(texts) {
-        return Err(ItemRefusal::Rule(MALFORMED));
+        return Ok(Some(MALFORMED));
     }
     let Some(kind) = type_named(name) else {
-        return Err(ItemRefusal::Rule(UNKNOWN));
+        return Ok(Some(UNKNOWN));
     };
     if has_untaken(alloc, kind, texts)? {
-        return Err(ItemRefusal::Rule(UNKNOWN));
+        return Ok(Some(UNKNOWN));
     }
     if has_twice(texts) {
-        return Err(ItemRefusal::Rule(TWICE));
+        return Ok(Some(TWICE));
     }
-    let facets = in_order(alloc, texts)?;
-    Ok(Item::Typed { kind, facets })
+    Ok(None)
+}
+
+/// The item that a datatype's name and facets make that break no rule; of others with the first facet of each name, where the
+/// datatype is known. The only error is NoMemory, for want of memory.
+pub fn item_of(alloc: Global, name: &Text, facets: &FacetTexts) -> Result<Option<Item>, NoMemory>
+    ensures value { IfOk result (λ made. made ≡ the_item_of name.now facets.now) }
+    ensures item { ((rule : ℕ) → ItemFault name.now facets.now rule → ⊥) → IfOk result (IsMadeOf name.now facets.now) }
+{
+    let Some(kind) = type_named(name) else {
+        return Ok(None);
+    };
+    let facets = in_order(alloc, facets.as_slice())?;
+    Ok(Some(Item::Typed { kind, facets }))
 }
 
 // Whether one of the facets is to be a number, and is none of its form.

@@ -1,6 +1,6 @@
 ghost use Rattle.std.specs.Prelude.{◌≡◌, IfOk, length};
-ghost use Rattle.std.specs.Str.{chars, encode_utf8_all};
-ghost use Rattle.rng_values.specs.Treated.{collapsed as the_collapsed, treated};
+ghost use Rattle.std.specs.Str.{chars};
+ghost use Rattle.rng_values.specs.Treated.{collapsed as the_collapsed, collapsed_text, treated};
 ghost use Rattle.rng_values.specs.Trimmed.{IsTrimmed};
 
 use odd_text::{NoMemory, Text};
@@ -11,7 +11,7 @@ use std::alloc::Global;
 /// The text with each run of white space as one space, and with none at its ends (XML Schema, Part 2, section 4.3.6).
 /// The only error is NoMemory, for want of memory.
 pub fn collapse(alloc: Global, text: &Text) -> Result<Text, NoMemory>
-    ensures { IfOk result (λ made. made ≡ encode_utf8_all (the_collapsed (chars text.now))) }
+    ensures { IfOk result (λ made. made ≡ collapsed_text text.now) }
 {
     let mut collapsed = String::new(alloc);
     let mut gap = false;

@@ -5,7 +5,7 @@ use Rattle.odd_tree.specs.Elements.{children_of, elements_of}
 use Rattle.odd_tree.proofs.InList.{child_stands, nothing_stands}
 use Rattle.odd_forms.proofs.Children.{element_first}
 use Rattle.odd_decls.specs.Pending.{HoldsForm, here, inside}
-use Rattle.odd_decls.proofs.Searched.{text_first}
+use Rattle.odd_forms.proofs.Listed.{text_first}
 use Rattle.odd_decls.proofs.Refusing.{SomeHolds, none_held, none_holds}
 use Rattle.odd_decls.proofs.pending.+is_pending.Goals as goal
 

@@ -3,7 +3,8 @@ use Rattle.std.proofs.lemmas.List.{drop_all, map-append}
 use Rattle.odd_tree.specs.Elements.{children_of, elements_of}
 use Rattle.odd_tree.specs.declared.tree.Tree.{Tree}
 use Rattle.odd_forms.proofs.Children.{element_first}
-use Rattle.odd_decls.proofs.Searched.{AddsSoFar, adds_element, adds_foreign, adds_inside, adds_none, adds_schema, text_first}
+use Rattle.odd_forms.proofs.Listed.{text_first}
+use Rattle.odd_decls.proofs.Searched.{AddsSoFar, adds_element, adds_foreign, adds_inside, adds_none, adds_schema}
 use Rattle.odd_decls.proofs.searching.+find_schemas.Goals.{then-is_one_of+in_ok-push, else-is_one_of}
 use Rattle.odd_decls.proofs.searching.+find_schemas.Goals as goal
 

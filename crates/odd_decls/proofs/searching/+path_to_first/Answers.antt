@@ -3,7 +3,8 @@ use Rattle.std.proofs.lemmas.List.{drop_all, map-append}
 use Rattle.odd_tree.specs.Elements.{elements_of}
 use Rattle.odd_decls.specs.Search.{FindsAmong}
 use Rattle.odd_forms.proofs.Children.{element_first}
-use Rattle.odd_decls.proofs.Searched.{none_inside, none_passed, path_from_child, scopes, text_first}
+use Rattle.odd_forms.proofs.Listed.{text_first}
+use Rattle.odd_decls.proofs.Searched.{none_inside, none_passed, path_from_child, scopes}
 use Rattle.odd_decls.proofs.searching.+path_to_first.Goals as goal
 
 pub loop-node-init : goal.loop-node-init

@@ -6,7 +6,8 @@ use Rattle.std.specs.Option.{option_copied}
 use Rattle.odd_text.proofs.Entries.{put_rises}
 use Rattle.odd_text.specs.Text.{text_cmp}
 use Rattle.odd_members.specs.Members.{adds}
-use Rattle.odd_members.proofs.Marks.{child_passed, inserted_put, member_marks, other_marks}
+use Rattle.odd_overlay.proofs.Ordered.{inserted_put}
+use Rattle.odd_members.proofs.Marks.{child_passed, member_marks, other_marks}
 use Rattle.odd_members.proofs.reading.marks_of.Goals as goal
 
 pub loop-child-init : goal.loop-child-init
@@ -41,5 +42,5 @@ loop-child-preserved c = (
   c.loop-child.invariant.1,
 )
 
-pub as_marks-requires : goal.as_marks-requires
-as_marks-requires c = c.loop-child.invariant.1
+pub map_of-requires : goal.map_of-requires
+map_of-requires c = c.loop-child.invariant.1

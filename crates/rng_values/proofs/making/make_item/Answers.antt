@@ -1,61 +1,6 @@
-use Rattle.std.proofs.Common.{subst, sym, ◌∙◌}
-use Rattle.std.proofs.lemmas.Bool.{both_ways}
-use Rattle.rng_values.specs.Items.{IsItemOf, ItemFault}
-use Rattle.rng_values.specs.Making.{in_order}
-use Rattle.rng_types.specs.declared.item.Item.TheVariants as items
-use Rattle.rng_values.proofs.FormedItems.{made_formed}
-use Rattle.rng_values.proofs.InOrder.{made_item}
-use Rattle.rng_values.proofs.ItemFaults.{malformed_least, no_fault, no_type_least, refused, twice_least, untaken_least}
+use Rattle.std.proofs.Common.{◌≡◌, Ok, Some, ap, ◌∙◌}
 use Rattle.rng_values.proofs.making.make_item.Goals as goal
 
-pub returns-then-has_malformed-clause-rule : goal.returns-then-has_malformed-clause-rule
-returns-then-has_malformed-clause-rule c rule =
-    let texts = c.as_slice-texts in
-    refused c.args.name.now texts.result.now c.args.facets.now 1 rule texts.ensures (malformed_least c.args.name.now texts.result.now (c.has_malformed.ensures.0 c.if-has_malformed.true))
-
-pub returns-in_default-clause-rule : goal.returns-in_default-clause-rule
-returns-in_default-clause-rule c rule =
-    let texts = c.as_slice-texts in
-    refused c.args.name.now texts.result.now c.args.facets.now 2 rule texts.ensures
-    (no_type_least c.args.name.now texts.result.now (λ a. both_ways c.has_malformed.result c.if-has_malformed.false (c.has_malformed.ensures.1 a))
-    (sym c.type_named.ensures ∙ c.in_default.is))
-
-pub returns-then-branch-clause-rule : goal.returns-then-branch-clause-rule
-returns-then-branch-clause-rule c rule =
-    let texts = c.as_slice-texts in
-    refused c.args.name.now texts.result.now c.args.facets.now 2 rule texts.ensures
-    (untaken_least c.args.name.now texts.result.now c.in-Some.kind (λ a. both_ways c.has_malformed.result c.if-has_malformed.false (c.has_malformed.ensures.1 a))
-    (sym c.type_named.ensures ∙ c.in-Some.is) (c.in_ok-has_untaken.ensures.0 c.if-branch.true))
-
-pub returns-then-has_twice-clause-rule : goal.returns-then-has_twice-clause-rule
-returns-then-has_twice-clause-rule c rule =
-    let texts = c.as_slice-texts in
-    refused c.args.name.now texts.result.now c.args.facets.now 4 rule texts.ensures
-    (twice_least c.args.name.now texts.result.now c.in-Some.kind (λ a. both_ways c.has_malformed.result c.if-has_malformed.false (c.has_malformed.ensures.1 a))
-    (sym c.type_named.ensures ∙ c.in-Some.is) (λ a. both_ways c.in_ok-has_untaken.field-0 c.if-branch.false (c.in_ok-has_untaken.ensures.1 a))
-    (sym c.has_twice.ensures ∙ c.if-has_twice.true))
-
-pub returns-clause-item : goal.returns-clause-item
-returns-clause-item c =
-    let texts = c.as_slice-texts in
-    let made =
-    made_item c.args.name.now texts.result.now c.in-Some.kind (sym c.type_named.ensures ∙ c.in-Some.is)
-    (λ a. both_ways c.in_ok-has_untaken.field-0 c.if-branch.false (c.in_ok-has_untaken.ensures.1 a)) (sym c.has_twice.ensures ∙ c.if-has_twice.false)
-    in
-    rw c.in_ok-facets.ensures (subst (λ fs. IsItemOf c.args.name.now fs (items.Typed c.in-Some.kind (in_order texts.result.now))) texts.ensures made)
-
-pub returns-clause-ok : goal.returns-clause-ok
-returns-clause-ok c rule fault =
-    let texts = c.as_slice-texts in
-    no_fault c.args.name.now texts.result.now c.in-Some.kind (λ a. both_ways c.has_malformed.result c.if-has_malformed.false (c.has_malformed.ensures.1 a))
-    (sym c.type_named.ensures ∙ c.in-Some.is) (λ a. both_ways c.in_ok-has_untaken.field-0 c.if-branch.false (c.in_ok-has_untaken.ensures.1 a))
-    (sym c.has_twice.ensures ∙ c.if-has_twice.false) rule (subst (λ fs. ItemFault c.args.name.now fs rule) (sym texts.ensures) fault)
-
-pub returns-clause-formed : goal.returns-clause-formed
-returns-clause-formed c =
-    let texts = c.as_slice-texts in
-    let made =
-    made_formed texts.result.now c.in-Some.kind (λ a. both_ways c.has_malformed.result c.if-has_malformed.false (c.has_malformed.ensures.1 a))
-    (λ a. both_ways c.in_ok-has_untaken.field-0 c.if-branch.false (c.in_ok-has_untaken.ensures.1 a))
-    in
-    rw c.in_ok-facets.ensures made
+pub returns-in-Some-clause-rule : goal.returns-in-Some-clause-rule
+returns-in-Some-clause-rule c rule same =
+    let one : c.in-Some.rule ≡ rule = cc in c.item_fault.ensures.rule rule (c.in_ok-rule.was ∙ ap Ok (c.in-Some.is ∙ ap Some one))

@@ -1,0 +1,4 @@
+pub mod Attributes
+pub mod Formed
+pub mod Giving
+pub mod Values

@@ -1,0 +1,4 @@
+pub mod Formed
+pub mod Items
+pub mod Occurrence
+pub mod Values

@@ -1,0 +1,4 @@
+pub mod Laid
+pub mod Ordered
+mod Taking
+mod WordEntries
