@@ -14,15 +14,19 @@ writes files into FOLDER (a new one under /tmp where none is given):
 - one elementSpec that is a member of 100,000 classes, their keys falling;
 - a chain of two files: a source of 2,000 elements in 40 modules, each with prose and a content of 8 parts, and a
   customisation that takes half of each module and changes 100 elements; and a chain of twice as many;
+- a chain of sixteen files: a source of 5 MB in 106 modules, fourteen files that take all of them and change 100 elements each, and
+  one that takes one element;
 - a root with 200,000 attributes.
 
-The two files with contents and that of memberships are also made at half their size, for the growth.
+The two files with contents, that of memberships and those of declarations, rising and shuffled, are also made at half their size, for the
+growth, and the shuffled one at a quarter too.
 
 Then it runs `PROGRAM compile FILE..` and `xmllint --noout FILE..` in turn, five times each, and prints the least processor time
 (user and system) in seconds, the greatest memory in MB, how many times the file that is, and how many times xmllint's time
 and memory the program takes; where there is a half, also how many times the time and the memory that the half takes. The
 program compiles the first, the declarations and the contents, and answers the others with code 10. The last file goes to
-PROGRAM alone: xmllint compares its attributes in pairs, for many minutes.
+PROGRAM alone: xmllint compares its attributes in pairs, for many minutes. The chain of sixteen is also read alone: the last file is
+then one that is not XML, which the program answers after it has read the others, and before it merges them.
 
 GNU time (Debian's package `time`) starts each run and tells its memory: the peak of a program that this interpreter starts
 counts what the interpreter held.
@@ -43,6 +47,7 @@ PARTS_OF_ONE = 100_000
 MEMBERSHIPS = 100_000
 ATTRIBUTES = 200_000
 CHAINED = 4_000
+IN_SIXTEEN = 5_300
 IN_MODULE = 50
 CHANGED = 20
 PARTS_OF_CHAINED = 8
@@ -104,8 +109,8 @@ def declarations_file(numbers):
     return schema_file(f'<elementSpec ident="a{number:06}"/>\n' for number in numbers)
 
 
-def shuffled():
-    numbers = list(range(DECLARATIONS))
+def shuffled(count):
+    numbers = list(range(count))
     random.Random(1).shuffle(numbers)
     return numbers
 
@@ -165,6 +170,23 @@ def chain_files(count):
     return schema_file(source_spec(number, count) for number in range(count)), schema_file([taken, changes])
 
 
+def sixteen_files():
+    """A source, fourteen files that take all of it and change some elements, and one that takes one element."""
+    source = schema_file(source_spec(number, IN_SIXTEEN) for number in range(IN_SIXTEEN))
+    taken = "".join(f'<moduleRef key="m{module}"/>\n' for module in range(IN_SIXTEEN // IN_MODULE))
+    changing = [
+        schema_file(
+            [taken]
+            + [
+                f'<elementSpec ident="a{number:06}" mode="change">{content_of(number + file, IN_SIXTEEN)}</elementSpec>\n'
+                for number in range(file, IN_SIXTEEN, IN_SIXTEEN // 100)
+            ]
+        )
+        for file in range(14)
+    ]
+    return [source, *changing, schema_file(['<elementRef key="a000000"/>\n'])]
+
+
 def wide_file():
     attributes = "".join(f" a{number}='{number}'" for number in range(ATTRIBUTES))
     return f"<wide{attributes}/>\n"
@@ -189,9 +211,12 @@ FILES = (
     ("large.odd", odd_file, True),
     ("empty.xml", empty_file, True),
     ("namespace.xml", namespace_file, True),
+    ("rising-half.odd", lambda: declarations_file(range(DECLARATIONS // 2)), True),
     ("rising.odd", lambda: declarations_file(range(DECLARATIONS)), True),
     ("falling.odd", lambda: declarations_file(reversed(range(DECLARATIONS))), True),
-    ("shuffled.odd", lambda: declarations_file(shuffled()), True),
+    ("shuffled-half-half.odd", lambda: declarations_file(shuffled(DECLARATIONS // 4)), True),
+    ("shuffled-half.odd", lambda: declarations_file(shuffled(DECLARATIONS // 2)), True),
+    ("shuffled.odd", lambda: declarations_file(shuffled(DECLARATIONS)), True),
     ("contents-half.odd", lambda: models_file(MODELS // 2), True),
     ("contents.odd", lambda: models_file(MODELS), True),
     ("parts-half.odd", lambda: parts_file(PARTS_OF_ONE // 2), True),
@@ -200,6 +225,7 @@ FILES = (
     ("memberships.odd", lambda: memberships_file(MEMBERSHIPS), True),
     ("chain-half.odd", lambda: chain_files(CHAINED // 2), True),
     ("chain.odd", lambda: chain_files(CHAINED), True),
+    ("sixteen.odd", sixteen_files, True),
     ("wide.xml", wide_file, False),
 )
 
@@ -246,11 +272,16 @@ def main():
         readers = [[program, "compile", *paths]]
         if beside:
             readers.append(["xmllint", "--huge", "--noout", *paths])
+        if len(paths) > 2:
+            broken = put(folder, "broken.xml", "<")
+            readers.append([program, "compile", *paths[:-1], *broken])
         results = list(measured(readers))
         for words, (seconds, memory, codes) in zip(readers, results):
             print(f"  {os.path.basename(words[0])}: {seconds:.3f} s, {memory:.0f} MB, {memory * 1048576 / size:.1f} times the file, codes {codes}")
         if beside:
-            compared("xmllint", *results)
+            compared("xmllint", *results[:2])
+        if len(paths) > 2:
+            compared("reading alone", results[0], results[2])
         own[name] = results[0]
         half = own.get(name.replace(".", "-half."))
         if half:

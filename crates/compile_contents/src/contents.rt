@@ -196,7 +196,7 @@ fn members_pattern(
 ) -> Result<Expr, MakeRefusal>
     ensures { IsMadeWithin pattern_elements (the_members_pattern class.now pick.now (listed_in members.now class.now)) budget.old budget.new result }
 {
-    let Some(idents) = members.find(class) else {
+    let Some(idents) = members.of(class) else {
         return single(Expr::NotAllowed, budget);
     };
     match pick {

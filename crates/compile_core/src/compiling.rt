@@ -17,7 +17,7 @@ ghost use Rattle.compile_core.specs.Schema.{HasLargeSchema, IsLeast, IsStartOffe
 
 use compile_contents::{Budget, MakeRefusal, conditions_of, holds_element, references_pattern};
 use compile_defines::{condition_defines, library_defines};
-use odd_classes::{MemberTable, TableRefusal, members_by_class};
+use odd_classes::{MemberTable, TableRefusal, member_table};
 use odd_library::Library;
 use odd_text::{NoMemory, Offence, Text, TryCopy, Who, Words, lesser};
 use rng_patterns::{Grammar, linked_nodes};
@@ -120,12 +120,14 @@ fn grammar_within(alloc: Global, library: &Library, start: &Words) -> Result<Gra
 
 // The members of the classes of a library. Where they are more than a schema may have elements, the schema is too large.
 fn listed_members(alloc: Global, library: &Library) -> Result<MemberTable, MakeRefusal>
+    requires { (key : AKey) (rule : ℕ) → Breaks library.now key rule → ⊥ }
     ensures members { IfOk result (λ table. AreMembers library.now (listed_in table)) }
     ensures within { IfOk result (λ table. members_count (listed_in table) library.now ≤ 1000000) }
     ensures more { result ≡ Err refused.TooLarge → (members : Members) → AreMembers library.now members → 1000000 < members_count members library.now }
 {
-    match members_by_class(alloc, library, MOST_ELEMENTS as usize) {
+    match member_table(alloc, library, MOST_ELEMENTS as usize) {
         Ok(members) => Ok(members),
+        Err(TableRefusal::Loop { .. }) => unreachable!(),
         Err(TableRefusal::More) => Err(MakeRefusal::TooLarge),
         Err(TableRefusal::NoMemory) => Err(MakeRefusal::NoMemory),
     }

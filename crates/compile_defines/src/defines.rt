@@ -56,7 +56,7 @@ fn add_classes(
         if key.kind != Kind::Class {
             continue;
         }
-        if let Some(idents) = members.find(&key.ident) {
+        if let Some(idents) = members.of(&key.ident) {
             defines.push(class_define(alloc, &key.ident, idents, budget)?)?;
         }
     }

@@ -1,5 +1,5 @@
 //! The outside: the traits of what is read and what is written, both in memory, and whole files and replies. The texts, lists, maps
-//! and keys that all layers speak of are the crate `odd_text`.
+//! and keys that all layers speak of are the crate `odd_text`, and their sorted tables the crate `odd_tables`.
 #![tactic(auto)]
 
 pub mod mem_shelf;
@@ -11,6 +11,7 @@ pub mod writing;
 
 pub use mem_shelf::{Calls, File, Files, MemShelf};
 pub use mem_sink::MemSink;
+pub use odd_tables::{Ranked, Steps, Table};
 pub use odd_text::{
     Bind, Bytes, Key, Keys, Kind, Map, Name, Names, NoMemory, Offence, Scope, Seq, Text, TryCopy,
     Who, Words,

@@ -53,6 +53,7 @@ pub enum Head<'a> {
     Docs,
     Library,
     Members,
+    Table(usize),
     Chosen,
 }
 
@@ -96,9 +97,17 @@ pub fn read_text_head(head: &str) -> Option<Head<'_>> {
         "library" => Some(Head::Library),
         "members" => Some(Head::Members),
         "chosen" => Some(Head::Chosen),
-        _ => match head.strip_prefix("file ") {
-            Some(name) if !name.contains(' ') => Some(Head::File(name)),
-            _ => None,
-        },
+        _ => read_named(head),
+    }
+}
+
+// The head of a limit or of a name, below which a text stands.
+fn read_named(head: &str) -> Option<Head<'_>> {
+    if let Some(limit) = head.strip_prefix("table ") {
+        return Some(Head::Table(limit.parse::<usize>().ok()?));
+    }
+    match head.strip_prefix("file ") {
+        Some(name) if !name.contains(' ') => Some(Head::File(name)),
+        _ => None,
     }
 }

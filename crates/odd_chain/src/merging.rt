@@ -10,7 +10,7 @@ ghost use Rattle.odd_chain.specs.Reading.{IsFirstOfLibrary};
 
 use odd_classes::{LibraryRefusal, check_library};
 use odd_library::{Library, OddDoc, OddRefusal};
-use odd_modes::step;
+use odd_modes::step_into;
 use odd_text::{Offence, Seq, Who};
 use std::alloc::Global;
 
@@ -34,7 +34,7 @@ pub fn merge(alloc: Global, docs: &OddDocs) -> Result<Library, OddRefusal>
     let mut file = 0u32;
     for doc in docs.as_slice() {
         file += 1;
-        library = step(alloc, &library, doc, file)?;
+        library = step_into(alloc, library, doc, file)?;
         check(alloc, &library, file)?;
     }
     Ok(library)

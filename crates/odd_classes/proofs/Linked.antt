@@ -23,10 +23,10 @@ use Rattle.odd_meaning.specs.Links.{IsLinked, class_key, classes_of}
 use Rattle.odd_text.specs.Key.{key_cmp}
 use Rattle.odd_text.specs.KeyOrder.{key_total}
 use Rattle.odd_text.specs.declared.key.Key.{Key}
-use Rattle.odd_tree.proofs.InList.{nothing_stands, StandsOnce, ends, once_push}
+use Rattle.odd_tree.proofs.InList.{nothing_stands, ends, once_push}
 use Rattle.odd_tree.specs.Elements.{StandsIn}
 use Rattle.odd_classes.proofs.Places.{entry_held, held_at, one_place, places_rise, both_more, none_more, entry_here}
-use Rattle.odd_classes.specs.Placing.{IsEntryAt, IsGraphOf, IsFirstAmong, ArePlacesOf, IsReachedFrom, IsTurnedGraphOf}
+use Rattle.odd_classes.specs.Placing.{IsEntryAt, IsGraphOf, IsFirstAmong, ArePlacesOf, IsPlaceOf, IsReachedFrom, IsTurnedGraphOf}
 
 -- where something is held
 pub held : (key : Key) (library : Library) → IsSome (find key_cmp key library.parts) → (part : Component) × (find key_cmp key library.parts ≡ Some part)
@@ -37,12 +37,8 @@ held key library is = some (find key_cmp key library.parts) is
     some (Some part) h = (part, refl)
 
 module _ (keys_of : Component → List Key) (library : Library) (up : IsTrue (is_sorted key_cmp library.parts)) (arrows : List (List ℕ)) (is : IsGraphOf keys_of library.parts arrows) where
-  -- the place is that of the component at the key
-  abbrev pub IsPlaceOf : ℕ → Key → Type 0
-  IsPlaceOf place key = (part : Component) × IsEntryAt library.parts place key part
-
   -- an arrow is the link of two components
-  arrow_links : (place next : ℕ) (key : Key) → IsPlaceOf place key → HasArrow arrows place next → (other : Key) × IsPlaceOf next other × IsLinked keys_of library key other
+  arrow_links : (place next : ℕ) (key : Key) → IsPlaceOf library.parts place key → HasArrow arrows place next → (other : Key) × IsPlaceOf library.parts next other × IsLinked keys_of library key other
   arrow_links place next key (part, at) arrow =
       let within : next < length library.parts = subst (λ n. next < n) is.as_many arrow.within in
       let there : IsEntryAt library.parts next (get_or library.parts next (key, part)).0 (get_or library.parts next (key, part)).1 = slice_get-get_or library.parts next (key, part) within in
@@ -59,7 +55,7 @@ module _ (keys_of : Component → List Key) (library : Library) (up : IsTrue (is
       )
 
   -- and a link is an arrow of their places
-  pub link_arrow : (key other : Key) (place : ℕ) → IsPlaceOf place key → IsLinked keys_of library key other → (next : ℕ) × IsPlaceOf next other × HasArrow arrows place next
+  pub link_arrow : (key other : Key) (place : ℕ) → IsPlaceOf library.parts place key → IsLinked keys_of library key other → (next : ℕ) × IsPlaceOf library.parts next other × HasArrow arrows place next
   link_arrow key other place (part, at) l =
       let found = held other library l.other_held in
       let there = held_at library.parts other found.0 found.1 in
@@ -67,19 +63,19 @@ module _ (keys_of : Component → List Key) (library : Library) (up : IsTrue (is
       (there.0, (found.0, there.1), (is.leads place there.0 key other part found.0 at there.1).1 (subst (λ p. StandsIn (keys_of p) other) (sym same) l.among))
 
   -- so chains of arrows are chains of links
-  pub chain_linked : (place last : ℕ) (key : Key) → IsPlaceOf place key → Leads arrows place last → (other : Key) × IsPlaceOf last other × Chained (IsLinked keys_of library) key other
-  chain_linked place last key at l = chained_along (HasArrow arrows) (IsLinked keys_of library) IsPlaceOf (λ p q k h a. arrow_links p q k h a) place last key at l
+  pub chain_linked : (place last : ℕ) (key : Key) → IsPlaceOf library.parts place key → Leads arrows place last → (other : Key) × IsPlaceOf library.parts last other × Chained (IsLinked keys_of library) key other
+  chain_linked place last key at l = chained_along (HasArrow arrows) (IsLinked keys_of library) (IsPlaceOf library.parts) (λ p q k h a. arrow_links p q k h a) place last key at l
 
   -- and the other way round
-  pub linked_chain : (key other : Key) (place : ℕ) → IsPlaceOf place key → Chained (IsLinked keys_of library) key other → (last : ℕ) × IsPlaceOf last other × Leads arrows place last
-  linked_chain key other place at l = chained_along (IsLinked keys_of library) (HasArrow arrows) (λ k p. IsPlaceOf p k) (λ k m p h s. link_arrow k m p h s) key other place at l
+  pub linked_chain : (key other : Key) (place : ℕ) → IsPlaceOf library.parts place key → Chained (IsLinked keys_of library) key other → (last : ℕ) × IsPlaceOf library.parts last other × Leads arrows place last
+  linked_chain key other place at l = chained_along (IsLinked keys_of library) (HasArrow arrows) (λ k p. IsPlaceOf library.parts p k) (λ k m p h s. link_arrow k m p h s) key other place at l
 
   -- a place has one key
-  pub one_key_at : (place : ℕ) (key other : Key) → IsPlaceOf place key → IsPlaceOf place other → key ≡ other
+  pub one_key_at : (place : ℕ) (key other : Key) → IsPlaceOf library.parts place key → IsPlaceOf library.parts place other → key ≡ other
   one_key_at place key other a b = ap (λ e. e.0) (same_Some _ _ (sym a.1 ∙ b.1))
 
   -- two components are linked in a chain exactly where their places are
-  pub chains_agree : (place other : ℕ) (key last : Key) → IsPlaceOf place key → IsPlaceOf other last → Leads arrows place other ↔ Chained (IsLinked keys_of library) key last
+  pub chains_agree : (place other : ℕ) (key last : Key) → IsPlaceOf library.parts place key → IsPlaceOf library.parts other last → Leads arrows place other ↔ Chained (IsLinked keys_of library) key last
   chains_agree place other key last a b = (there, back)
     where
       there : Leads arrows place other → Chained (IsLinked keys_of library) key last
@@ -132,24 +128,18 @@ no_set {A} order Is items empty not = subst (IsSet order Is) (sym empty) (record
   each = λ item is. absurd (not item is);
 })
 
-module _ (library : Library) (places : List (Key × ℕ)) (are : ArePlacesOf library.parts places) (class : List ℕ) where
-  -- a class that has no place is not held
-  pub not_held : find key_cmp (class_key class) places ≡ None → (part : Component) → find key_cmp (class_key class) library.parts ≡ Some part → ⊥
-  not_held none part holds =
-      let at = held_at library.parts (class_key class) part holds in
-      let no : None ≡ Some at.0 = sym none ∙ (are (class_key class) at.0).1 (part, at.1) in
-      cc
-
-  -- and has no element
-  pub no_member : find key_cmp (class_key class) places ≡ None → (ident : List ℕ) → IsElementOf library class ident → ⊥
+module _ (library : Library) (class : List ℕ) where
+  -- a class that has no place has no element
+  pub no_member : ((place : ℕ) → IsPlaceOf library.parts place (class_key class) → ⊥) → (ident : List ℕ) → IsElementOf library class ident → ⊥
   no_member none ident m =
       let found = held (class_key class) library (last_step (IsLinked classes_of library) (element_key ident) (class_key class) m.member).1.other_held in
-      not_held none found.0 found.1
+      let at = held_at library.parts (class_key class) found.0 found.1 in
+      none at.0 (found.0, at.1)
 
   -- the elements that its place leads back to are its members
-  pub members_reached : IsTrue (is_sorted key_cmp library.parts) → (back : List (List ℕ)) (place : ℕ) → IsTurnedGraphOf classes_of library.parts back → find key_cmp (class_key class) places ≡ Some place
+  pub members_reached : IsTrue (is_sorted key_cmp library.parts) → (back : List (List ℕ)) (place : ℕ) → IsTurnedGraphOf classes_of library.parts back → IsPlaceOf library.parts place (class_key class)
       → (ident : List ℕ) → IsReachedFrom library.parts back place ident ↔ IsElementOf library class ident
-  members_reached up back place is found ident = (
+  members_reached up back place is here ident = (
     λ r. record {
       part = r.1;
       held = entry_held library.parts up r.0 (element_key ident) (component.Element r.1) r.2;
@@ -161,11 +151,7 @@ module _ (library : Library) (places : List (Key × ℕ)) (are : ArePlacesOf lib
   )
     where
       agree : (from : ℕ) (part : Component) → IsEntryAt library.parts from (element_key ident) part → Leads is.arrows from place ↔ IsMember library class (element_key ident)
-      agree from part at = chains_agree classes_of library up is.arrows is.graph from place (element_key ident) (class_key class) (part, at) ((are (class_key class) place).0 found)
-
--- the nodes are the places of those of the keys that have one
-abbrev pub AreNodes : List (Key × ℕ) → List Key → List ℕ → Type 0
-AreNodes places keys nodes = (place : ℕ) → Contains nodes place ↔ StandsOnce (λ key. find key_cmp key places ≡ Some place) keys
+      agree from part at = chains_agree classes_of library up is.arrows is.graph from place (element_key ident) (class_key class) (part, at) here
 
 -- what a list with one node more contains
 contains_with : (nodes : List ℕ) (node place : ℕ) → Contains (nodes ++ node ∷ []) place ↔ (Contains nodes place ⊎ (node ≡ place))
@@ -174,50 +160,39 @@ contains_with nodes node place = (
   λ h. ⊎_elim (Contains-append_left nodes (node ∷ []) place) (λ e. subst (Contains (nodes ++ node ∷ [])) e (Contains-push nodes node)) h,
 )
 
-module _ (places : List (Key × ℕ)) (keys : List Key) (i : ℕ) (nodes : List ℕ) (key : Key) (before : AreNodes places (take i keys) nodes) (within : i < length keys) (is : key ≡ get_or keys i key) where
+module _ (entries : List (Key × Component)) (keys : List Key) (i : ℕ) (nodes : List ℕ) (key : Key) (before : ArePlacesOf entries (take i keys) nodes) (within : i < length keys) (is : key ≡ get_or keys i key) where
   -- the next key has a place
-  pub place_found : (node : ℕ) → find key_cmp key places ≡ Some node → AreNodes places (take (i + 1) keys) (nodes ++ node ∷ [])
+  pub place_found : (node : ℕ) → ((place : ℕ) → (◌≡◌ {A = Option ℕ} (Some node) (Some place)) ↔ IsPlaceOf entries place key) → ArePlacesOf entries (take (i + 1) keys) (nodes ++ node ∷ [])
   place_found node found place =
       rw (ends keys i key within is)
-      (both_more (contains_with nodes node place) (before place) (once_push (λ k. find key_cmp k places ≡ Some place) (take i keys) key)
-      (λ f. same_Some _ _ (sym found ∙ f), λ e. found ∙ ap Some e))
+      (both_more (contains_with nodes node place) (before place) (once_push (λ k. IsPlaceOf entries place k) (take i keys) key)
+      (λ p. same_Some _ _ ((found place).1 p), λ e. (found place).0 (ap Some e)))
 
   -- the next key has none
-  pub no_place : find key_cmp key places ≡ None → AreNodes places (take (i + 1) keys) nodes
-  no_place none place =
-      rw (ends keys i key within is)
-      (none_more (before place) (once_push (λ k. find key_cmp k places ≡ Some place) (take i keys) key) (λ f. let no : None ≡ Some place = sym none ∙ f in cc))
-
--- the arrows lead to the entries of the keys
-abbrev pub AreArrows : List (Key × Component) → List Key → List ℕ → Type 0
-AreArrows entries keys nodes = (next : ℕ) → Contains nodes next ↔ StandsOnce (λ key. (part : Component) × IsEntryAt entries next key part) keys
-
--- to their places
-placed : (entries : List (Key × Component)) (places : List (Key × ℕ)) (keys : List Key) (nodes : List ℕ) → ArePlacesOf entries places → AreNodes places keys nodes → AreArrows entries keys nodes
-placed entries places keys nodes is are next =
-    (λ h. let s = (are next).0 h in (s.0, s.1, (is s.0 next).0 s.2), λ s. (are next).1 (s.0, s.1, (is s.0 next).1 s.2))
+  pub no_place : ((place : ℕ) → IsPlaceOf entries place key → ⊥) → ArePlacesOf entries (take (i + 1) keys) nodes
+  no_place none place = rw (ends keys i key within is) (none_more (before place) (once_push (λ k. IsPlaceOf entries place k) (take i keys) key) (none place))
 
 -- the arrows of the first entries
 pub record ArrowsSoFar (keys_of : Component → List Key) (entries : List (Key × Component)) (arrows : List (List ℕ)) (count : ℕ) : Type 0 where
   pub as_many : length arrows ≡ count
-  pub lead : (place : ℕ) (key : Key) (part : Component) → place < count → IsEntryAt entries place key part → AreArrows entries (keys_of part) (get_or arrows place [])
+  pub lead : (place : ℕ) (key : Key) (part : Component) → place < count → IsEntryAt entries place key part → ArePlacesOf entries (keys_of part) (get_or arrows place [])
 
 -- those of the next entry
-pub arrows_more : (keys_of : Component → List Key) (entries : List (Key × Component)) (places : List (Key × ℕ)) (arrows : List (List ℕ)) (i : ℕ) (here : Key × Component) (nodes : List ℕ)
-    → ArePlacesOf entries places → ArrowsSoFar keys_of entries arrows i → i < length entries → here ≡ get_or entries i here → AreNodes places (keys_of here.1) nodes
+pub arrows_more : (keys_of : Component → List Key) (entries : List (Key × Component)) (arrows : List (List ℕ)) (i : ℕ) (here : Key × Component) (nodes : List ℕ)
+    → ArrowsSoFar keys_of entries arrows i → i < length entries → here ≡ get_or entries i here → ArePlacesOf entries (keys_of here.1) nodes
     → ArrowsSoFar keys_of entries (arrows ++ nodes ∷ []) (i + 1)
-arrows_more keys_of entries places arrows i here nodes are before within is h = record {
+arrows_more keys_of entries arrows i here nodes before within is h = record {
   as_many = length_push arrows nodes ∙ ap (λ n. n + 1) before.as_many;
   lead = λ place key part less at. ⊎_elim (λ t. last place key part t.1 at) (λ t. earlier place key part (omega (arith, t.1)) at) (eqb_tells i place);
 }
   where
     Lead : ℕ → Component → Type 0
-    Lead place part = AreArrows entries (keys_of part) (get_or (arrows ++ nodes ∷ []) place [])
+    Lead place part = ArePlacesOf entries (keys_of part) (get_or (arrows ++ nodes ∷ []) place [])
 
     last : (place : ℕ) (key : Key) (part : Component) → i ≡ place → IsEntryAt entries place key part → Lead place part
     last place key part e at =
         let same : here.1 ≡ part = ap (λ p. p.1) (same_Some _ _ (sym (entry_here entries i here within is) ∙ ap (λ n. slice_get entries n) e ∙ at)) in
-        subst (Lead place) same (rw (get_or_push arrows nodes [] place (before.as_many ∙ e)) (placed entries places (keys_of here.1) nodes are h))
+        subst (Lead place) same (rw (get_or_push arrows nodes [] place (before.as_many ∙ e)) h)
 
     earlier : (place : ℕ) (key : Key) (part : Component) → place < i → IsEntryAt entries place key part → Lead place part
     earlier place key part less at = rw (get_or-append arrows (nodes ∷ []) [] place (omega (arith, before.as_many))) (before.lead place key part less at)

@@ -67,6 +67,16 @@ module _ (library : Library) where
   who_breaks _ _ (reaches_itself ident l, by) = inr (refl, l)
   who_breaks key _ (of_attributes ident names gives, by) = absurd (elim by [ inl e ↦ omega arith | inr e ↦ omega arith ])
 
+  -- a class that leads to itself breaks rule 13, and nothing else does
+  own_leads : (key : Key) → Breaks library key 13 → LeadsToItself link.Classes library key
+  own_leads key breaks = elim (who_breaks key 13 (breaks, inl refl)) [ inl by ↦ by.1 | inr by ↦ absurd (omega (arith, by.0)) ]
+
+  pub none_own : ((key : Key) → LeadsToItself link.Classes library key → ⊥) → (key : Key) → Breaks library key 13 → ⊥
+  none_own no_class key breaks = no_class key (own_leads key breaks)
+
+  pub first_own : (key : Key) → IsFirstAmong (LeadsToItself link.Classes library) key → IsFirstAmong (λ other. Breaks library other 13) key
+  first_own key first = record { is_one = class_breaks key first.is_one; first = λ other breaks. first.first other (own_leads other breaks) }
+
   -- the first class that leads to itself is the first offence
   pub first_class : (key : Key) → IsFirstAmong (LeadsToItself link.Classes library) key → IsFirstBreak (BreaksByCycle library) key 13
   first_class key first = record {

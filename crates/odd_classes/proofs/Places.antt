@@ -1,8 +1,7 @@
 -- The places of the entries of a library, found and put one after the other.
-use Rattle.std.proofs.Common.{◌≡◌, ◌⊎◌, inl, inr, ℕ, ◌<◌, List, get_or, length, Some, sym, ap, ◌∙◌, ◌≢◌, ◌↔◌, ◌+◌, true, false, Bool, [], refl, subst, ⊎_elim, arith, if◌then◌else◌, ◌≤◌, Option, None}
+use Rattle.std.proofs.Common.{◌≡◌, ◌⊎◌, inl, inr, ℕ, suc, zero, ◌∷◌, ◌<◌, List, get_or, length, Some, sym, ap, ◌∙◌, ◌≢◌, ◌↔◌, ◌+◌, true, false, Bool, [], refl, subst, ⊎_elim, arith, if◌then◌else◌, Option, None}
 use Rattle.std.proofs.lemmas.Bool.{cases_order, false≢true}
 use Rattle.std.proofs.lemmas.Bool.Decides.{eqb_tells}
-use Rattle.std.proofs.lemmas.Map.Views.{tells_apart}
 use Rattle.std.proofs.lemmas.Option.{get_or_from_slice_get, slice_get-get_or, slice_get_within, same_Some}
 use Rattle.std.specs.Cmp.{tied_itself, IsTotalOrder}
 use Rattle.std.specs.FinMap.{find, is_sorted}
@@ -14,15 +13,15 @@ use Rattle.odd_forms.proofs.SetOf.{not_below, turned}
 use Rattle.odd_library.specs.declared.library.ClassPart.{ClassPart}
 use Rattle.odd_library.specs.declared.library.Component.{Component}
 use Rattle.odd_library.specs.declared.library.Component.TheVariants as component
-use Rattle.odd_text.proofs.Entries.{as_T, find_at, found_contained, rising}
+use Rattle.odd_text.proofs.Entries.{as_T, find_at, find_gap, found_contained, rising}
 use Rattle.odd_text.specs.Key.{key_cmp}
 use Rattle.odd_text.specs.KeyOrder.{key_exact, key_total}
-use Rattle.odd_text.specs.Map.{IsAfter, SetsOnly}
+use Rattle.odd_text.specs.Map.{IsAfter, IsAt, IsGap, SetsOnly}
 use Rattle.odd_text.specs.declared.key.Key.{Key}
 use Rattle.odd_text.specs.declared.key.Kind.{Kind}
 use Rattle.odd_text.specs.declared.key.Kind.TheVariants as kind
 use Rattle.odd_classes.specs.Listing.{IsModelAt}
-use Rattle.odd_classes.specs.Placing.{IsEntryAt, ArePlacesOf}
+use Rattle.odd_classes.specs.Placing.{IsEntryAt, IsPlaceOf}
 
 -- what is found at a place is the entry there
 pub found_here : (es : List (Key × Component)) (place : ℕ) (here : Key × Component) → (place < length es) × ((d : Key × Component) → here ≡ get_or es place d) → IsEntryAt es place here.0 here.1
@@ -102,31 +101,26 @@ module _ {K V : Type 0} (order : K → K → Ordering) (At : ℕ → K → V →
 pub entry_here : (entries : List (Key × Component)) (i : ℕ) (here : Key × Component) → i < length entries → here ≡ get_or entries i here → IsEntryAt entries i here.0 here.1
 entry_here entries i here within is = slice_get-get_or entries i here within ∙ ap Some (sym is)
 
-module _ (entries : List (Key × Component)) where
-  -- the entry there has the key, and this is the place
-  abbrev IsPlaceAt : ℕ → Key → ℕ → Type 0
-  IsPlaceAt i key place = (place ≡ i) × ((part : Component) × IsEntryAt entries i key part)
+-- an entry stands at each place
+some_there : (es : List (Key × Component)) (at : ℕ) → at < length es → (e : Key × Component) × (slice_get es at ≡ Some e)
+some_there [] at within = absurd (omega (arith, within))
+some_there (e ∷ es) zero within = (e, refl)
+some_there (e ∷ es) (suc at) within = some_there es at (omega (arith, within))
 
-  -- what is found at a key is the place of its entry, where that is among the first
-  abbrev pub PlacesSoFar : ℕ → List (Key × ℕ) → Type 0
-  PlacesSoFar count places = IsFilled key_cmp IsPlaceAt count places
+module _ (es : List (Key × Component)) (up : IsTrue (is_sorted key_cmp es)) (key : Key) where
+  -- where a search finds a key is its place
+  pub placed_at : (at : ℕ) → IsAt key_cmp key es at → (place : ℕ) → (◌≡◌ {A = Option ℕ} (Some at) (Some place)) ↔ IsPlaceOf es place key
+  placed_at at is place =
+      let there = some_there es at is.within in
+      let e = there.0 in
+      let tie = sym (ap (λ (p : Key × Component). key_cmp key p.0) (get_or_from_slice_get es at e e there.1)) ∙ is.here e in
+      let same : key ≡ e.0 = key_exact key e.0 tie in
+      let here : IsPlaceOf es at key = (e.1, there.1 ∙ ap (λ k. Some (k, e.1)) (sym same)) in
+      (λ s. subst (λ p. IsPlaceOf es p key) (same_Some _ _ s) here, λ p. ap Some (one_place es up at place key here.0 p.0 here.1 p.1))
 
-  -- the next entry is put
-  pub places_more : IsTrue (is_sorted key_cmp entries) → (i : ℕ) (old new : List (Key × ℕ)) (here : Key × Component) (key : Key) → PlacesSoFar i old → i < length entries
-      → here ≡ get_or entries i here → key ≡ here.0 → SetsOnly key_cmp old new key i → PlacesSoFar (i + 1) new
-  places_more up i old new here key before within is same sets =
-      filled_more key_cmp IsPlaceAt key_total (tells_apart key_exact) i old new key i before sets (refl, (here.1, there)) (λ other w a. ap (λ p. p.0) (same_Some _ _ (sym a.1.1 ∙ there)))
-      (λ place w a. one_place entries up i place key here.1 a.1.0 there a.1.1 ∙ sym a.0)
-    where
-      there : IsEntryAt entries i key here.1
-      there = entry_here entries i here within is ∙ ap (λ k. Some (k, here.1)) (sym same)
-
-  -- at the end all are
-  pub all_placed : (count : ℕ) (places : List (Key × ℕ)) → PlacesSoFar count places → length entries ≤ count → ArePlacesOf entries places
-  all_placed count places h all key place = (
-    λ f. let s = (h key place).0 f in subst (λ p. (part : Component) × IsEntryAt entries p key part) (sym s.2.0) s.2.1,
-    λ s. (h key place).1 (place, omega (arith, slice_get_within entries place (key, s.0) s.1), (refl, s)),
-  )
+  -- and where it finds none it has none
+  pub unplaced : (gap : ℕ) → IsGap key_cmp key es gap → (place : ℕ) → (◌≡◌ {A = Option ℕ} None (Some place)) ↔ IsPlaceOf es place key
+  unplaced gap is place = (λ s. cc, λ p. let found = entry_held es up place key p.0 p.1 in let none = find_gap key_cmp key_total key es gap is in cc (found, none))
 
 -- where the item adds to both sides
 pub both_more : {All Some One Was Now Is : Type 0} → All ↔ (Some ⊎ One) → Some ↔ Was → Now ↔ (Was ⊎ Is) → Is ↔ One → All ↔ Now

@@ -1,27 +1,32 @@
 -- Which names a content may not have, and the first offence of a library.
-use Rattle.std.proofs.Common.{◌≡◌, ℕ, inl, inr, ⊎_elim, refl, sym, subst, arith, List, ◌++◌, ap, ◌∙◌, ◌≢◌, ◌↔◌, ◌⊎◌, ◌<◌, ◌≤◌, ◌+◌, Some, None, length, is_some}
+use Rattle.std.proofs.Common.{◌≡◌, ℕ, inl, inr, ⊎_elim, refl, sym, subst, arith, false, List, [], ◌∷◌, ◌++◌, drop, filter, get_or, take, ap, ◌∙◌, ◌≢◌, ◌↔◌, ◌⊎◌, ◌<◌, ◌≤◌, ◌+◌, Some, None, length, is_some}
 use Rattle.std.proofs.lemmas.Bool.{cases_order, false≢true}
+use Rattle.std.proofs.lemmas.Grind.{flat_map-append}
+use Rattle.std.proofs.lemmas.List.{take-append-drop}
+use Rattle.std.proofs.lemmas.List.Elements.{Contains-append_cases, Contains-append_left, Contains-append_right, filter-append}
 use Rattle.std.proofs.lemmas.Option.{same_Some, slice_get_within}
 use Rattle.std.specs.Cmp.{tied_itself}
 use Rattle.std.specs.FinMap.{find, is_sorted}
 use Rattle.std.specs.Prelude.{flat_map, IsTrue}
 use Rattle.std.specs.declared.cmp.Ordering.TheVariants.{Equal, Greater, Less}
-use Rattle.odd_content.specs.declared.content.Content.{Content, Sequence, Alternate, Row_of-Content, end_of-Content, more_of-Content, items-the_row-Content, items_hidden-the_row-Content-0}
+use Rattle.odd_content.specs.declared.content.Content.{Content, Element, Sequence, Alternate, Row_of-Content, end_of-Content, more_of-Content, items-the_row-Content, items_hidden-the_row-Content-0}
 use Rattle.odd_content.specs.declared.content.Content.TheBlock.{hidden-the_row-Content-0}
 use Rattle.odd_library.specs.declared.library.ClassPart.{ClassPart}
 use Rattle.odd_library.specs.declared.library.Component.{Component}
 use Rattle.odd_library.specs.declared.library.Component.TheVariants as component
 use Rattle.odd_library.specs.declared.library.Library.{Library}
-use Rattle.odd_meaning.specs.Links.{IsHeld, class_key, macro_key, named_in, named_in_parts, named_by}
+use Rattle.odd_library.specs.Odd.{element_key}
+use Rattle.odd_meaning.specs.Links.{IsHeld, class_key, is_macro, macro_key, named_in, named_in_parts, named_by}
 use Rattle.odd_meaning.specs.Rules.{Breaks, BreaksByCycle, IsFirstBreak, Names, macro_not_held, of_attributes, own_member, reaches_itself}
 use Rattle.odd_text.specs.Key.{key_cmp}
 use Rattle.odd_text.specs.KeyOrder.{key_total}
 use Rattle.odd_text.specs.declared.key.Key.{Key}
 use Rattle.odd_text.specs.declared.key.Kind.TheVariants as kind
-use Rattle.odd_tree.proofs.InList.{StandsOnce}
+use Rattle.odd_tree.proofs.InList.{StandsOnce, contained, ends, nothing_stands, once_push, standing}
+use Rattle.odd_tree.specs.Elements.{StandsIn}
 use Rattle.rng_types.specs.declared.bounds.Bounds.{Bounds}
 use Rattle.odd_classes.proofs.Places.{entry_held, held_at, places_rise}
-use Rattle.odd_classes.specs.Placing.{IsFirstAmong, NamesWrongly, IsEntryAt, IsWrong}
+use Rattle.odd_classes.specs.Placing.{IsFirstAmong, NamesWrongly, IsEntryAt, IsWrong, macros_in}
 use Rattle.odd_classes.specs.declared.rules.WrongReference.{WrongReference}
 use Rattle.odd_classes.specs.declared.rules.WrongReference.TheVariants as wrong
 
@@ -107,6 +112,65 @@ sequence_named parts b = named_of_parts parts
 -- and so does an alternate
 pub alternate_named : (parts : List Content) (b : Bounds) → named_in (Alternate parts b) ≡ flat_map named_in parts
 alternate_named parts b = named_of_parts parts
+
+-- the macros among the names of parts
+macros_flat : (parts : List Content) → filter (λ key. is_macro key.kind) (flat_map named_in parts) ≡ flat_map macros_in parts
+macros_flat [] = refl
+macros_flat (part ∷ parts) = filter-append (λ key. is_macro key.kind) (named_in part) (flat_map named_in parts) ∙ ap (λ keys. macros_in part ++ keys) (macros_flat parts)
+
+pub sequence_macros : (parts : List Content) (b : Bounds) → macros_in (Sequence parts b) ≡ flat_map macros_in parts
+sequence_macros parts b = ap (filter (λ key. is_macro key.kind)) (sequence_named parts b) ∙ macros_flat parts
+
+pub alternate_macros : (parts : List Content) (b : Bounds) → macros_in (Alternate parts b) ≡ flat_map macros_in parts
+alternate_macros parts b = ap (filter (λ key. is_macro key.kind)) (alternate_named parts b) ∙ macros_flat parts
+
+-- one key stands alone
+pub one_alone : (P : Key → Type 0) (key : Key) → P key ↔ StandsOnce P (key ∷ [])
+one_alone P key = (λ p. (once_push P [] key).1 (inr p), λ s. ⊎_elim (λ n. absurd (nothing_stands n.0 n.1)) (λ p. p) ((once_push P [] key).0 s))
+
+-- what stands in a list and a list after it stands in one of them
+either_stands : {A : Type 0} (xs ys : List A) (x : A) → StandsIn (xs ++ ys) x → StandsIn xs x ⊎ StandsIn ys x
+either_stands xs ys x s = elim (Contains-append_cases xs ys x (contained (xs ++ ys) x s)) [ inl h ↦ inl (standing xs x h) | inr h ↦ inr (standing ys x h) ]
+
+nil_after : (keys : List Key) → keys ++ [] ≡ keys
+nil_after [] = refl
+nil_after (key ∷ keys) = ap (λ ks. key ∷ ks) (nil_after keys)
+
+module _ (Is : Key → Type 0) where
+  once_append : (xs ys : List Key) → StandsOnce Is (xs ++ ys) ↔ (StandsOnce Is xs ⊎ StandsOnce Is ys)
+  once_append xs ys = (
+    λ s. ⊎_elim (λ h. inl (s.0, h, s.2)) (λ h. inr (s.0, h, s.2)) (either_stands xs ys s.0 s.1),
+    λ h. ⊎_elim (λ s. (s.0, standing (xs ++ ys) s.0 (Contains-append_left xs ys s.0 (contained xs s.0 s.1)), s.2)) (λ s. (s.0, standing (xs ++ ys) s.0 (Contains-append_right xs ys s.0 (contained ys s.0 s.1)), s.2)) h,
+  )
+
+  module _ (parts : List Content) (i : ℕ) (part : Content) (within : i < length parts) (is : part ≡ get_or parts i part) where
+    flat_more : flat_map named_in (take (i + 1) parts) ≡ flat_map named_in (take i parts) ++ named_in part
+    flat_more = ap (flat_map named_in) (ends parts i part within is) ∙ flat_map-append named_in (take i parts) (part ∷ []) ∙ ap (λ ks. flat_map named_in (take i parts) ++ ks) (nil_after (named_in part))
+
+    -- one of the keys that parts name is such, with one part more
+    pub part_more : StandsOnce Is (flat_map named_in (take (i + 1) parts)) ↔ (StandsOnce Is (flat_map named_in (take i parts)) ⊎ StandsOnce Is (named_in part))
+    part_more = subst (λ ks. StandsOnce Is ks ↔ (StandsOnce Is (flat_map named_in (take i parts)) ⊎ StandsOnce Is (named_in part))) (sym flat_more) (once_append (flat_map named_in (take i parts)) (named_in part))
+
+    -- where one that a part names is, one of all is
+    pub part_of_all : StandsOnce Is (named_in part) → StandsOnce Is (flat_map named_in parts)
+    part_of_all s =
+        let front = take (i + 1) parts in
+        let rest = drop (i + 1) parts in
+        subst (λ ps. StandsOnce Is (flat_map named_in ps)) (take-append-drop (i + 1) parts)
+        (subst (StandsOnce Is) (sym (flat_map-append named_in front rest)) ((once_append (flat_map named_in front) (flat_map named_in rest)).1 (inl (part_more.1 (inr s)))))
+
+-- an element is never wrong
+pub no_element : (library : Library) (w : WrongReference) (key : List ℕ) (b : Bounds) → StandsOnce (IsWrong library w) (named_in (Element key b)) → ⊥
+no_element library w key b s = by w ((one_alone (IsWrong library w) (element_key key)).1 s)
+  where
+    by : (v : WrongReference) → IsWrong library v (element_key key) → ⊥
+    by wrong.MacroNotHeld h = let kinds : kind.Element ≡ kind.Macro = ap (λ (k : Key). k.kind) h.1 in cc
+    by wrong.OfAttributes h = let kinds : kind.Element ≡ kind.Class = ap (λ (k : Key). k.kind) h.1 in cc
+
+-- a content that names nothing wrong
+pub silent : (library : Library) (w : WrongReference) (content other : Content) → content ≡ other → (StandsOnce (IsWrong library w) (named_in other) → ⊥)
+    → IsTrue false ↔ StandsOnce (IsWrong library w) (named_in content)
+silent library w content other is none = (λ f. cc, λ s. absurd (none (subst (λ x. StandsOnce (IsWrong library w) (named_in x)) is s)))
 
 -- a macro that is not held is wrong
 pub macro_wrong : (library : Library) (key : Key) → key.kind ≡ kind.Macro → find key_cmp key library.parts ≡ None → IsWrong library wrong.MacroNotHeld key

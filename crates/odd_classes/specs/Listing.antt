@@ -1,4 +1,4 @@
--- What the private functions of `member_table` keep of lists of idents, of which there is one for each entry of a library.
+-- What the private functions of `member_lists` keep of lists of idents, of which there is one for each entry of a library.
 use Rattle.std.specs.Prelude.{◌≡◌, ◌↔◌, ◌⊎◌, ◌<◌, ℕ, false, List, [], ◌∷◌, ◌++◌, Some, length, get_or}
 use Rattle.std.specs.FinMap.{find}
 use Rattle.std.specs.List.{Contains}

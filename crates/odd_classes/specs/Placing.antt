@@ -1,17 +1,18 @@
 -- What the private functions of this crate keep: the places of keys among the entries of a library, and its graph by a link.
-use Rattle.std.specs.Prelude.{◌≡◌, ◌≢◌, ◌↔◌, ℕ, List, Some, length, slice_get}
-use Rattle.std.specs.FinMap.{find}
+use Rattle.std.specs.Prelude.{◌≡◌, ◌≢◌, ◌↔◌, ℕ, List, Some, filter, length, slice_get}
+use Rattle.std.specs.List.{Contains}
 use Rattle.std.specs.declared.cmp.Ordering.TheVariants.{Greater}
 use Rattle.odd_text.specs.Key.{key_cmp}
 use Rattle.odd_text.specs.declared.key.Key.{Key}
 use Rattle.odd_graph.specs.Graph.{Chained, HasArrow, Leads}
 use Rattle.odd_tree.specs.Elements.{StandsIn}
+use Rattle.odd_content.specs.declared.content.Content.{Content}
 use Rattle.odd_library.specs.Odd.{element_key}
 use Rattle.odd_library.specs.declared.library.Component.{Component}
 use Rattle.odd_library.specs.declared.library.Component.TheVariants as component
 use Rattle.odd_library.specs.declared.library.ElementPart.{ElementPart}
 use Rattle.odd_library.specs.declared.library.Library.{Library}
-use Rattle.odd_meaning.specs.Links.{IsHeld, IsLinked, class_key, classes_of, macro_key, macros_of}
+use Rattle.odd_meaning.specs.Links.{IsHeld, IsLinked, class_key, classes_of, is_macro, macro_key, macros_of, named_in}
 use Rattle.odd_meaning.specs.Rules.{IsOfAttributes, Names}
 use Rattle.odd_classes.specs.declared.links.Link.{Link}
 use Rattle.odd_classes.specs.declared.links.Link.TheVariants as link
@@ -31,9 +32,17 @@ LeadsToItself link library key = Chained (IsLinked (keys_by link) library) key k
 abbrev pub IsEntryAt : List (Key × Component) → ℕ → Key → Component → Type 0
 IsEntryAt entries place key part = slice_get entries place ≡ Some (key, part)
 
--- the places of the keys of entries
-abbrev pub ArePlacesOf : List (Key × Component) → List (Key × ℕ) → Type 0
-ArePlacesOf entries places = (key : Key) (place : ℕ) → (find key_cmp key places ≡ Some place) ↔ ((part : Component) × IsEntryAt entries place key part)
+-- the keys of the macros that a content names
+abbrev pub macros_in : Content → List Key
+macros_in content = filter (λ key. is_macro key.kind) (named_in content)
+
+-- the entry at a place has the key
+abbrev pub IsPlaceOf : List (Key × Component) → ℕ → Key → Type 0
+IsPlaceOf entries place key = (part : Component) × IsEntryAt entries place key part
+
+-- the nodes are the places of those of the keys that have one
+abbrev pub ArePlacesOf : List (Key × Component) → List Key → List ℕ → Type 0
+ArePlacesOf entries keys nodes = (place : ℕ) → Contains nodes place ↔ ((key : Key) × StandsIn keys key × IsPlaceOf entries place key)
 
 -- an arrow leads from an entry to each that it names by the link
 pub record IsGraphOf (keys_of : Component → List Key) (entries : List (Key × Component)) (arrows : List (List ℕ)) : Type 0 where

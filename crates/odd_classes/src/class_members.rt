@@ -10,7 +10,7 @@ ghost use Rattle.odd_meaning.specs.Links.{class_key as the_class_key};
 ghost use Rattle.odd_tree.specs.Elements.{StandsIn};
 ghost use Rattle.odd_classes.specs.Placing.{IsEntryAt};
 
-use crate::graph::{places_of, turned_by};
+use crate::graph::{place_of, turned_by};
 use crate::links::Link;
 use odd_forms::sorted;
 use odd_graph::{reached, unmarked};
@@ -25,13 +25,12 @@ pub fn members(alloc: Global, library: &Library, class: &Text) -> Result<Words, 
     ensures { IfOk result (IsSet text_cmp (IsElementOf library.now class.now)) }
 {
     let entries = library.parts.entries();
-    let places = places_of(alloc, entries)?;
-    let Some(place) = places.find(&class_key(alloc, class)?) else {
+    let Some(place) = place_of(entries, &class_key(alloc, class)?) else {
         return Ok(Words::new(alloc));
     };
     let back = turned_by(alloc, Link::Classes, entries)?;
     let mut marks = unmarked(alloc, back.as_slice())?;
-    let nodes = reached(alloc, back.as_slice(), *place, &mut marks)?;
+    let nodes = reached(alloc, back.as_slice(), place, &mut marks)?;
     let idents = elements_among(alloc, entries, nodes.as_slice())?;
     sorted(alloc, idents)
 }

@@ -1,6 +1,6 @@
 ghost use Rattle.std.specs.Prelude.{◌≡◌, ℕ, Err, IsOk};
 ghost use Rattle.odd_text.specs.declared.key.Key.{Key as AKey};
-ghost use Rattle.odd_meaning.specs.Rules.{BreaksByCycle, IsFirstBreak};
+ghost use Rattle.odd_meaning.specs.Rules.{Breaks, BreaksByCycle, IsFirstBreak};
 ghost use Rattle.odd_classes.specs.Placing.{IsFirstAmong, LeadsToItself};
 
 use crate::graph::graph_by;
@@ -32,6 +32,15 @@ pub fn check_cycles(alloc: Global, library: &Library) -> Result<(), CycleRefusal
 {
     check_link(alloc, library, Link::Classes, OWN_MEMBER)?;
     check_link(alloc, library, Link::Macros, REACHES_ITSELF)
+}
+
+/// Loop is answered for the first class of a library, by ident, that is a member of itself (rule 13). NoMemory is answered for
+/// want of memory.
+pub fn check_own_members(alloc: Global, library: &Library) -> Result<(), CycleRefusal>
+    ensures none { IsOk result → (key : AKey) → Breaks library.now key 13 → ⊥ }
+    ensures first { (key : AKey) (rule : ℕ) → result ≡ Err (CycleRefusal.Loop key rule) → IsFirstAmong (λ other. Breaks library.now other 13) key }
+{
+    check_link(alloc, library, Link::Classes, OWN_MEMBER)
 }
 
 // Whether a component leads to itself by a link.

@@ -1,19 +1,13 @@
 ghost use Rattle.std.specs.Prelude.{◌≡◌, ◌↔◌, ℕ, Some, IfOk, IsTrue};
-ghost use Rattle.std.specs.FinMap.{find, is_sorted};
-ghost use Rattle.std.specs.List.{Contains};
+ghost use Rattle.std.specs.FinMap.{is_sorted};
 ghost use Rattle.odd_text.specs.Key.{key_cmp};
-ghost use Rattle.odd_text.specs.declared.key.Key.{Key as AKey};
-ghost use Rattle.odd_tree.specs.Elements.{StandsIn};
-ghost use Rattle.odd_classes.specs.Placing.{ArePlacesOf, IsGraphOf, IsTurnedGraphOf, keys_by};
+ghost use Rattle.odd_classes.specs.Placing.{ArePlacesOf, IsGraphOf, IsPlaceOf, IsTurnedGraphOf, keys_by};
 
 use crate::links::{Link, linked};
 use odd_graph::{Nodes, turned};
 use odd_library::Component;
-use odd_text::{Key, Map, NoMemory, TryCopy};
+use odd_text::{Key, NoMemory};
 use std::alloc::Global;
-
-/// For each key its place among the entries of a library, counted from 0.
-pub type Places = Map<Key, usize>;
 
 /// The graph of a library by a link: a node for each of its entries, in their order.
 pub fn graph_by(
@@ -24,10 +18,9 @@ pub fn graph_by(
     requires { IsTrue (is_sorted key_cmp entries.now) }
     ensures { IfOk result (λ arrows. IsGraphOf (keys_by link) entries.now arrows.items) }
 {
-    let places = places_of(alloc, entries)?;
     let mut arrows = Vec::new(alloc);
     for (_, part) in entries {
-        arrows.push(arrows_of(alloc, link, part, &places)?)?;
+        arrows.push(arrows_of(alloc, link, part, entries)?)?;
     }
     Ok(arrows)
 }
@@ -45,16 +38,15 @@ pub fn turned_by(
     turned(alloc, arrows.as_slice())
 }
 
-/// The places of the keys of entries.
-pub fn places_of(alloc: Global, entries: &[(Key, Component)]) -> Result<Places, NoMemory>
+/// The place of a key among entries, counted from 0.
+pub fn place_of(entries: &[(Key, Component)], key: &Key) -> Option<usize>
     requires { IsTrue (is_sorted key_cmp entries.now) }
-    ensures { IfOk result (ArePlacesOf entries.now) }
+    ensures { (place : ℕ) → (result ≡ Some place) ↔ IsPlaceOf entries.now place key.now }
 {
-    let mut places = Places::new(alloc);
-    for (place, (key, _)) in entries.iter().enumerate() {
-        places.put(key.copy(alloc)?, place)?;
+    match entries.binary_search_by(|entry| entry.0.cmp(key)) {
+        Ok(place) => Some(place),
+        Err(_) => None,
     }
-    Ok(places)
 }
 
 // The places of those that a component names by a link and that are there.
@@ -62,14 +54,15 @@ fn arrows_of(
     alloc: Global,
     link: Link,
     part: &Component,
-    places: &Places,
+    entries: &[(Key, Component)],
 ) -> Result<Nodes, NoMemory>
-    ensures { IfOk result (λ nodes. (place : ℕ) → Contains nodes place ↔ ((key : AKey) × StandsIn (keys_by link part.now) key × (find key_cmp key places.now ≡ Some place))) }
+    requires { IsTrue (is_sorted key_cmp entries.now) }
+    ensures { IfOk result (ArePlacesOf entries.now (keys_by link part.now)) }
 {
     let mut nodes = Nodes::new(alloc);
     for key in linked(alloc, link, part)?.as_slice() {
-        if let Some(place) = places.find(key) {
-            nodes.push(*place)?;
+        if let Some(place) = place_of(entries, key) {
+            nodes.push(place)?;
         }
     }
     Ok(nodes)

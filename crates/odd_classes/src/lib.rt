@@ -8,11 +8,11 @@ mod cycles;
 mod graph;
 mod links;
 mod macro_order;
-mod member_table;
+mod member_lists;
 mod rules;
 
 pub use class_members::members;
 pub use cycles::{CycleRefusal, check_cycles};
 pub use macro_order::in_macro_order;
-pub use member_table::{MemberTable, TableRefusal, members_by_class};
+pub use member_lists::{MemberTable, TableRefusal, member_table};
 pub use rules::{LibraryRefusal, check_library};

@@ -1,6 +1,6 @@
 ghost use Rattle.std.specs.Prelude.{◌≡◌, [], ◌∷◌, ◌++◌, IfOk, OnOk, flat_map, map};
-ghost use Rattle.odd_meaning.specs.Links.{class_key, classes_of, macros_of, named_by, named_in};
-ghost use Rattle.odd_classes.specs.Placing.{keys_by};
+ghost use Rattle.odd_meaning.specs.Links.{class_key, classes_of, macros_of};
+ghost use Rattle.odd_classes.specs.Placing.{keys_by, macros_in};
 
 use odd_content::{Content, Contents};
 use odd_library::Component;
@@ -53,39 +53,26 @@ fn macros(alloc: Global, part: &Component) -> Result<Keys, NoMemory>
     ensures { IfOk result (λ keys. keys ≡ macros_of part.now) }
 {
     let mut keys = Keys::new(alloc);
-    for key in named(alloc, part)?.as_slice() {
-        if key.kind == Kind::Macro {
-            keys.push(key.copy(alloc)?)?;
-        }
-    }
-    Ok(keys)
-}
-
-/// The keys that the content of an element or a macro names, at any depth.
-pub fn named(alloc: Global, part: &Component) -> Result<Keys, NoMemory>
-    ensures { IfOk result (λ keys. keys ≡ named_by part.now) }
-{
-    let mut keys = Keys::new(alloc);
     match part {
-        Component::Element(part) => push_named(alloc, &mut keys, &part.content)?,
-        Component::Macro(part) => push_named(alloc, &mut keys, &part.content)?,
+        Component::Element(part) => push_macros(alloc, &mut keys, &part.content)?,
+        Component::Macro(part) => push_macros(alloc, &mut keys, &part.content)?,
         Component::Class(_) | Component::Datatype(_) => {}
     }
     Ok(keys)
 }
 
-// Puts the keys that a content names at the end.
-#[cycle(push_named)]
-fn push_named(alloc: Global, keys: &mut Keys, content: &Content) -> Result<(), NoMemory>
-    ensures { OnOk result (keys.new ≡ keys.old ++ named_in content.now) }
+// Puts the keys of the macros that a content names, at any depth, at the end.
+#[cycle(push_macros)]
+fn push_macros(alloc: Global, keys: &mut Keys, content: &Content) -> Result<(), NoMemory>
+    ensures { OnOk result (keys.new ≡ keys.old ++ macros_in content.now) }
 {
     match content {
-        Content::Element { key, bounds: _ } => push_key(alloc, keys, Kind::Element, key),
-        Content::Class { key, .. } => push_key(alloc, keys, Kind::Class, key),
         Content::Macro { key, bounds: _ } => push_key(alloc, keys, Kind::Macro, key),
-        Content::Sequence { parts, bounds: _ } => push_named_in(alloc, keys, parts),
-        Content::Alternate { parts, bounds: _ } => push_named_in(alloc, keys, parts),
-        Content::Empty
+        Content::Sequence { parts, bounds: _ } => push_macros_of(alloc, keys, parts),
+        Content::Alternate { parts, bounds: _ } => push_macros_of(alloc, keys, parts),
+        Content::Element { .. }
+        | Content::Class { .. }
+        | Content::Empty
         | Content::Text
         | Content::Value(_)
         | Content::Vals(_)
@@ -94,12 +81,12 @@ fn push_named(alloc: Global, keys: &mut Keys, content: &Content) -> Result<(), N
 }
 
 // The same of each part.
-#[cycle(push_named)]
-fn push_named_in(alloc: Global, keys: &mut Keys, parts: &Contents) -> Result<(), NoMemory>
-    ensures { OnOk result (keys.new ≡ keys.old ++ flat_map named_in parts.now) }
+#[cycle(push_macros)]
+fn push_macros_of(alloc: Global, keys: &mut Keys, parts: &Contents) -> Result<(), NoMemory>
+    ensures { OnOk result (keys.new ≡ keys.old ++ flat_map macros_in parts.now) }
 {
     for part in parts.as_slice() {
-        push_named(alloc, keys, part)?;
+        push_macros(alloc, keys, part)?;
     }
     Ok(())
 }

@@ -1,16 +1,16 @@
-ghost use Rattle.std.specs.Prelude.{◌≡◌, ◌↔◌, ℕ, Err, IfOk, IsOk, IsTrue};
+ghost use Rattle.std.specs.Prelude.{◌≡◌, ◌↔◌, ℕ, Err, IsOk, IsTrue, flat_map};
 ghost use Rattle.odd_text.specs.declared.key.Key.{Key as AKey};
 ghost use Rattle.odd_tree.specs.Elements.{StandsIn};
 ghost use Rattle.odd_library.specs.declared.library.ClassPart.{ClassPart as AClassPart};
 ghost use Rattle.odd_library.specs.declared.library.Component.TheVariants as the_component;
-ghost use Rattle.odd_meaning.specs.Links.{named_by};
+ghost use Rattle.odd_meaning.specs.Links.{named_by, named_in};
 ghost use Rattle.odd_meaning.specs.Rules.{Breaks, IsFirstBreak};
 ghost use Rattle.odd_classes.specs.Placing.{IsFirstAmong, IsWrong, NamesWrongly};
 
 use crate::cycles::{CycleRefusal, check_cycles};
-use crate::links::named;
+use odd_content::{Content, Contents};
 use odd_library::{Component, Library};
-use odd_text::{Key, Kind, NoMemory, TryCopy};
+use odd_text::{Key, Kind, NoMemory, Text, TryCopy};
 use std::alloc::Global;
 
 /// Why a library breaks a rule.
@@ -65,7 +65,7 @@ fn check_names(
     ensures rule { (key : AKey) (given : ℕ) → result ≡ Err (LibraryRefusal.Rule key given) → given ≡ rule }
 {
     for (key, part) in library.parts.entries() {
-        if names(alloc, library, wrong, part)? {
+        if names(library, wrong, part) {
             let key = key.copy(alloc)?;
             return Err(LibraryRefusal::Rule { key, rule });
         }
@@ -74,29 +74,55 @@ fn check_names(
 }
 
 // Whether the content of a component names what it may not.
-fn names(
-    alloc: Global,
-    library: &Library,
-    wrong: WrongReference,
-    part: &Component,
-) -> Result<bool, NoMemory>
-    ensures { IfOk result (λ names. IsTrue names ↔ ((key : AKey) × StandsIn (named_by part.now) key × IsWrong library.now wrong key)) }
+fn names(library: &Library, wrong: WrongReference, part: &Component) -> bool
+    ensures { IsTrue result ↔ ((key : AKey) × StandsIn (named_by part.now) key × IsWrong library.now wrong key) }
 {
-    for key in named(alloc, part)?.as_slice() {
-        if is_wrong(library, wrong, key) {
-            return Ok(true);
-        }
+    match part {
+        Component::Element(part) => content_names(library, wrong, &part.content),
+        Component::Macro(part) => content_names(library, wrong, &part.content),
+        Component::Class(_) | Component::Datatype(_) => false,
     }
-    Ok(false)
 }
 
-// Whether a content may not name a key.
-fn is_wrong(library: &Library, wrong: WrongReference, key: &Key) -> bool
-    ensures { IsTrue result ↔ IsWrong library.now wrong key.now }
+// Whether a content does, at any depth.
+#[cycle(content_names)]
+fn content_names(library: &Library, wrong: WrongReference, content: &Content) -> bool
+    ensures { IsTrue result ↔ ((key : AKey) × StandsIn (named_in content.now) key × IsWrong library.now wrong key) }
 {
-    match (wrong, key.kind) {
-        (WrongReference::MacroNotHeld, Kind::Macro) => library.find(key).is_none(),
-        (WrongReference::OfAttributes, Kind::Class) => match library.find(key) {
+    match content {
+        Content::Class { key, .. } => is_wrong(library, wrong, Kind::Class, key),
+        Content::Macro { key, bounds: _ } => is_wrong(library, wrong, Kind::Macro, key),
+        Content::Sequence { parts, bounds: _ } => one_names(library, wrong, parts),
+        Content::Alternate { parts, bounds: _ } => one_names(library, wrong, parts),
+        Content::Element { .. }
+        | Content::Empty
+        | Content::Text
+        | Content::Value(_)
+        | Content::Vals(_)
+        | Content::Any { .. } => false,
+    }
+}
+
+// Whether one of the parts does.
+#[cycle(content_names)]
+fn one_names(library: &Library, wrong: WrongReference, parts: &Contents) -> bool
+    ensures { IsTrue result ↔ ((key : AKey) × StandsIn (flat_map named_in parts.now) key × IsWrong library.now wrong key) }
+{
+    for part in parts.as_slice() {
+        if content_names(library, wrong, part) {
+            return true;
+        }
+    }
+    false
+}
+
+// Whether a content may not name a component of a kind by an ident.
+fn is_wrong(library: &Library, wrong: WrongReference, kind: Kind, ident: &Text) -> bool
+    ensures { IsTrue result ↔ IsWrong library.now wrong (record { kind = kind; ident = ident.now }) }
+{
+    match (wrong, kind) {
+        (WrongReference::MacroNotHeld, Kind::Macro) => library.find_by(kind, ident).is_none(),
+        (WrongReference::OfAttributes, Kind::Class) => match library.find_by(kind, ident) {
             Some(part) => is_of_attributes(part),
             None => false,
         },

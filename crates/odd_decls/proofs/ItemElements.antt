@@ -1,7 +1,9 @@
 -- Which element of the table an item is, the entry that it gives, and what it breaks.
-use Rattle.std.proofs.Common.{◌≡◌, List, [], ◌++◌, drop, refl, subst, None, Some, ℕ, false, Option, IsSome, is_some, sym, ap, ◌∙◌, codes}
-use Rattle.std.proofs.lemmas.List.Elements.{All-cons, All-contains, All-nil}
+use Rattle.std.proofs.Common.{◌≡◌, List, [], ◌++◌, drop, refl, subst, None, Some, ℕ, false, Option, IsSome, is_some, sym, ap, ◌∙◌, codes, ◌∷◌, append_assoc}
+use Rattle.std.proofs.lemmas.List.Elements.{All-cons, All-contains, All-nil, All-push}
 use Rattle.std.proofs.lemmas.Option.{same_Some}
+use Rattle.std.proofs.lemmas.List.{map-append}
+use Rattle.std.specs.List.{All}
 use Rattle.std.specs.Option.{option_map}
 use Rattle.odd_content.specs.Giving.{pick_given}
 use Rattle.odd_content.specs.declared.content.Content.{Content}
@@ -19,16 +21,20 @@ use Rattle.odd_forms.specs.declared.element.Element.{Element}
 use Rattle.odd_forms.specs.declared.element.Element.TheVariants as element
 use Rattle.odd_library.specs.declared.odd.Entry.{Entry}
 use Rattle.odd_library.specs.declared.odd.Entry.TheVariants as entry
+use Rattle.odd_library.specs.declared.spec.Mode.{Mode}
+use Rattle.odd_library.specs.declared.spec.Mode.TheVariants as mode
 use Rattle.odd_members.specs.declared.membership.Membership.{Membership}
 use Rattle.odd_text.specs.declared.key.Key.{Key}
 use Rattle.odd_text.specs.declared.key.Kind.{Kind}
 use Rattle.odd_text.specs.declared.key.Kind.TheVariants as kind
 use Rattle.odd_text.specs.declared.name.Bind.{Bind}
 use Rattle.odd_tree.proofs.InList.{contained, stands_first}
-use Rattle.odd_tree.specs.Elements.{StandsIn, given, within}
+use Rattle.odd_tree.specs.Elements.{StandsIn, children_of, given, within}
 use Rattle.odd_tree.specs.declared.tree.Tree.{Tree, out-Tree}
-use Rattle.odd_decls.specs.Declares.{kind_taken, ChildrenGive, IsEntryOf, namespace_declared}
-use Rattle.odd_decls.specs.ItemReading.{reference_of, taken_of, GivesEntry, IsEntryWith, IsSpecRead}
+use Rattle.odd_decls.specs.Declares.{kind_taken, ChildrenGive, IsEntryOf, mode_given, namespace_around, namespace_declared, namespace_in}
+use Rattle.odd_decls.specs.ItemReading.{reference_of, taken_of, GivesEntry, IsEntryWith, IsSpecRead, namespace_by, namespace_with}
+use Rattle.odd_decls.specs.Items.{IsTold, trees_of}
+use Rattle.odd_decls.specs.declared.items.Item.{Item}
 use Rattle.odd_decls.specs.Offences.{IsItem, kind_declared, IsSpecOf, ItemFault}
 use Rattle.odd_decls.specs.Search.{Found}
 
@@ -110,16 +116,27 @@ key_given around item e k is declares sound none = by_value (given item (codes "
     by_value (Some word) h = broken (AttributeFault.value word h (ValueFault.malformed refl (λ named.
         none (record { kind = k; ident = word }) (record { element = e; is_item = is; of_kind = declares; ident = h; named = named }))))
 
+-- the namespace that a declaration gives in the one around it is that which it gives in its `schemaSpec`
+namespace_mode : (m : Mode) (schema item : Tree) → namespace_by m (namespace_around schema) item ≡ namespace_in m schema item
+namespace_mode mode.Add schema item = refl
+namespace_mode mode.Replace schema item = refl
+namespace_mode mode.Change schema item = refl
+namespace_mode mode.Delete schema item = refl
+
+namespace_same : (k : Kind) (schema item : Tree) → namespace_with k (mode_given item) (namespace_around schema) item ≡ namespace_declared k schema item
+namespace_same kind.Element schema item = namespace_mode (mode_given item) schema item
+namespace_same k schema item = refl
+
 -- the entry that is made of it
 entry_given : (schema item : Tree) (around : List Bind) (e : Element) (content : Option Content) (classes : Option Membership) (made : Entry) → IsItem e item
-    → ChildrenGive around e item content classes → IsEntryWith schema item content classes made → (first : Found) → first.schema ≡ schema → within first.around first.schema ≡ around
+    → ChildrenGive around e item content classes → IsEntryWith (namespace_around schema) item content classes made → (first : Found) → first.schema ≡ schema → within first.around first.schema ≡ around
     → IsEntryOf first item made
 entry_given schema item around e content classes made is gives w first same inside =
     subst (IsEntryOf first item) (sym w.is_made) (IsEntryOf.spec (record {
       is_spec = w.is_spec;
       of_mode = refl;
       of_module = refl;
-      ns = ap (λ s. namespace_declared w.key.kind s item) (sym same);
+      ns = namespace_same w.key.kind schema item ∙ ap (λ s. namespace_declared w.key.kind s item) (sym same);
       alt = refl;
       gives = refl;
       atts = w.declared;
@@ -134,7 +151,7 @@ some_declared (Some k) h = (k, refl)
 
 -- what a declaration gives that breaks nothing by its form
 pub declaration_given : (schema item : Tree) (around : List Bind) (e : Element) (made : Option Entry) → IsItem e item → IsSome (kind_declared e) → IsSound around item e
-    → IsSpecRead schema around e item made → GivesEntry schema around item made
+    → IsSpecRead (namespace_around schema) around e item made → GivesEntry schema around item made
 declaration_given schema item around e None is declares sound read =
     let k = some_declared (kind_declared e) declares in
     absurd (key_given around item e k.0 is k.1 sound read.3)
@@ -161,3 +178,17 @@ other_least around item a not = least_same (ChildFault (form_at element.SchemaSp
     back : (rule : ℕ) → ItemFault around item rule → ChildFault (form_at element.SchemaSpec) item rule
     back rule (ItemFault.misplaced f) = f
     back rule (ItemFault.deep e is f) = let no : Some e ≡ None = sym is ∙ not in cc
+
+-- the items of a `schemaSpec` so far, where the rest is still to come
+abbrev pub AreItemsSoFar : Tree → List Tree → List Item → Type 0
+AreItemsSoFar schema rest made = (trees_of made ++ rest ≡ children_of schema) × All IsTold made
+
+-- and those with the next one
+pub items_more : (schema : Tree) (rest later : List Tree) (made new : List Item) (item : Item) → AreItemsSoFar schema rest made → rest ≡ item.tree.now ∷ later → IsTold item
+    → new ≡ made ++ item ∷ [] → AreItemsSoFar schema later new
+items_more schema rest later made new item so_far is told e =
+    let trees : trees_of (made ++ item ∷ []) ≡ trees_of made ++ item.tree.now ∷ [] = map-append (λ i. i.tree.now) made (item ∷ []) in
+    rw e (
+      ap (λ ts. ts ++ later) trees ∙ append_assoc (trees_of made) (item.tree.now ∷ []) later ∙ ap (λ ts. trees_of made ++ ts) (sym is) ∙ so_far.0,
+      All-push IsTold made item so_far.1 told,
+    )

@@ -1,6 +1,10 @@
 -- The items of a `schemaSpec`, read one after the other, with their entries and their offences.
-use Rattle.std.proofs.Common.{◌≡◌, ◌≤◌, ℕ, suc, List, [], ◌∷◌, ◌++◌, Some, inl, inr, refl, sym, ap, subst, ◌∙◌, ◌<◌, ⊎_elim, append_assoc, Option, None}
-use Rattle.std.specs.BTreeSet.{BTreeSet}
+use Rattle.std.proofs.Common.{◌≡◌, ◌≤◌, ℕ, suc, List, [], ◌∷◌, ◌++◌, Some, inl, inr, refl, sym, ap, subst, ◌∙◌, ◌<◌, ⊎_elim, append_assoc, Option, None, take, drop, length, get_or, ◌+◌, ◌↔◌, ◌⊎◌, arith, Bool, IsTrue, nat_eq, if◌then◌else◌}
+use Rattle.std.proofs.lemmas.Bool.Decides.{Decides-eqb}
+use Rattle.std.proofs.lemmas.List.{length-append, length-take-le, map-append, take-append-drop, take_all}
+use Rattle.std.proofs.lemmas.Option.{same_Some}
+use Rattle.std.specs.Option.{option_eq}
+use Rattle.odd_forms.proofs.Least.{lesser_rule}
 use Rattle.odd_forms.proofs.Children.{later_stands, twice_around, twice_with}
 use Rattle.odd_forms.proofs.Children as twice
 use Rattle.odd_forms.specs.Least.{IsLeast}
@@ -8,22 +12,24 @@ use Rattle.odd_forms.specs.declared.element.Element.{Element}
 use Rattle.odd_library.specs.First.{IsNotAfter}
 use Rattle.odd_library.specs.Odd.{place_of}
 use Rattle.odd_library.specs.declared.odd.Entry.{Entry}
-use Rattle.odd_text.specs.declared.key.Key.{Key}
 use Rattle.odd_text.specs.declared.name.Bind.{Bind}
-use Rattle.odd_tree.proofs.InList.{nothing_stands, stands_around, stands_push}
+use Rattle.odd_tree.proofs.InList.{begins, ends, nothing_stands, stands_around, stands_push}
 use Rattle.odd_tree.proofs.InList as standing
 use Rattle.odd_tree.specs.Elements.{StandsIn, children_of, within}
 use Rattle.odd_tree.specs.declared.tree.Tree.{Tree, out-Tree}
-use Rattle.odd_decls.proofs.Repeats.{BreaksAfter, first_fault, place_from, rises_after, before_last, rises_first, no_keys}
+use Rattle.odd_decls.proofs.Rising.{BreaksAfter, least_after, first_fault, place_from, rises_after, before_last, rises_first}
 use Rattle.odd_decls.specs.Declares.{IsEntryOf, PlacesRise}
 use Rattle.odd_decls.specs.Declares as entries
-use Rattle.odd_decls.specs.Faults.{HoldsKeys}
+use Rattle.odd_decls.specs.Faults.{IsAgain}
 use Rattle.odd_decls.specs.ItemReading.{GivesEntry}
+use Rattle.odd_decls.specs.Repeats.{IsRepeat}
+use Rattle.odd_decls.specs.Items.{AreItemsOf, trees_of}
+use Rattle.odd_decls.specs.declared.items.Item.{Item}
 use Rattle.odd_decls.specs.Offences.{IsSpecOf, ItemFault, ItemOffends, IsItem}
 use Rattle.odd_decls.specs.Offences as offences
 use Rattle.odd_decls.specs.Reading.{IsFirstFault, Rises, AreRead, AreItemsRead}
 use Rattle.odd_decls.specs.Search.{Found}
-use Rattle.odd_decls.specs.declared.reading.ReadItems.TheVariants as items
+use Rattle.odd_decls.specs.declared.reading.ReadItems.TheVariants as items_read
 
 -- an offence of items around a place: of those before it, of the item there or of one after it
 data OffendsAround (around : List Bind) (items : List Tree) (item : Tree) (later : List Tree) (place rule : ℕ) : Type 0 where
@@ -142,22 +148,15 @@ entry_read first items es item e read is = record {
           | standing.after c h ↦ absurd (nothing_stands next (c, left, h))
         ]
 
--- the items that were passed without an offence, their keys and their entries, where the rest is still to come
-pub record ItemsSoFar (schema : Tree) (around : List Bind) (rest : List Tree) (keys : BTreeSet Key) (entries : List Entry) : Type 0 where
-  pub passed : List Tree
-  pub parted : children_of schema ≡ passed ++ rest
-  pub none : NoneOffends around passed
-  pub held : HoldsKeys passed keys
-  pub read : (first : Found) → first.schema ≡ schema → within first.around first.schema ≡ around → AreRead first passed entries
+-- the first items were passed without an offence, and read as entries
+pub record ItemsSoFar (schema : Tree) (around : List Bind) (items : List Item) (place : ℕ) (entries : List Entry) : Type 0 where
+  pub none : NoneOffends around (trees_of (take place items))
+  pub read : (first : Found) → first.schema ≡ schema → within first.around first.schema ≡ around → AreRead first (trees_of (take place items)) entries
 
 -- at first no item was passed
-pub no_items : (schema : Tree) (around : List Bind) (rest : List Tree) (keys : BTreeSet Key) (entries : List Entry) → rest ≡ children_of schema → keys.keys ≡ [] → entries ≡ []
-    → ItemsSoFar schema around rest keys entries
-no_items schema around rest keys entries all empty none = record {
-  passed = [];
-  parted = sym all;
+pub no_items : (schema : Tree) (around : List Bind) (items : List Item) (entries : List Entry) → entries ≡ [] → ItemsSoFar schema around items 0 entries
+no_items schema around items entries none = record {
   none = none_offends around;
-  held = no_keys keys empty;
   read = λ first is binds. subst (AreRead first []) (sym none) (none_read first);
 }
 
@@ -172,22 +171,109 @@ entry_more : (schema : Tree) (around : List Bind) (first : Found) (passed : List
 entry_more schema around first passed entries item None is binds read gives = other_read first passed entries item read gives
 entry_more schema around first passed entries item (Some e) is binds read gives = entry_read first passed entries item e read (gives first is binds)
 
+-- the trees of the items with the next one
+next_trees : (items : List Item) (place : ℕ) (item : Item) → place < length items → item ≡ get_or items place item → trees_of (take (place + 1) items) ≡ trees_of (take place items) ++ item.tree.now ∷ []
+next_trees items place item within is = ap trees_of (ends items place item within is) ∙ map-append (λ i. i.tree.now) (take place items) (item ∷ [])
+
+-- an item stands between those before it and those after it
+item_between : (items : List Item) (place : ℕ) (item : Item) → place < length items → item ≡ get_or items place item → items ≡ take place items ++ item ∷ drop (place + 1) items
+item_between items place item within is = sym (take-append-drop place items) ∙ ap (λ xs. take place items ++ xs) (begins items place item within is)
+
+-- what stands no later than an item is that item, or stands before it
+no_later : (xs ys a b : List Item) (k x : Item) → xs ++ k ∷ ys ≡ a ++ x ∷ b → length a ≤ length xs → ((xs ≡ a) × (k ≡ x)) ⊎ ((c : List Item) × (xs ≡ a ++ x ∷ c))
+no_later [] ys [] b k x e less = inl (refl, cc)
+no_later [] ys (y ∷ a) b k x e less = absurd (omega (arith, less))
+no_later (z ∷ xs) ys [] b k x e less = inr (xs, cc)
+no_later (z ∷ xs) ys (y ∷ a) b k x e less =
+    let head : z ≡ y = cc in
+    let tail : xs ++ k ∷ ys ≡ a ++ x ∷ b = cc in
+    ⊎_elim (λ h. inl (cc (h.0, head), h.1)) (λ h. inr (h.0, cc (h.1, head))) (no_later xs ys a b k x tail (omega (arith, less)))
+
+-- whether the first repeat is at the place
+first_at : (first : Option ℕ) (place : ℕ) → IsTrue (option_eq nat_eq first (Some place)) ↔ (first ≡ Some place)
+first_at None place = (λ t. cc, λ e. cc)
+first_at (Some first) place = (λ t. ap Some ((Decides-eqb first place).0 t), λ e. (Decides-eqb first place).1 (same_Some _ _ e))
+
+module _ (around : List Bind) (items : List Item) (place : ℕ) (item : Item) (within : place < length items) (is : item ≡ get_or items place item) where
+  -- the number of the items before
+  passed_many : length (take place items) ≡ place
+  passed_many = length-take-le place items (omega arith)
+
+  -- a repeat that is no later is the item, or one before it
+  repeat_before : (least : ℕ) (r : IsRepeat items least) → least ≤ place
+      → ((take place items ≡ r.before) × (item ≡ r.item)) ⊎ ((c : List Item) × (take place items ≡ r.before ++ r.item ∷ c))
+  repeat_before least r less =
+      no_later (take place items) (drop (place + 1) items) r.before r.after item r.item (sym (item_between items place item within is) ∙ r.parts) (omega (arith, less, passed_many, r.many))
+
+  -- the item is again where there is a repeat at its place
+  again_here : IsRepeat items place → IsAgain (trees_of (take place items)) item.tree.now
+  again_here r = ⊎_elim (λ h. rw (h.0, h.1) r.again) (λ h. absurd (omega (arith, ap length h.1 ∙ length-append r.before (r.item ∷ h.0), passed_many, r.many))) (repeat_before place r (omega arith))
+
+  -- and the other way round
+  repeat_here : IsAgain (trees_of (take place items)) item.tree.now → IsRepeat items place
+  repeat_here again = record {
+    before = take place items;
+    item = item;
+    after = drop (place + 1) items;
+    parts = item_between items place item within is;
+    many = passed_many;
+    again = again;
+  }
+
+  -- where none of the items before offends a repeat that is no later is at the place
+  repeat_there : NoneOffends around (trees_of (take place items)) → (least : ℕ) → IsRepeat items least → least ≤ place → least ≡ place
+  repeat_there none least r less = ⊎_elim (λ h. sym r.many ∙ sym (ap length h.0) ∙ passed_many) (λ h. absurd (earlier h.0 h.1)) (repeat_before least r less)
+    where
+      earlier : (c : List Item) → take place items ≡ r.before ++ r.item ∷ c → ⊥
+      earlier c e =
+          let key = r.again.0 in
+          let both = twice_with (IsSpecOf key) (trees_of r.before) (trees_of c) r.item.tree.now r.again.2 r.again.1 in
+          let parts : trees_of (take place items) ≡ trees_of r.before ++ r.item.tree.now ∷ trees_of c = ap trees_of e ∙ map-append (λ i. i.tree.now) r.before (r.item ∷ c) in
+          none (out-Tree r.item.tree.now).at 4 (rw parts (offences.twice key both refl))
+
+  -- so the first repeat tells whether the item is again
+  again_told : NoneOffends around (trees_of (take place items)) → (first : Option ℕ) → IsLeast (IsRepeat items) first
+      → (first ≡ Some place) ↔ IsAgain (trees_of (take place items)) item.tree.now
+  again_told none None least = (λ e. cc, λ again. absurd (least place (repeat_here again)))
+  again_told none (Some first) least = (
+    λ e. again_here (subst (IsRepeat items) (same_Some _ _ e) least.0),
+    λ again. ap Some (repeat_there none first least.0 (least.1 place (repeat_here again))),
+  )
+
+  -- what the item then breaks at least
+  pub again_least : NoneOffends around (trees_of (take place items)) → (first : Option ℕ) → IsLeast (IsRepeat items) first → (own repeated least : Option ℕ) (again : Bool)
+      → again ≡ option_eq nat_eq first (Some place) → IsLeast (ItemFault around item.tree.now) own → repeated ≡ (if again then Some 4 else None) → lesser_rule own repeated ≡ least
+      → IsLeast (BreaksAfter around (trees_of (take place items)) item.tree.now) least
+  again_least none first are own repeated least again e fault told sum =
+      let said = again_told none first are in
+      let at = first_at first place in
+      least_after around (trees_of (take place items)) item.tree.now own repeated least again fault (λ t. said.0 (at.0 (sym e ∙ t)), λ h. e ∙ at.1 (said.1 h)) told sum
+
 -- an item is passed
-pub item_passed : (schema : Tree) (around : List Bind) (rest later : List Tree) (keys more : BTreeSet Key) (entries new : List Entry) (item : Tree) (given : Option Entry)
-    → (so_far : ItemsSoFar schema around rest keys entries) → rest ≡ item ∷ later → IsLeast (BreaksAfter around so_far.passed item) None → HoldsKeys (so_far.passed ++ item ∷ []) more
-    → GivesEntry schema around item given → new ≡ with_entry entries given → ItemsSoFar schema around later more new
-item_passed schema around rest later keys more entries new item given so_far is sound held gives e = record {
-  passed = so_far.passed ++ item ∷ [];
-  parted = so_far.parted ∙ ap (λ ts. so_far.passed ++ ts) is ∙ sym (append_assoc so_far.passed (item ∷ []) later);
-  none = none_more around so_far.passed item so_far.none sound;
-  held = held;
-  read = λ first same binds. subst (AreRead first (so_far.passed ++ item ∷ [])) (sym e)
-      (entry_more schema around first so_far.passed entries item given same binds (so_far.read first same binds) gives);
-}
+pub item_passed : (schema : Tree) (around : List Bind) (items : List Item) (place : ℕ) (entries new : List Entry) (item : Item) (given : Option Entry)
+    → ItemsSoFar schema around items place entries → place < length items → item ≡ get_or items place item → IsLeast (BreaksAfter around (trees_of (take place items)) item.tree.now) None
+    → GivesEntry schema around item.tree.now given → new ≡ with_entry entries given → ItemsSoFar schema around items (place + 1) new
+item_passed schema around items place entries new item given so_far within is sound gives e =
+    let passed = trees_of (take place items) in
+    let next = next_trees items place item within is in
+    record {
+      none = subst (NoneOffends around) (sym next) (none_more around passed item.tree.now so_far.none sound);
+      read = λ first same binds. rw (next, e) (entry_more schema around first passed entries item.tree.now given same binds (so_far.read first same binds) gives);
+    }
 
 -- an item that breaks a rule gives the first fault
-pub item_broken : (schema : Tree) (around : List Bind) (rest later : List Tree) (keys : BTreeSet Key) (entries : List Entry) (item : Tree) (rule : ℕ)
-    → (so_far : ItemsSoFar schema around rest keys entries) → rest ≡ item ∷ later → IsLeast (BreaksAfter around so_far.passed item) (Some rule)
-    → AreItemsRead schema around (items.Broken (record { at = (out-Tree item).at; rule = rule }))
-item_broken schema around rest later keys entries item rule so_far is least =
-    first_broken around so_far.passed item later (children_of schema) rule (so_far.parted ∙ ap (λ ts. so_far.passed ++ ts) is) so_far.none least
+pub item_broken : (schema : Tree) (around : List Bind) (items : List Item) (place : ℕ) (entries : List Entry) (item : Item) (rule : ℕ) → AreItemsOf schema items
+    → ItemsSoFar schema around items place entries → place < length items → item ≡ get_or items place item → IsLeast (BreaksAfter around (trees_of (take place items)) item.tree.now) (Some rule)
+    → AreItemsRead schema around (items_read.Broken (record { at = (out-Tree item.tree.now).at; rule = rule }))
+item_broken schema around items place entries item rule are so_far within is least =
+    let later = drop (place + 1) items in
+    let all : children_of schema ≡ trees_of (take place items) ++ item.tree.now ∷ trees_of later =
+    sym are.0 ∙ ap trees_of (item_between items place item within is) ∙ map-append (λ i. i.tree.now) (take place items) (item ∷ later) in
+    first_broken around (trees_of (take place items)) item.tree.now (trees_of later) (children_of schema) rule all so_far.none least
+
+-- no item breaks a rule
+pub items_passed : (schema : Tree) (around : List Bind) (items : List Item) (place : ℕ) (entries : List Entry) → AreItemsOf schema items → ItemsSoFar schema around items place entries
+    → length items ≤ place → AreItemsRead schema around (items_read.Entries entries)
+items_passed schema around items place entries are so_far end =
+    let all : trees_of (take place items) ≡ children_of schema = ap trees_of (take_all place items end) ∙ are.0 in
+    (subst (NoneOffends around) all so_far.none, λ first same binds. subst (λ ts. AreRead first ts entries) all (so_far.read first same binds))

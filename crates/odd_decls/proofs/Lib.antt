@@ -5,6 +5,7 @@ pub mod ItemsRead
 pub mod KeysOnce
 pub mod OneDoc
 pub mod Refusing
-pub mod Repeats
+pub mod Rising
 pub mod SchemaRead
 pub mod Searched
+pub mod Tied

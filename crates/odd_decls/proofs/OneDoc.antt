@@ -34,7 +34,7 @@ use Rattle.odd_text.specs.declared.key.Kind.TheVariants as kind
 use Rattle.odd_tree.specs.Elements.{StandsIn, children_of, within}
 use Rattle.odd_tree.specs.declared.tree.Tree.{Tree, out-Tree}
 use Rattle.odd_decls.proofs.ItemElements.{reference_taken, stands_once}
-use Rattle.odd_decls.proofs.Repeats.{one_key, one_passes}
+use Rattle.odd_decls.proofs.Rising.{one_key, one_passes}
 use Rattle.odd_decls.proofs.Searched.{one_search}
 use Rattle.odd_decls.specs.Declares.{AreAttsDeclared, ChildrenGive, IsEntryOf, IsReadAs, alt_declared, content_of, kind_taken, namespace_declared, type_given, AreEntriesOf, Declares, IsDocOf, PlacesRise}
 use Rattle.odd_decls.specs.ItemReading.{reference_of, taken_of}

@@ -21,7 +21,7 @@ use Rattle.odd_tree.proofs.InList.{first_or_later, nothing_stands, stands_first,
 use Rattle.odd_tree.specs.Elements.{StandsIn, children_of, within, given}
 use Rattle.odd_tree.specs.declared.tree.Tree.{Tree, out-Tree}
 use Rattle.odd_decls.proofs.ItemsRead.{offence_stands}
-use Rattle.odd_decls.proofs.Repeats.{first_fault, place_from, rises_from}
+use Rattle.odd_decls.proofs.Rising.{first_fault, place_from, rises_from}
 use Rattle.odd_decls.proofs.Searched.{schemas_of}
 use Rattle.odd_decls.specs.Declares.{AreEntriesOf, PlacesRise, start_of}
 use Rattle.odd_decls.specs.Faults.{StandsAgain}

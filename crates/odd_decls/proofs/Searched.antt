@@ -1,5 +1,5 @@
 -- What the search finds in an element, and on the path to it, child by child; in a formed tree it is formed and rises.
-use Rattle.std.proofs.Common.{◌≡◌, List, [], ◌∷◌, ◌++◌, map, refl, sym, ap₂, ◌∙◌, ℕ, ◌+◌, true, false, Bor, reverse, Some, codes, ap, subst, append_assoc, suc, ◌≤◌, Bool, if◌then◌else◌, ⊎_elim, arith}
+use Rattle.std.proofs.Common.{◌≡◌, List, [], ◌∷◌, ◌++◌, map, refl, sym, ap₂, ◌∙◌, ℕ, true, false, Bor, reverse, Some, codes, ap, subst, append_assoc, suc, ◌≤◌, Bool, if◌then◌else◌, ⊎_elim, arith}
 use Rattle.std.proofs.lemmas.Bool.{false≢true}
 use Rattle.std.proofs.lemmas.List.{append-nil, map-append, reverse-append}
 use Rattle.odd_data.proofs.FormedTrees.{IsFormedSomewhere}

@@ -39,9 +39,13 @@ mode_named word =
 abbrev pub mode_given : Tree → Mode
 mode_given item = mode_named (unwrap_or (given item (codes "mode")) (codes "add"))
 
--- the namespace of an element in documents: its own, else that of its `schemaSpec`, else TEI's
+-- the namespace of the elements of a `schemaSpec` that give none: its own, else TEI's
+abbrev pub namespace_around : Tree → List ℕ
+namespace_around schema = unwrap_or (given schema (codes "ns")) tei_namespace
+
+-- the namespace of an element in documents: its own, else that around it
 abbrev pub namespace_given : Tree → Tree → List ℕ
-namespace_given schema item = unwrap_or (given item (codes "ns")) (unwrap_or (given schema (codes "ns")) tei_namespace)
+namespace_given schema item = unwrap_or (given item (codes "ns")) (namespace_around schema)
 
 -- the namespace that the declaration of an element gives: one that adds or replaces always gives one
 abbrev pub namespace_in : Mode → Tree → Tree → Option (List ℕ)

@@ -1,7 +1,5 @@
 -- What the parts of the search for the first fault answer.
-use Rattle.std.specs.Prelude.{◌≡◌, ◌↔◌, ℕ, List, IsTrue}
-use Rattle.std.specs.BTreeSet.{BTreeSet, contains_by}
-use Rattle.odd_text.specs.Key.{key_cmp}
+use Rattle.std.specs.Prelude.{◌≡◌, ℕ, List}
 use Rattle.odd_text.specs.declared.key.Key.{Key}
 use Rattle.odd_tree.specs.declared.tree.Tree.{Tree, out-Tree}
 use Rattle.odd_tree.specs.Elements.{StandsIn}
@@ -11,9 +9,9 @@ use Rattle.odd_decls.specs.Offences.{IsSpecOf}
 abbrev pub IsKeyIn : List Tree → Key → Type 0
 IsKeyIn items key = (item : Tree) × StandsIn items item × IsSpecOf key item
 
--- the set holds the keys of the items, and nothing else
-abbrev pub HoldsKeys : List Tree → BTreeSet Key → Type 0
-HoldsKeys items keys = (key : Key) → IsTrue (contains_by (key_cmp key) keys) ↔ IsKeyIn items key
+-- an earlier item has the item's key
+abbrev pub IsAgain : List Tree → Tree → Type 0
+IsAgain items item = (key : Key) × IsSpecOf key item × IsKeyIn items key
 
 -- one of those that come after a `schemaSpec` begins at the place, which breaks rule 4
 abbrev pub StandsAgain : List Tree → ℕ → ℕ → Type 0

@@ -1,8 +1,10 @@
 -- What the parts of the reading of an item answer.
 use Rattle.std.specs.Prelude.{◌≡◌, ℕ, List, [], Option, Some, None, codes, unwrap_or}
+use Rattle.std.specs.Borrow.{Bor}
 use Rattle.std.specs.Option.{option_map}
 use Rattle.odd_text.specs.declared.key.Key.{Key}
 use Rattle.odd_text.specs.declared.key.Kind.{Kind}
+use Rattle.odd_text.specs.declared.key.Kind.TheVariants as kind
 use Rattle.odd_text.specs.declared.name.Bind.{Bind}
 use Rattle.odd_tree.specs.Elements.{given, within}
 use Rattle.odd_tree.specs.declared.tree.Tree.{Tree, out-Tree}
@@ -12,19 +14,32 @@ use Rattle.odd_forms.specs.declared.element.Element.TheVariants as element
 use Rattle.odd_content.specs.Giving.{pick_given}
 use Rattle.odd_members.specs.declared.membership.Membership.{Membership}
 use Rattle.odd_attributes.specs.declared.att_edit.AttEdit.{AttEdit}
-use Rattle.odd_decls.specs.Declares.{AreAttsDeclared, ChildrenGive, alt_declared, IsEntryOf, kind_taken, mode_given, namespace_declared, type_given}
+use Rattle.odd_decls.specs.Declares.{AreAttsDeclared, ChildrenGive, alt_declared, IsEntryOf, kind_taken, mode_given, type_given}
 use Rattle.odd_decls.specs.Offences.{IsItem, IsSpecOf}
 use Rattle.odd_decls.specs.Search.{Found}
 use Rattle.odd_library.specs.declared.odd.Entry.TheVariants as entry
 use Rattle.odd_library.specs.declared.odd.Entry.{Entry}
+use Rattle.odd_library.specs.declared.spec.Mode.{Mode}
+use Rattle.odd_library.specs.declared.spec.Mode.TheVariants as mode
+
+-- the namespace that the declaration of an element gives, in this one; other components have none
+abbrev pub namespace_by : Mode → List ℕ → Tree → Option (List ℕ)
+namespace_by mode.Add around item = Some (unwrap_or (given item (codes "ns")) around)
+namespace_by mode.Replace around item = Some (unwrap_or (given item (codes "ns")) around)
+namespace_by mode.Change around item = given item (codes "ns")
+namespace_by mode.Delete around item = given item (codes "ns")
+
+abbrev pub namespace_with : Kind → Mode → List ℕ → Tree → Option (List ℕ)
+namespace_with kind.Element m around item = namespace_by m around item
+namespace_with k m around item = None
 
 -- the entry of a declaration with this key, and with what its children give
-abbrev pub entry_made : Tree → Tree → Key → Option Content → Option Membership → List (List ℕ × AttEdit) → Entry
-entry_made schema item key content classes atts = entry.Spec (out-Tree item).at (record {
+abbrev pub entry_made : List ℕ → Tree → Key → Option Content → Option Membership → List (List ℕ × AttEdit) → Entry
+entry_made around item key content classes atts = entry.Spec (out-Tree item).at (record {
   key = key;
   mode = mode_given item;
   «module» = unwrap_or (given item (codes "module")) [];
-  ns = namespace_declared key.kind schema item;
+  ns = namespace_with key.kind (mode_given item) around item;
   alt = alt_declared key.kind item;
   gives = type_given key.kind item;
   classes = classes;
@@ -33,21 +48,21 @@ entry_made schema item key content classes atts = entry.Spec (out-Tree item).at 
 })
 
 -- it is made of the key that the declaration has, and of the edits of attributes that it gives
-pub record IsEntryWith (schema item : Tree) (c : Option Content) (m : Option Membership) (made : Entry) : Type 0 where
+pub record IsEntryWith (around : List ℕ) (item : Tree) (c : Option Content) (m : Option Membership) (made : Entry) : Type 0 where
   pub key : Key
   pub is_spec : IsSpecOf key item
   pub atts : List (List ℕ × AttEdit)
   pub declared : AreAttsDeclared key.kind item atts
-  pub is_made : made ≡ entry_made schema item key c m atts
+  pub is_made : made ≡ entry_made around item key c m atts
 
 -- where it has a key
-abbrev pub IsEntryMade : Tree → Tree → Option Content → Option Membership → Option Entry → Type 0
-IsEntryMade schema item c m None = (key : Key) → IsSpecOf key item → ⊥
-IsEntryMade schema item c m (Some made) = IsEntryWith schema item c m made
+abbrev pub IsEntryMade : List ℕ → Tree → Option Content → Option Membership → Option Entry → Type 0
+IsEntryMade around item c m None = (key : Key) → IsSpecOf key item → ⊥
+IsEntryMade around item c m (Some made) = IsEntryWith around item c m made
 
--- what a declaration gives, by what its children do
-abbrev pub IsSpecRead : Tree → List Bind → Element → Tree → Option Entry → Type 0
-IsSpecRead schema around e item made = (c : Option Content) × (m : Option Membership) × ChildrenGive around e item c m × IsEntryMade schema item c m made
+-- what a declaration gives, by what its children do, with the namespace and the declarations around it
+abbrev pub IsSpecRead : List ℕ → List Bind → Element → Tree → Option Entry → Type 0
+IsSpecRead ns around e item made = (c : Option Content) × (m : Option Membership) × ChildrenGive around e item c m × IsEntryMade ns item c m made
 
 -- the entry of an item that refers to a component of the kind, where it has a key
 abbrev pub taken_of : Option Kind → Tree → Option Entry
@@ -68,3 +83,7 @@ GivesEntry schema inside item (Some made) = (first : Found) → first.schema ≡
 abbrev pub IsKeyOf : Tree → Option Key → Type 0
 IsKeyOf t None = (key : Key) → IsSpecOf key t → ⊥
 IsKeyOf t (Some key) = IsSpecOf key t
+
+-- the key of a kind and an ident
+abbrev pub seen_key : Option (Kind × Bor (List ℕ)) → Option Key
+seen_key given = option_map (λ p. record { kind = p.0; ident = p.1.now }) given

@@ -3,32 +3,36 @@ ghost use Rattle.odd_forms.specs.Children.{GivesOne};
 ghost use Rattle.odd_tree.specs.Elements.{all_binds, children_of, within};
 ghost use Rattle.odd_forms.specs.declared.element.Element.TheVariants as the_element;
 ghost use Rattle.odd_content.specs.Giving.{IsContentOf};
-ghost use Rattle.odd_decls.specs.Declares.{AreAttsDeclared, alt_declared as the_alt_declared, content_of as the_content_of, mode_given, mode_named as the_mode_named, namespace_in, namespace_declared as the_namespace_declared, type_given};
+ghost use Rattle.odd_decls.specs.Declares.{AreAttsDeclared, alt_declared as the_alt_declared, content_of as the_content_of, mode_given, mode_named as the_mode_named, namespace_around as the_namespace_around, type_given};
 ghost use Rattle.odd_decls.specs.Offences.{kind_declared as the_kind_declared};
-ghost use Rattle.odd_decls.specs.ItemReading.{IsEntryMade, IsKeyOf, IsSpecRead};
+ghost use Rattle.odd_decls.specs.ItemReading.{IsEntryMade, IsSpecRead, namespace_by, namespace_with};
+ghost use Rattle.odd_decls.specs.Items.{IsTold};
 
+use crate::items::{Item, key_given};
 use odd_attributes::{AttEdits, edits_given, read_alt};
 use odd_content::{Content, content_in};
-use odd_forms::{Element, TEI, child_of, child_of_kind};
+use odd_forms::{Element, TEI, child_of_kind};
 use odd_library::{Entry, Mode, Spec};
 use odd_members::{Membership, classes_given};
 use odd_text::{Key, Kind, NoMemory, Text, TryCopy};
-use odd_tree::{Bindings, Tree, attribute, entered, is_ncname};
+use odd_tree::{Bindings, Tree, attribute, entered};
 use std::alloc::Global;
 
-/// What a declaration declares, where it has a key. `around` are the declarations around it, level by level.
+/// What a declaration declares, where it has a key. `ns` is the namespace of elements that give none themselves, and `around` are
+/// the declarations around it, level by level.
 pub fn spec_entry(
     alloc: Global,
-    schema: &Tree,
+    ns: &Text,
     element: Element,
-    spec: &Tree,
+    spec: &Item<'_>,
     around: &[&Bindings],
 ) -> Result<Option<Entry>, NoMemory>
-    ensures { IfOk result (IsSpecRead schema.now (all_binds (map (λ b. b.now) around.now)) element spec.now) }
+    requires { IsTold spec.now }
+    ensures { IfOk result (IsSpecRead ns.now (all_binds (map (λ b. b.now) around.now)) element spec.now.tree.now) }
 {
-    let content = content_given(alloc, element, spec, around)?;
-    let classes = classes_given(alloc, element, spec)?;
-    entry(alloc, schema, spec, content, classes)
+    let content = content_given(alloc, element, spec.tree, around)?;
+    let classes = classes_given(alloc, element, spec.tree)?;
+    entry(alloc, ns, spec, content, classes)
 }
 
 // The content that a declaration gives, where it gives one.
@@ -64,29 +68,33 @@ fn content_of(element: Element) -> Element
 // The entry of a declaration with what its children give, where it has a key.
 fn entry(
     alloc: Global,
-    schema: &Tree,
-    item: &Tree,
+    ns: &Text,
+    spec: &Item<'_>,
     content: Option<Content>,
     classes: Option<Membership>,
 ) -> Result<Option<Entry>, NoMemory>
-    ensures { IfOk result (IsEntryMade schema.now item.now content classes) }
+    requires { IsTold spec.now }
+    ensures { IfOk result (IsEntryMade ns.now spec.now.tree.now content classes) }
 {
-    let Some(key) = key_declared(alloc, item)? else {
+    let Some((kind, ident)) = key_given(spec) else {
         return Ok(None);
     };
+    let item = spec.tree;
     let module = match attribute(&item.attrs, "module") {
         Some(module) => module.copy(alloc)?,
         None => Text::new(alloc),
     };
-    let ns = namespace_declared(alloc, key.kind, schema, item)?;
-    let alt = alt_declared(alloc, key.kind, item)?;
-    let gives = type_of(key.kind, item);
-    let atts = atts_declared(alloc, key.kind, item)?;
+    let mode = mode_of(item);
+    let ns = namespace_declared(alloc, kind, mode, ns, item)?;
+    let alt = alt_declared(alloc, kind, item)?;
+    let gives = type_of(kind, item);
+    let atts = atts_declared(alloc, kind, item)?;
+    let ident = ident.copy(alloc)?;
     Ok(Some(Entry::Spec {
         at: item.at,
         spec: Spec {
-            key,
-            mode: mode_of(item),
+            key: Key { kind, ident },
+            mode,
             module,
             ns,
             alt,
@@ -153,36 +161,44 @@ fn mode_named(word: &str) -> Mode
 fn namespace_declared(
     alloc: Global,
     kind: Kind,
-    schema: &Tree,
+    mode: Mode,
+    around: &Text,
     item: &Tree,
 ) -> Result<Option<Text>, NoMemory>
-    ensures { IfOk result (λ ns. ns ≡ the_namespace_declared kind schema.now item.now) }
+    ensures { IfOk result (λ ns. ns ≡ namespace_with kind mode around.now item.now) }
 {
     match kind {
-        Kind::Element => namespace(alloc, mode_of(item), schema, item),
+        Kind::Element => namespace(alloc, mode, around, item),
         Kind::Class | Kind::Macro | Kind::Datatype => Ok(None),
     }
 }
 
-// The namespace of an element in documents that a declaration gives: its own, and for one that adds or replaces else that of
-// its `schemaSpec`, else TEI's.
+// The namespace of an element in documents that a declaration gives: its own, and for one that adds or replaces else the one
+// around it.
 fn namespace(
     alloc: Global,
     mode: Mode,
-    schema: &Tree,
+    around: &Text,
     item: &Tree,
 ) -> Result<Option<Text>, NoMemory>
-    ensures { IfOk result (λ ns. ns ≡ namespace_in mode schema.now item.now) }
+    ensures { IfOk result (λ ns. ns ≡ namespace_by mode around.now item.now) }
 {
     if let Some(own) = attribute(&item.attrs, "ns") {
         return Ok(Some(own.copy(alloc)?));
     }
     match mode {
-        Mode::Add | Mode::Replace => match attribute(&schema.attrs, "ns") {
-            Some(default) => Ok(Some(default.copy(alloc)?)),
-            None => Ok(Some(Text::from_str(alloc, TEI)?)),
-        },
+        Mode::Add | Mode::Replace => Ok(Some(around.copy(alloc)?)),
         Mode::Change | Mode::Delete => Ok(None),
+    }
+}
+
+/// The namespace of the elements of a `schemaSpec` that give none themselves: its own, or else TEI's.
+pub fn namespace_around(alloc: Global, schema: &Tree) -> Result<Text, NoMemory>
+    ensures { IfOk result (λ ns. ns ≡ the_namespace_around schema.now) }
+{
+    match attribute(&schema.attrs, "ns") {
+        Some(own) => own.copy(alloc),
+        None => Text::from_str(alloc, TEI),
     }
 }
 
@@ -197,22 +213,4 @@ pub fn kind_declared(element: Element) -> Option<Kind>
         Element::DataSpec => Some(Kind::Datatype),
         _ => None,
     }
-}
-
-/// The key of the component that an item declares, where it declares one and its ident is an NCName. The only error is NoMemory,
-/// for want of memory.
-pub fn key_declared(alloc: Global, item: &Tree) -> Result<Option<Key>, NoMemory>
-    ensures { IfOk result (IsKeyOf item.now) }
-{
-    let Some(element) = child_of(Element::SchemaSpec.form(), item) else {
-        return Ok(None);
-    };
-    let (Some(kind), Some(ident)) = (kind_declared(element), attribute(&item.attrs, "ident")) else {
-        return Ok(None);
-    };
-    if !is_ncname(ident) {
-        return Ok(None);
-    }
-    let ident = ident.copy(alloc)?;
-    Ok(Some(Key { kind, ident }))
 }

@@ -7,6 +7,7 @@ mod items;
 mod pending;
 pub mod reading;
 mod references;
+mod repeats;
 mod searching;
 
 pub use odd_library::{

@@ -1,29 +1,27 @@
-ghost use Rattle.std.specs.Prelude.{◌≡◌, ◌↔◌, ℕ, List, [], ◌∷◌, ◌++◌, map, Err, Some, IfOk, OnOk, IsTrue, codes, unwrap_or};
+ghost use Rattle.std.specs.Prelude.{◌≡◌, ℕ, List, [], ◌∷◌, map, Err, Some, IfOk, codes, unwrap_or};
 ghost use Rattle.odd_text.specs.Text.{text_cmp};
-ghost use Rattle.odd_text.specs.declared.key.Key.{Key as AKey};
 ghost use Rattle.odd_text.specs.declared.offence.Offence.{Offence as AnOffence};
 ghost use Rattle.odd_tree.specs.Elements.{StandsIn, all_binds, given};
 ghost use Rattle.odd_tree.specs.Formed.{IsFormed};
-ghost use Rattle.odd_tree.specs.declared.tree.Tree.{Tree as ATree};
 ghost use Rattle.odd_forms.specs.Sorted.{IsSet};
 ghost use Rattle.odd_library.specs.Formed.{IsFormedDoc};
 ghost use Rattle.odd_decls.specs.Declares.{Declares, start_of};
-ghost use Rattle.odd_decls.specs.Faults.{HoldsKeys, IsKeyIn, StandsAgain};
-ghost use Rattle.odd_decls.specs.Offences.{IsOffenceOf, IsRefusal, IsSpecOf};
+ghost use Rattle.odd_decls.specs.Faults.{StandsAgain};
+ghost use Rattle.odd_decls.specs.Offences.{IsOffenceOf, IsRefusal};
 ghost use Rattle.odd_decls.specs.Pending.{IsPending};
 ghost use Rattle.odd_decls.specs.Search.{Finds, Found as AFound};
 ghost use Rattle.odd_decls.specs.Reading.{AreItemsRead, IsFirstIn, IsJoined, IsReadOrBroken, Rises};
 
-use crate::declarations::key_declared;
-use crate::items::{item_entry, item_fault};
+use crate::declarations::namespace_around;
+use crate::items::{item_entry, item_fault, items_of};
 use crate::pending::is_pending;
+use crate::repeats::first_repeat;
 use crate::searching::{binds_along, find_schemas, path_to_first};
 use odd_forms::{Element, fault_where, own_fault, sorted, words_of};
 use odd_library::{Entries, Fault, OddDoc, OddRefusal};
-use odd_text::{Key, NoMemory, Offence, Scope, Text, TryCopy, Words, lesser};
-use odd_tree::{Bindings, Tree, attribute, elements};
+use odd_text::{NoMemory, Offence, Scope, Text, TryCopy, Words, lesser};
+use odd_tree::{Bindings, Tree, attribute};
 use std::alloc::Global;
-use std::collections::BTreeSet;
 
 // Twice in one place.
 const TWICE: u8 = 4;
@@ -123,30 +121,22 @@ fn around_first(alloc: Global, tree: &Tree) -> Result<Bindings, NoMemory>
 fn read_items(alloc: Global, schema: &Tree, around: &[&Bindings]) -> Result<ReadItems, NoMemory>
     ensures { IfOk result (AreItemsRead schema.now (all_binds (map (λ b. b.now) around.now))) }
 {
-    let mut keys = BTreeSet::new(alloc);
+    let ns = namespace_around(alloc, schema)?;
+    let items = items_of(alloc, schema)?;
+    let repeat = first_repeat(alloc, items.as_slice())?;
     let mut entries = Entries::new(alloc);
-    for item in elements(schema) {
+    for (place, item) in items.iter().enumerate() {
         let fault = item_fault(alloc, item, around)?;
-        let again = is_again(alloc, &mut keys, item)?;
+        let again = repeat == Some(place);
         if let Some(rule) = lesser(fault, fault_where(again, TWICE)) {
-            return Ok(ReadItems::Broken(Fault { at: item.at, rule }));
+            let at = item.tree.at;
+            return Ok(ReadItems::Broken(Fault { at, rule }));
         }
-        if let Some(entry) = item_entry(alloc, schema, item, around)? {
+        if let Some(entry) = item_entry(alloc, &ns, item, around)? {
             entries.push(entry)?;
         }
     }
     Ok(ReadItems::Entries(entries))
-}
-
-// Whether an item has one of these keys, to which its own is added.
-fn is_again(alloc: Global, keys: &mut BTreeSet<Key>, item: &Tree) -> Result<bool, NoMemory>
-    ensures again { IfOk result (λ again. (items : List ATree) → HoldsKeys items keys.old → IsTrue again ↔ ((key : AKey) × IsSpecOf key item.now × IsKeyIn items key)) }
-    ensures keys { OnOk result ((items : List ATree) → HoldsKeys items keys.old → HoldsKeys (items ++ item.now ∷ []) keys.new) }
-{
-    match key_declared(alloc, item)? {
-        Some(key) => Ok(!keys.insert(key)?),
-        None => Ok(false),
-    }
 }
 
 // The first of those `schemaSpec` that come after one, of which there may be none.

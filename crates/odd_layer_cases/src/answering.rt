@@ -1,4 +1,4 @@
-use crate::chains::{told_chosen, told_library, told_members};
+use crate::chains::{told_chosen, told_library, told_members, told_table};
 use crate::draft::read_question;
 use crate::letters::Letters;
 use crate::patterns::told_lines;
@@ -65,6 +65,13 @@ fn chains_difference(alloc: Global, chains: &[Chain]) -> Result<Option<String>, 
 
 // What is answered of a chain otherwise than wanted.
 fn chain_difference(alloc: Global, chain: &Chain) -> Result<Option<String>, CaseFault> {
+    if let Some((limit, wanted)) = &chain.table {
+        let text = told_table(alloc, chain.docs.as_slice(), *limit)?;
+        let difference = text_difference(alloc, "table", wanted, &text)?;
+        if difference.is_some() {
+            return Ok(difference);
+        }
+    }
     if let Some(wanted) = &chain.library {
         let text = told_library(alloc, &chain.docs)?;
         let difference = text_difference(alloc, "library", wanted, &text)?;

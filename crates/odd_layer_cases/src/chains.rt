@@ -1,7 +1,7 @@
 use crate::edits::add_edits;
 use odd_case_files::add_content;
 use odd_chain::{OddDocs, merge};
-use odd_classes::members;
+use odd_classes::{MemberTable, TableRefusal, member_table, members};
 use odd_content::Content;
 use odd_forms::TEI;
 use odd_library::{ClassPart, Component, ElementPart, Library, OddDoc, OddRefusal};
@@ -27,6 +27,17 @@ pub fn told_members(alloc: Global, docs: &OddDocs) -> Result<Text, NoMemory> {
     let mut out = Text::new(alloc);
     match merged(alloc, docs) {
         Ok(library) => add_members(alloc, &mut out, &library)?,
+        Err(refusal) => add_refusal(alloc, &mut out, &refusal)?,
+    }
+    Ok(out)
+}
+
+/// The members of each class of type `model` of the library after the docs of a chain, in a table with room for so many idents,
+/// or why there is none.
+pub fn told_table(alloc: Global, docs: &[OddDoc], limit: usize) -> Result<Text, NoMemory> {
+    let mut out = Text::new(alloc);
+    match library_after(alloc, docs) {
+        Ok(library) => add_table(alloc, &mut out, &library, limit)?,
         Err(refusal) => add_refusal(alloc, &mut out, &refusal)?,
     }
     Ok(out)
@@ -94,6 +105,39 @@ fn add_members(alloc: Global, out: &mut Text, library: &Library) -> Result<(), N
             is_first = false;
             out.push_str(key.ident.as_str())?;
             add_words(out, &members(alloc, library, &key.ident)?)?;
+        }
+    }
+    Ok(())
+}
+
+// Puts a line for each class of type `model`, with its members by the table, or why there is no table.
+fn add_table(
+    alloc: Global,
+    out: &mut Text,
+    library: &Library,
+    limit: usize,
+) -> Result<(), NoMemory> {
+    match member_table(alloc, library, limit) {
+        Ok(table) => add_lists(out, library, &table),
+        Err(TableRefusal::Loop { key }) => {
+            out.push_str("loop ")?;
+            add_key(out, &key)
+        }
+        Err(TableRefusal::More) => out.push_str("more"),
+        Err(TableRefusal::NoMemory) => Err(NoMemory),
+    }
+}
+
+fn add_lists(out: &mut Text, library: &Library, table: &MemberTable) -> Result<(), NoMemory> {
+    let mut is_first = true;
+    for (key, _) in library.parts.entries() {
+        if let Some(idents) = table.of(&key.ident) {
+            if !is_first {
+                out.push('\n')?;
+            }
+            is_first = false;
+            out.push_str(key.ident.as_str())?;
+            add_words(out, idents)?;
         }
     }
     Ok(())

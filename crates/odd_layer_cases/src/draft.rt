@@ -54,6 +54,10 @@ fn put_part(alloc: Global, draft: &mut Draft, part: Part<'_>) -> Result<(), Case
             let wanted = said_answer(alloc, text)?;
             set_once(&mut last_chain(draft)?.members, wanted)
         }
+        Head::Table(limit) => {
+            let wanted = said_answer(alloc, text)?;
+            set_once(&mut last_chain(draft)?.table, (limit, wanted))
+        }
         Head::Chosen => {
             let wanted = said_answer(alloc, text)?;
             set_once(&mut last_chain(draft)?.chosen, wanted)
@@ -71,6 +75,7 @@ fn begun_chain(alloc: Global, text: &[u8]) -> Result<Chain, CaseFault> {
         docs: read_docs(alloc, text)?,
         library: None,
         members: None,
+        table: None,
         chosen: None,
     })
 }
@@ -105,7 +110,8 @@ fn finish(draft: Draft) -> Result<Question, CaseFault> {
 // The question of chains, of each of which something is asked.
 fn chains_question(chains: Vec<Chain>) -> Result<Question, CaseFault> {
     for chain in &chains {
-        if chain.library.is_none() && chain.members.is_none() && chain.chosen.is_none() {
+        let asks_members = chain.members.is_some() || chain.table.is_some();
+        if !asks_members && chain.library.is_none() && chain.chosen.is_none() {
             return Err(CaseFault::NothingAsked);
         }
     }

@@ -10,6 +10,8 @@ pub struct Chain {
     pub library: Option<Bytes>,
     /// The members of its classes.
     pub members: Option<Bytes>,
+    /// The same in a table whose lists together hold no more idents than this.
+    pub table: Option<(usize, Bytes)>,
     /// What the last chooses.
     pub chosen: Option<Bytes>,
 }

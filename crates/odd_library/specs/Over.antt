@@ -1,8 +1,6 @@
 -- Declarations laid over components, and two declarations of one key as one (TEI Guidelines, the chapter Documentation Elements).
 use Rattle.std.specs.Prelude.{◌≡◌, ℕ, List, [], ◌∷◌, Option, Some, None, unwrap_or}
 use Rattle.std.specs.Option.{option_map}
-use Rattle.odd_text.specs.declared.key.Kind.{Kind}
-use Rattle.odd_text.specs.declared.key.Kind.TheVariants as kind
 use Rattle.odd_overlay.specs.Overlaid.{joined_at}
 use Rattle.odd_overlay.specs.Tabled.{or_else}
 use Rattle.odd_members.specs.Membership.{classes_over, membership_joined}
@@ -89,16 +87,6 @@ joined_as mode.Change mode.Change a b = both_changed a b
 abbrev pub spec_joined : Spec → Spec → Spec
 spec_joined a b = joined_as a.mode b.mode a b
 
--- the kind of a component
-abbrev pub kind_of : Component → Kind
-kind_of (component.Element part) = kind.Element
-kind_of (component.Class part) = kind.Class
-kind_of (component.Macro part) = kind.Macro
-kind_of (component.Datatype part) = kind.Datatype
-
--- two specs join where they have one key, and a spec suits a component of its kind
+-- two specs join where they have one key
 abbrev pub HaveOneKey : Spec → Spec → Type 0
 HaveOneKey a b = a.key ≡ b.key
-
-abbrev pub IsOfKindOf : Spec → Component → Type 0
-IsOfKindOf spec part = kind_of part ≡ spec.key.kind

@@ -1,6 +1,6 @@
 -- Declarations laid over components one after another, and as one.
 use Rattle.std.specs.Prelude.{◌≡◌, ℕ, false, List, [], ◌∷◌, Option, Some, None, unwrap_or, refl}
-use Rattle.std.proofs.Common.{sym, ap, ◌∙◌}
+use Rattle.std.proofs.Common.{sym, ap}
 use Rattle.odd_text.specs.declared.key.Key.{Key}
 use Rattle.odd_text.specs.declared.key.Kind.{Kind}
 use Rattle.odd_text.specs.declared.key.Kind.TheVariants as kind
@@ -12,7 +12,7 @@ use Rattle.odd_members.specs.Membership.{classes_twice, membership_joined, membe
 use Rattle.odd_overlay.specs.Overlaid.{regrouped_at}
 use Rattle.odd_overlay.specs.Tabled.{or_else}
 use Rattle.odd_library.specs.Library.{component_as}
-use Rattle.odd_library.specs.Over.{HaveOneKey, IsOfKindOf, both_changed, kind_of, laid_over, module_joined, set_changed, spec_joined, spec_laid}
+use Rattle.odd_library.specs.Over.{HaveOneKey, both_changed, laid_over, module_joined, set_changed, spec_joined, spec_laid}
 use Rattle.odd_library.specs.declared.library.Component.{Component}
 use Rattle.odd_library.specs.declared.library.Component.TheVariants as component
 use Rattle.odd_library.specs.declared.spec.Mode.{Mode}
@@ -107,30 +107,6 @@ joined_in mode.Change mode.Change mode.Change a b c = both_regrouped (in_mode mo
 pub spec_regrouped : (a b c : Spec) → spec_joined (spec_joined a b) c ≡ spec_joined a (spec_joined b c)
 spec_regrouped a b c = joined_in a.mode b.mode c.mode a b c
 
-kind_as : (k : Kind) (spec : Spec) → kind_of (component_as k spec) ≡ k
-kind_as kind.Element spec = refl
-kind_as kind.Class spec = refl
-kind_as kind.Macro spec = refl
-kind_as kind.Datatype spec = refl
-
-kind_stays : (part : Component) (spec : Spec) → kind_of (laid_over part spec) ≡ kind_of part
-kind_stays (component.Element part) spec = refl
-kind_stays (component.Class part) spec = refl
-kind_stays (component.Macro part) spec = refl
-kind_stays (component.Datatype part) spec = refl
-
--- what a spec of a mode makes is of its kind
-kind_made : (m : Mode) (a : Spec) (x : Option Component) (y : Component) → ((z : Component) → x ≡ Some z → IsOfKindOf a z) → spec_laid (in_mode m a) x ≡ Some y → IsOfKindOf a y
-kind_made mode.Add a x y suits e = let is : component_as a.key.kind (in_mode mode.Add a) ≡ y = cc in sym (ap kind_of is) ∙ kind_as a.key.kind (in_mode mode.Add a)
-kind_made mode.Replace a x y suits e = let is : component_as a.key.kind (in_mode mode.Replace a) ≡ y = cc in sym (ap kind_of is) ∙ kind_as a.key.kind (in_mode mode.Replace a)
-kind_made mode.Delete a x y suits e = cc
-kind_made mode.Change a None y suits e = cc
-kind_made mode.Change a (Some z) y suits e = let is : laid_over z (in_mode mode.Change a) ≡ y = cc in sym (ap kind_of is) ∙ kind_stays z (in_mode mode.Change a) ∙ suits z refl
-
--- so each spec of its key suits it
-pub spec_made_suits : (a b : Spec) (x : Option Component) (y : Component) → HaveOneKey a b → ((z : Component) → x ≡ Some z → IsOfKindOf a z) → spec_laid a x ≡ Some y → IsOfKindOf b y
-spec_made_suits a b x y same suits e = kind_made a.mode a x y suits e ∙ ap (λ (k : Key). k.kind) same
-
 -- two specs as one have the key of one of them
 joined_key : (P : Key → Type 0) (m n : Mode) (a b : Spec) → P a.key → P b.key → P (spec_joined (in_mode m a) (in_mode n b)).key
 joined_key P m mode.Add a b h k = k
@@ -146,6 +122,3 @@ spec_joined_leads a b c h k l = joined_key (λ key. key ≡ c.key) a.mode b.mode
 
 pub spec_joined_follows : (a b c : Spec) → HaveOneKey b c → HaveOneKey a b → HaveOneKey a c → HaveOneKey a (spec_joined b c)
 spec_joined_follows a b c h k l = joined_key (λ key. a.key ≡ key) b.mode c.mode b c k l
-
-pub spec_joined_suits : (a b : Spec) (x : Component) → HaveOneKey a b → IsOfKindOf a x → IsOfKindOf b x → IsOfKindOf (spec_joined a b) x
-spec_joined_suits a b x h k l = joined_key (λ key. kind_of x ≡ key.kind) a.mode b.mode a b k l

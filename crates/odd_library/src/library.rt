@@ -11,7 +11,8 @@ use odd_attributes::AttEdits;
 use odd_content::Content;
 use odd_forms::TEI;
 use odd_members::classes_over;
-use odd_text::{Key, Kind, Map, NoMemory, Text, TryCopy, Words};
+use odd_tables::Table;
+use odd_text::{Key, Kind, NoMemory, Text, TryCopy, Words};
 use std::alloc::Global;
 
 /// An element of a library: its module, which may be empty, its namespace in documents and its name there, where that is not
@@ -180,7 +181,7 @@ impl TryCopy for Component {
 }
 
 /// The components of a library by key.
-pub type Parts = Map<Key, Component>;
+pub type Parts = Table<Key, Component>;
 
 /// The components that a chain of files gives, with the last file's ident and start words.
 #[derive(Drop)]
@@ -188,6 +189,19 @@ pub struct Library {
     pub ident: Text,
     pub start: Words,
     pub parts: Parts,
+}
+
+impl TryCopy for Library {
+    fn copy(&self, alloc: Global) -> Result<Library, NoMemory> {
+        let ident = self.ident.copy(alloc)?;
+        let start = self.start.copy(alloc)?;
+        let parts = self.parts.copy(alloc)?;
+        Ok(Library {
+            ident,
+            start,
+            parts,
+        })
+    }
 }
 
 impl Library {

@@ -1,8 +1,7 @@
 ghost use Rattle.std.specs.Prelude.{◌≡◌, IfOk};
-ghost use Rattle.std.specs.Option.{ForSome};
 ghost use Rattle.odd_library.specs.Formed.{IsFormedPart, IsFormedSpec};
-ghost use Rattle.odd_library.specs.Over.{HaveOneKey, IsOfKindOf, both_changed as the_both_changed, class_laid_over, element_laid_over, laid_over as the_laid_over, module_joined as the_module_joined, other_laid_over, set_changed as the_set_changed, spec_joined, spec_laid};
-ghost use Rattle.odd_library.specs.OverLaws.{spec_made_suits, spec_joined_follows, spec_joined_leads, spec_joined_suits, spec_one_by_one, spec_regrouped};
+ghost use Rattle.odd_library.specs.Over.{HaveOneKey, both_changed as the_both_changed, class_laid_over, element_laid_over, laid_over as the_laid_over, module_joined as the_module_joined, other_laid_over, set_changed as the_set_changed, spec_joined, spec_laid};
+ghost use Rattle.odd_library.specs.OverLaws.{spec_joined_follows, spec_joined_leads, spec_one_by_one, spec_regrouped};
 
 use crate::library::{ClassPart, Component, ElementPart, OtherPart};
 use crate::spec::{Mode, Spec};
@@ -12,13 +11,13 @@ use odd_text::{NoMemory, Text};
 use std::alloc::Global;
 
 /// Declarations that add, replace or delete stand alone, and one that changes is laid over what was declared before it. Two
-/// join where they have one key, and one suits a component of its key's kind.
+/// join where they have one key, and one suits each component: the library before a file may be any.
 impl Overlay for Spec {
     type Base = Component;
 
     ghost joins = { HaveOneKey };
 
-    ghost suits = { IsOfKindOf };
+    ghost suits = { λ spec part. Unit {0} };
 
     ghost joined = { spec_joined };
 
@@ -34,7 +33,6 @@ impl Overlay for Spec {
     }
 
     fn over(self, alloc: Global, base: Option<Component>) -> Result<Option<Component>, NoMemory>
-        requires { ForSome base (IsOfKindOf self) }
         ensures { IfOk result (λ made. made ≡ spec_laid self base) }
     {
         match self.mode {
@@ -51,13 +49,13 @@ impl Overlay for Spec {
 
     ghost regrouped = { λ a b c h k. spec_regrouped a b c };
 
-    ghost made_suits = { spec_made_suits };
+    ghost made_suits = { λ a b x y h k e. tt };
 
     ghost joined_leads = { spec_joined_leads };
 
     ghost joined_follows = { spec_joined_follows };
 
-    ghost joined_suits = { spec_joined_suits };
+    ghost joined_suits = { λ a b x h k l. tt };
 }
 
 /// A component with a declaration that changes it laid over it: its module stays, as does the type of a class; of memberships

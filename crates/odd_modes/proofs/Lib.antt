@@ -1,5 +1,10 @@
+pub mod ActByAct
+pub mod ByKey
+pub mod Finds
 pub mod Formed
 pub mod HeldEntries
 pub mod ItemFaults
+pub mod Layering
+pub mod LayerActs
 pub mod SpecAt
 pub mod TextSets

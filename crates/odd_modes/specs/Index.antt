@@ -1,5 +1,5 @@
 -- What the references of a file are kept as, and what is told of items one after another.
-use Rattle.std.specs.Prelude.{◌≡◌, ◌↔◌, ℕ, Bool, true, false, ◌||◌, not, List, filter, map, Option, Some, None, IsSome, IsTrue}
+use Rattle.std.specs.Prelude.{◌≡◌, ◌↔◌, ℕ, Bool, true, false, ◌||◌, not, List, filter, map, Option, Some, None, if◌then◌else◌, IsTrue}
 use Rattle.std.specs.Borrow.{Bor}
 use Rattle.std.specs.BTreeMap.{get_by}
 use Rattle.std.specs.BTreeSet.{BTreeSet, contains, contains_by}
@@ -12,18 +12,18 @@ use Rattle.odd_tokens.specs.Same.{is_same}
 use Rattle.odd_library.specs.First.{IsFirstOf}
 use Rattle.odd_library.specs.Library.{module_of}
 use Rattle.odd_library.specs.Odd.{place_of}
-use Rattle.odd_library.specs.Over.{declared}
 use Rattle.odd_library.specs.declared.fault.Fault.{Fault}
 use Rattle.odd_library.specs.declared.library.Component.{Component}
 use Rattle.odd_library.specs.declared.library.Library.{Library}
 use Rattle.odd_library.specs.declared.odd.Entry.{Entry}
 use Rattle.odd_library.specs.declared.spec.Spec.{Spec}
-use Rattle.odd_modes.specs.After.{spec_at}
 use Rattle.odd_modes.specs.Choosing.{is_referred}
 use Rattle.odd_modes.specs.Offences.{IsOfModule}
 use Rattle.odd_modes.specs.declared.named.Named.{Named}
 use Rattle.odd_modes.specs.declared.named.Named.TheVariants as named
 use Rattle.odd_modes.specs.declared.references.References.{References}
+use Rattle.odd_modes.specs.declared.sweeping.Act.{Act}
+use Rattle.odd_modes.specs.declared.sweeping.Act.TheVariants as act
 
 -- the set has the text
 abbrev pub has_text : BTreeSet (Bor (List ℕ)) → List ℕ → Bool
@@ -67,14 +67,15 @@ abbrev pub is_of_module : Option Component → List ℕ → Bool
 is_of_module None name = false
 is_of_module (Some part) name = is_same (module_of part) name
 
--- an item declares something at the key
-abbrev pub IsKeyOfSpec : List Entry → Key → Type 0
-IsKeyOfSpec entries key = IsSome (spec_at entries key)
+-- what is held at the key is kept where a reference is listed to it
+abbrev pub kept_at : References → Key → Option Component → Option (Act Spec)
+kept_at references key None = None
+kept_at references key (Some part) = if is_listed references key part then Some act.Keep else None
 
--- what is held where there is this spec or none, over what was held and stays
-abbrev pub over : Option Spec → Option Component → Option Component
-over None held = held
-over (Some spec) held = declared spec.mode spec held
+-- a declaration is put in place of another act
+abbrev pub put_over : Option Spec → Option (Act Spec) → Option (Act Spec)
+put_over None other = other
+put_over (Some spec) other = Some (act.Put spec)
 
 -- the fault of an item that breaks a rule
 abbrev pub fault_of : Entry → Option ℕ → Option Fault

@@ -1,5 +1,6 @@
 pub mod After
 pub mod Choosing
-pub mod Fronts
 pub mod Index
+pub mod Layering
 pub mod Offences
+pub mod Swept

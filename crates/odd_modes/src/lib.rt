@@ -4,13 +4,14 @@
 
 mod editing;
 mod faults;
-mod fronted;
+mod layer;
 mod named;
 mod references;
 mod selecting;
-mod specs_by_key;
 mod stepping;
+mod sweeping;
 
 pub use editing::edit;
 pub use selecting::select;
-pub use stepping::step;
+pub use stepping::{step, step_into};
+pub use sweeping::{Act, sweep};

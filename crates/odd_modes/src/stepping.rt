@@ -1,26 +1,26 @@
-ghost use Rattle.std.specs.Prelude.{◌≡◌, ◌≢◌, ◌↔◌, ◌⊎◌, ℕ, List, [], ◌∷◌, ◌++◌, Err, Some, IfOk, IsOk, OnOk, IsTrue};
+ghost use Rattle.std.specs.Prelude.{◌≡◌, ◌≢◌, ◌<◌, ℕ, List, [], ◌∷◌, ◌++◌, Err, IfOk, IsOk, IsTrue};
 ghost use Rattle.std.specs.FinMap.{find, is_sorted};
-ghost use Rattle.std.specs.Option.{option_copied};
 ghost use Rattle.odd_text.specs.Key.{key_cmp};
 ghost use Rattle.odd_text.specs.declared.key.Key.{Key as AKey};
 ghost use Rattle.odd_text.specs.declared.offence.Offence.{Offence as AnOffence};
-ghost use Rattle.odd_tree.specs.Elements.{StandsIn};
 ghost use Rattle.odd_library.specs.Formed.{IsFormedDoc, IsFormedLibrary};
+ghost use Rattle.odd_library.specs.Over.{spec_laid};
 ghost use Rattle.odd_library.specs.declared.odd.OddDoc.{OddDoc as ADoc};
-ghost use Rattle.odd_library.specs.Over.{declared as the_declared};
 ghost use Rattle.odd_modes.specs.After.{IsLibraryAfter, after_one};
-ghost use Rattle.odd_modes.specs.Index.{AreReferencesOf, IsKeyOfSpec, over};
+ghost use Rattle.odd_modes.specs.Index.{AreReferencesOf};
 ghost use Rattle.odd_modes.specs.Offences.{IsFirstOffence, Offends};
+ghost use Rattle.odd_modes.specs.Swept.{swept_at};
 
-use crate::editing::edit;
 use crate::faults::first_fault;
-use crate::fronted::{FrontedKey, in_order};
+use crate::layer::layer_of;
 use crate::references::References;
-use crate::selecting::chosen_keys;
-use crate::specs_by_key::specs_by_key;
-use odd_library::{Component, Entry, Library, Mode, OddDoc, OddRefusal, Parts, Spec};
-use odd_text::{Keys, NoMemory, TryCopy};
+use crate::sweeping::{Act, sweep};
+use odd_library::{Library, OddDoc, OddRefusal, Parts, Spec};
+use odd_tables::{Steps, Table};
+use odd_text::{Key, NoMemory, TryCopy};
 use std::alloc::Global;
+use std::marker::Brand;
+use std::sync::ledger::{Blank, Ledger};
 
 /// The library after a file, which is number `file` of its chain, counted from 1, over the library after the files before
 /// it (docs/merging.md). Offence is answered for the first item by place that breaks a rule, with the least that it
@@ -39,13 +39,29 @@ pub fn step(
     ensures offence { (offence : AnOffence) → result ≡ Err (OddRefusal.Offence offence) → IsFirstOffence (Offends library.now doc.now) file offence }
     ensures read { result ≢ Err OddRefusal.NotYet }
 {
+    step_into(alloc, library.copy(alloc)?, doc, file)
+}
+
+/// As `step`, with the library moved in: what the file keeps of it is moved, and not copied.
+pub fn step_into(
+    alloc: Global,
+    library: Library,
+    doc: &OddDoc,
+    file: u32,
+) -> Result<Library, OddRefusal>
+    ensures library { IfOk result (λ made. (docs : List ADoc) → IsLibraryAfter docs library → IsLibraryAfter (docs ++ doc.now ∷ []) made) }
+    ensures formed { IsFormedLibrary library → IsFormedDoc doc.now → IfOk result IsFormedLibrary }
+    ensures sound { IsOk result → (place rule : ℕ) → Offends library doc.now place rule → ⊥ }
+    ensures offence { (offence : AnOffence) → result ≡ Err (OddRefusal.Offence offence) → IsFirstOffence (Offends library doc.now) file offence }
+    ensures read { result ≢ Err OddRefusal.NotYet }
+{
     let references = References::among(alloc, doc.entries.as_slice())?;
-    if let Some(fault) = first_fault(alloc, library, &references, doc)? {
+    if let Some(fault) = first_fault(alloc, &library, &references, doc)? {
         return Err(OddRefusal::Offence(fault.in_file(file)));
     }
-    let parts = parts_after(alloc, library, &references, doc)?;
     let ident = doc.ident.copy(alloc)?;
     let start = doc.start.copy(alloc)?;
+    let parts = parts_after(alloc, library, &references, doc)?;
     Ok(Library {
         ident,
         start,
@@ -56,66 +72,39 @@ pub fn step(
 // What the library after a file holds.
 fn parts_after(
     alloc: Global,
-    library: &Library,
+    library: Library,
     references: &References<'_>,
     doc: &OddDoc,
 ) -> Result<Parts, NoMemory>
     requires { AreReferencesOf doc.now.entries references.now }
     ensures rising { IfOk result (λ parts. IsTrue (is_sorted key_cmp parts)) }
-    ensures holds { IfOk result (λ parts. (key : AKey) → find key_cmp key parts ≡ after_one doc.now key (find key_cmp key library.now.parts)) }
+    ensures holds { IfOk result (λ parts. (key : AKey) → find key_cmp key parts ≡ after_one doc.now key (find key_cmp key library.parts)) }
 {
-    let specs = specs_by_key(alloc, doc.entries.as_slice())?;
-    let mut keys = chosen_keys(alloc, library, references)?;
-    add_keys(alloc, &mut keys, doc.entries.as_slice())?;
-    let keys = in_order(alloc, &keys)?;
-    let mut parts = Parts::new(alloc);
-    for key in keys.as_slice() {
-        let spec = specs.get(&FrontedKey::of(alloc, key)?).copied();
-        if let Some(part) = part_after(alloc, library.find(key), spec)? {
-            parts.put(key.copy(alloc)?, part)?;
-        }
-    }
+    let layer = layer_of(alloc, &library, references, doc.entries.as_slice())?;
+    let parts = swept(alloc, library.parts, layer)?;
+    let _ = parts.entries();
     Ok(parts)
 }
 
-// Adds the keys of declarations.
-fn add_keys(alloc: Global, keys: &mut Keys, entries: &[Entry]) -> Result<(), NoMemory>
-    ensures { OnOk result ((key : AKey) → StandsIn keys.new key ↔ (StandsIn keys.old key ⊎ IsKeyOfSpec entries.now key)) }
+// The acts laid over the parts, with no count kept.
+fn swept(alloc: Global, parts: Parts, layer: Table<Key, Act<Spec>>) -> Result<Parts, NoMemory>
+    ensures { IfOk result (λ made. (key : AKey) → find key_cmp key made ≡ swept_at spec_laid (find key_cmp key layer) (find key_cmp key parts)) }
 {
-    for entry in entries {
-        if let Entry::Spec { at: _, spec } = entry {
-            keys.push(spec.key.copy(alloc)?)?;
-        }
-    }
-    Ok(())
+    counted::<Brand>(alloc, parts, layer, Blank::new(1))
 }
 
-// What is held at a key after a file that has this declaration for it, or has none and chooses what was held.
-fn part_after(
+// The same with a count of the steps.
+fn counted<L: Ledger>(
     alloc: Global,
-    held: Option<&Component>,
-    spec: Option<&Spec>,
-) -> Result<Option<Component>, NoMemory>
-    ensures { IfOk result (λ made. made ≡ over (option_copied spec.entry) (option_copied held.entry)) }
+    parts: Parts,
+    layer: Table<Key, Act<Spec>>,
+    blank: Blank,
+) -> Result<Parts, NoMemory>
+    requires name { blank.name ≡ L.name }
+    requires parts { blank.parts ≡ L.parts }
+    requires some { 0 < blank.parts }
+    ensures { IfOk result (λ made. (key : AKey) → find key_cmp key made ≡ swept_at spec_laid (find key_cmp key layer) (find key_cmp key parts)) }
 {
-    match (spec, held) {
-        (None, None) => Ok(None),
-        (None, Some(part)) => Ok(Some(part.copy(alloc)?)),
-        (Some(spec), held) => declared(alloc, held, spec),
-    }
-}
-
-// What is held at a key after a declaration for it, over what was held.
-fn declared(
-    alloc: Global,
-    held: Option<&Component>,
-    spec: &Spec,
-) -> Result<Option<Component>, NoMemory>
-    ensures { IfOk result (λ made. made ≡ the_declared spec.now.mode spec.now (option_copied held.entry)) }
-{
-    match (spec.mode, held) {
-        (Mode::Add | Mode::Replace, _) => Ok(Some(Component::of(alloc, spec.copy(alloc)?)?)),
-        (Mode::Change, Some(part)) => Ok(Some(edit(alloc, part.copy(alloc)?, spec)?)),
-        (Mode::Change, None) | (Mode::Delete, _) => Ok(None),
-    }
+    let mut steps = Steps::<L>::start(blank);
+    sweep(alloc, parts, layer, &mut steps)
 }

@@ -1,10 +1,16 @@
+ghost use Rattle.std.specs.Prelude.{◌≡◌, ◌<◌};
+
 use crate::fault::{Fault, wants};
 use crate::making::{key_of, name_of, only, word};
 use odd_base::{
     Bind, Bytes, Calls, File, Files, Key, Kind, Map, MemShelf, MemSink, Name, NoMemory, Offence,
-    Scope, Seq, Shelf, ShelfFault, Sink, SinkFault, SlurpRefusal, Text, TryCopy, Who, Words, slurp,
+    Ranked, Scope, Seq, Shelf, ShelfFault, Sink, SinkFault, SlurpRefusal, Steps, Table, Text,
+    TryCopy, Who, Words, slurp,
 };
 use std::alloc::Global;
+use std::cmp::Ordering;
+use std::marker::Brand;
+use std::sync::ledger::{Blank, Ledger};
 
 /// The names of odd_base.
 pub fn names(alloc: Global) -> Result<&'static str, Fault> {
@@ -12,13 +18,16 @@ pub fn names(alloc: Global) -> Result<&'static str, Fault> {
     call_copies(alloc)?;
     call_list(alloc)?;
     call_map(alloc)?;
+    call_table(alloc)?;
+    call_rank::<Brand>(alloc, Blank::new(1))?;
     call_shelf(alloc)?;
     call_sink(alloc)?;
     Ok(
-        "odd_base: NoMemory Bytes Text Name Bind Scope Kind Key Keys Words Names Who Offence Seq Map TryCopy SlurpRefusal \
+        "odd_base: NoMemory Bytes Text Name Bind Scope Kind Key Keys Words Names Who Offence Seq Map Ranked Steps Table TryCopy SlurpRefusal \
         ShelfFault SinkFault Shelf Sink File Files Calls MemShelf MemSink\n  \
         Bytes::from_slice Bytes::as_slice Text::from_str Text::as_str Name::same Text::copy Name::copy Key::copy Words::copy \
-        Seq::new Seq::push Seq::len Seq::get Map::new Map::put Map::find Map::len Map::key Map::value slurp MemShelf::new \
+        Seq::new Seq::push Seq::len Seq::get Map::new Map::put Map::find Map::len Map::key Map::value \
+        Ranked::rank Table::new Table::push Table::len Table::key Table::value Table::pop_last slurp MemShelf::new \
         Shelf::begin Shelf::read MemSink::new MemSink::written Sink::put",
     )
 }
@@ -116,4 +125,24 @@ impl From<SlurpRefusal> for Fault {
             SlurpRefusal::NoMemory => Fault::NoMemory,
         }
     }
+}
+
+fn call_table(alloc: Global) -> Result<(), Fault> {
+    let mut table: Table<Key, usize> = Table::new(alloc);
+    table.push(key_of(alloc, Kind::Element, "a")?, 5)?;
+    wants(table.len() == 1)?;
+    wants(table.key(0).map_or("", |key| key.ident.as_str()) == "a")?;
+    wants(table.value(0) == Some(&5))?;
+    wants(table.pop_last().is_some())
+}
+
+fn call_rank<L: Ledger>(alloc: Global, blank: Blank) -> Result<(), Fault>
+    requires name { blank.name ≡ L.name }
+    requires parts { blank.parts ≡ L.parts }
+    requires some { 0 < blank.parts }
+{
+    let mut steps = Steps::<L>::start(blank);
+    let one = key_of(alloc, Kind::Element, "b")?;
+    let other = key_of(alloc, Kind::Class, "a")?;
+    wants(Ranked::rank(&one, &other, &mut steps) == Ordering::Less)
 }

@@ -8,6 +8,7 @@ use odd_decls::{
     ClassMarks, ClassPart, Component, ElementPart, Entries, Entry, Library, Membership, Mode,
     OddDoc, OddRefusal, OtherPart, Parts, Spec, read_odd,
 };
+use odd_modes::step;
 use std::alloc::Global;
 
 /// A file that declares a class, a macro and an element.
@@ -18,7 +19,12 @@ pub const SOURCE: &str = "<schemaSpec xmlns='http://www.tei-c.org/ns/1.0' ident=
     <content><classRef key='c' minOccurs='0'/><macroRef key='k'/></content></elementSpec>\
     </schemaSpec>";
 
-/// A file over it, which takes the class and changes the element.
+// A file that declares a class that is a member of itself, and a macro.
+const LOOP: &str = "<schemaSpec xmlns='http://www.tei-c.org/ns/1.0' ident='l' start='a'>\
+    <classSpec ident='c' type='model'><classes><memberOf key='c'/></classes></classSpec>\
+    <macroSpec ident='k'><content><textNode/></content></macroSpec></schemaSpec>";
+
+/// A file over the first, which takes the class and changes the element.
 pub const CUSTOM: &str = "<schemaSpec xmlns='http://www.tei-c.org/ns/1.0' ident='t' start='a'>\
     <moduleRef key='m' include='a'/><classRef key='c'/>\
     <elementSpec ident='a' mode='change'><content/></elementSpec></schemaSpec>";
@@ -78,7 +84,9 @@ pub fn element(alloc: Global) -> Result<Component, NoMemory> {
 
 fn call_component(alloc: Global) -> Result<(), Fault> {
     let element = element(alloc)?;
-    wants(classes_in(&element.copy(alloc)?) == 1)
+    wants(classes_in(&element.copy(alloc)?) == 1)?;
+    wants(classes_in(&class(alloc)?) == 0)?;
+    wants(classes_in(&text(alloc)) == 0)
 }
 
 /// How many classes an element is a member of.
@@ -133,19 +141,8 @@ fn changes(spec: &Spec) -> bool {
 }
 
 /// A library of a class that is a member of itself, and of a macro.
-pub fn library(alloc: Global) -> Result<Library, NoMemory> {
-    Ok(Library {
-        ident: Text::from_str(alloc, "l")?,
-        start: word(alloc, "a")?,
-        parts: parts(alloc)?,
-    })
-}
-
-fn parts(alloc: Global) -> Result<Parts, NoMemory> {
-    let mut parts = Parts::new(alloc);
-    parts.put(key_of(alloc, Kind::Class, "c")?, class(alloc)?)?;
-    parts.put(key_of(alloc, Kind::Macro, "k")?, text(alloc))?;
-    Ok(parts)
+pub fn library(alloc: Global) -> Result<Library, Fault> {
+    Ok(step(alloc, &Library::empty(alloc)?, &doc_of(alloc, LOOP)?, 1)?)
 }
 
 fn class(alloc: Global) -> Result<Component, NoMemory> {
@@ -165,7 +162,8 @@ fn text(alloc: Global) -> Component {
 }
 
 fn call_library(alloc: Global) -> Result<(), Fault> {
-    wants(Library::empty(alloc)?.parts.len() == 0)?;
+    let parts: Parts = Library::empty(alloc)?.parts;
+    wants(parts.len() == 0)?;
     let key = key_of(alloc, Kind::Macro, "k")?;
     wants(library(alloc)?.find(&key).is_some())
 }

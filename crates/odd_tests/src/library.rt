@@ -5,9 +5,12 @@ use odd_attributes::AttEdits;
 use odd_classes::check_library;
 use odd_content::Content;
 use odd_layer_tests::making::{key, many_words, text};
-use odd_library::{ClassPart, Component, ElementPart, Library, Mode, OtherPart, Spec};
+use odd_library::{
+    ClassPart, Component, ElementPart, Entries, Entry, Library, Mode, OddDoc, OtherPart, Spec,
+};
 use odd_members::Membership;
-use odd_text::{Kind, NoMemory, Text, TryCopy, Who, Words};
+use odd_modes::step_into;
+use odd_text::{Key, Kind, NoMemory, Text, TryCopy, Who, Words};
 use rng_emit::print_rng;
 use std::alloc::Global;
 use std::test::Fail;
@@ -26,15 +29,42 @@ fn element(alloc: Global, content: Content) -> Result<ElementPart, NoMemory> {
     })
 }
 
-// The empty library with the elements of some idents.
+// The library after a file that adds the elements of some idents.
 fn library_with(alloc: Global, idents: Words) -> Result<Library, NoMemory> {
-    let mut library = Library::empty(alloc)?;
+    let mut entries = Entries::new(alloc);
+    let mut at = 0u64;
     for ident in idents.into_items() {
-        let key = key(alloc, Kind::Element, ident.as_str())?;
-        let part = Component::Element(element(alloc, Content::Text)?);
-        library.parts.put(key, part)?;
+        let spec = added(alloc, ident)?;
+        entries.push(Entry::Spec { at, spec })?;
+        at = at.saturating_add(1);
     }
-    Ok(library)
+    let doc = OddDoc {
+        ident: text(alloc, "s")?,
+        start: words_of(alloc, "a")?,
+        entries,
+    };
+    match step_into(alloc, Library::empty(alloc)?, &doc, 1) {
+        Ok(library) => Ok(library),
+        Err(_) => Err(NoMemory),
+    }
+}
+
+// The declaration that adds an element of TEI's namespace and of no module.
+fn added(alloc: Global, ident: Text) -> Result<Spec, NoMemory> {
+    Ok(Spec {
+        key: Key {
+            kind: Kind::Element,
+            ident,
+        },
+        mode: Mode::Add,
+        module: Text::new(alloc),
+        ns: Some(text(alloc, TEI)?),
+        alt: None,
+        gives: None,
+        classes: None,
+        content: Some(Content::Text),
+        atts: AttEdits::new(alloc),
+    })
 }
 
 fn words_of(alloc: Global, text: &str) -> Result<Words, NoMemory> {
@@ -86,8 +116,7 @@ fn a_library_compiles_with_any_number_of_start_words(rt: HostRuntime) -> Result<
 #[test]
 fn a_large_library_is_copied_and_compiles(rt: HostRuntime) -> Result<(), Fail> {
     let words = many_words(rt.alloc(), 1000)?;
-    let mut library = library_with(rt.alloc(), words.copy(rt.alloc())?)?;
-    library.parts = library.parts.copy(rt.alloc())?;
+    let library = library_with(rt.alloc(), words.copy(rt.alloc())?)?.copy(rt.alloc())?;
     let schema = schema_from(rt.alloc(), &library, &words)?;
     assert_eq!(rt; schema.as_str().matches("<ref name=\"e.w1").count(), 1000);
     assert_eq!(rt; schema.as_str().matches("<element name=\"w1").count(), 1000);
@@ -100,7 +129,7 @@ fn the_empty_library_has_a_start_word_alone(rt: HostRuntime) -> Result<(), Fail>
     assert_eq!(rt; library.ident.as_str(), "bare");
     assert_eq!(rt; library.start.len(), 1);
     assert_eq!(rt; library.start.get(0).map(|word| word.as_str()), Some("TEI"));
-    assert!(rt; library.parts.is_empty());
+    assert!(rt; library.parts.len() == 0);
     Ok(())
 }
 

@@ -1,6 +1,6 @@
 use Rattle.std.proofs.Common.{take}
-use Rattle.odd_classes.proofs.Linked.{AreNodes}
+use Rattle.odd_classes.specs.Placing.{ArePlacesOf}
 use Rattle.odd_classes.proofs.graph.arrows_of.Given as goal
 
 abbrev pub invariant-loop-key : goal.invariant-loop-key
-invariant-loop-key l = AreNodes l.places (take l.key-index l.key-items) l.nodes
+invariant-loop-key l = ArePlacesOf l.entries (take l.key-index l.key-items) l.nodes

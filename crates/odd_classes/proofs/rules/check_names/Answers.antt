@@ -19,14 +19,14 @@ entry : (library : Library) (items : List (Key × Component)) (at : ℕ) (item :
     → item ≡ get_or items at item → IsEntryAt library.parts at item.0 item.1
 entry library items at item all within is = subst (λ es. IsEntryAt es at item.0 item.1) all (slice_get-get_or items at item within ∙ ap Some (sym is))
 
-pub returns-then-branch-clause-first : goal.returns-then-branch-clause-first
-returns-then-branch-clause-first c = λ key given e.
+pub returns-then-names-clause-first : goal.returns-then-names-clause-first
+returns-then-names-clause-first c = λ key given e.
     let library = c.args.library.now in
     let at = c.loop-key.key-index in
     let item = c.loop-key-item.result in
     let same = told c.in_ok-key.key key c.args.rule given e in
     let is = entry library c.entries-key-items.result.now at item c.entries-key-items.ensures.all c.loop-key-test.true c.loop-key-item.is in
-    let first = first_at library c.args.wrong at item.0 item.1 c.entries-key-items.ensures.rising c.loop-key.invariant is (c.in_ok-names.ensures.0 c.if-branch.true) in
+    let first = first_at library c.args.wrong at item.0 item.1 c.entries-key-items.ensures.rising c.loop-key.invariant is (c.names.ensures.0 c.if-names.true) in
     subst (IsFirstAmong (NamesWrongly library c.args.wrong)) (sym c.in_ok-key.ensures ∙ same) first
 
 pub loop-key-preserved : goal.loop-key-preserved
@@ -35,7 +35,7 @@ loop-key-preserved c =
     let at = c.loop-key.key-index in
     let item = c.loop-key-item.result in
     let is = entry library c.entries-key-items.result.now at item c.entries-key-items.ensures.all c.loop-key-test.true c.loop-key-item.is in
-    none_more library c.args.wrong at item.0 item.1 c.loop-key.invariant is (λ n. false≢true (sym c.if-branch.false ∙ c.in_ok-names.ensures.1 n))
+    none_more library c.args.wrong at item.0 item.1 c.loop-key.invariant is (λ n. false≢true (sym c.if-names.false ∙ c.names.ensures.1 n))
 
 pub returns-clause-none : goal.returns-clause-none
 returns-clause-none c =

@@ -1,25 +1,24 @@
-use Rattle.std.proofs.Common.{refl, sym, subst, ◌∙◌, ⊎_elim}
-use Rattle.std.proofs.lemmas.Bool.{false≢true}
-use Rattle.odd_tree.specs.Elements.{StandsIn}
-use Rattle.odd_tree.proofs.InList.{StandsOnce, ends, nothing_stands, once_push, standing}
+use Rattle.std.proofs.Common.{◌≡◌, ◌↔◌, false, inl, inr, subst}
+use Rattle.std.specs.Prelude.{IsTrue}
+use Rattle.odd_meaning.specs.Links.{named_by}
+use Rattle.odd_tree.proofs.InList.{StandsOnce, nothing_stands}
+use Rattle.odd_library.specs.declared.library.Component.{Component}
+use Rattle.odd_library.specs.declared.library.Library.{Library}
 use Rattle.odd_classes.specs.Placing.{IsWrong}
+use Rattle.odd_classes.specs.declared.rules.WrongReference.{WrongReference}
 use Rattle.odd_classes.proofs.rules.names.Goals as goal
 
-pub loop-key-init : goal.loop-key-init
-loop-key-init c = λ s. nothing_stands s.0 s.1
+-- a component that names nothing
+nameless : (library : Library) (w : WrongReference) (part other : Component) → part ≡ other → (StandsOnce (IsWrong library w) (named_by other) → ⊥)
+    → IsTrue false ↔ StandsOnce (IsWrong library w) (named_by part)
+nameless library w part other is none = (λ f. cc, λ s. absurd (none (subst (λ p. StandsOnce (IsWrong library w) (named_by p)) is s)))
 
-pub returns-then-is_wrong : goal.returns-then-is_wrong
-returns-then-is_wrong c =
-    let keys = c.as_slice-key-items.result.now in
-    let key = c.key-item.result in
-    let stands = standing keys key (c.loop-key.key-index, c.loop-key-test.true, sym c.key-item.is) in
-    let among = subst (λ ks. StandsIn ks key) (c.as_slice-key-items.ensures ∙ c.in_ok-named.ensures) stands in
-    (λ _. (key, among, c.is_wrong.ensures.0 c.if-is_wrong.true), λ _. refl)
+pub returns-in-Class : goal.returns-in-Class
+returns-in-Class c =
+    let told = nameless c.args.library.now c.args.wrong c.args.part.now in
+    elim c.in-Class.is [ inl e ↦ told _ e.1 (λ s. nothing_stands s.0 s.1) | inr e ↦ told _ e.1 (λ s. nothing_stands s.0 s.1) ]
 
-pub loop-key-preserved : goal.loop-key-preserved
-loop-key-preserved c = λ s.
-    let keys = c.as_slice-key-items.result.now in
-    let key = c.key-item.result in
-    let Is = IsWrong c.args.library.now c.args.wrong in
-    let more = subst (StandsOnce Is) (ends keys c.loop-key.key-index key c.loop-key-test.true c.key-item.is) s in
-    ⊎_elim c.loop-key.invariant (λ w. false≢true (sym c.if-is_wrong.false ∙ c.is_wrong.ensures.1 w)) ((once_push Is _ key).0 more)
+pub returns-in-Class-2 : goal.returns-in-Class-2
+returns-in-Class-2 c =
+    let told = nameless c.args.library.now c.args.wrong c.args.part.now in
+    elim c.in-Class.is [ inl e ↦ told _ e.1 (λ s. nothing_stands s.0 s.1) | inr e ↦ told _ e.1 (λ s. nothing_stands s.0 s.1) ]

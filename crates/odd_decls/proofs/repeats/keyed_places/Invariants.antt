@@ -1,0 +1,6 @@
+use Rattle.std.proofs.Common.{take}
+use Rattle.odd_decls.proofs.Tied.{AreKeyed}
+use Rattle.odd_decls.proofs.repeats.keyed_places.Given as goal
+
+abbrev pub invariant-loop-place : goal.invariant-loop-place
+invariant-loop-place l = AreKeyed (take l.place l.items) l.keyed.items
