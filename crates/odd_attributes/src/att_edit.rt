@@ -102,8 +102,9 @@ impl Overlay for AttEdit {
     ghost joined_suits = { λ a b x h k l. tt };
 }
 
-// The definition with the fields put where they are given, and its list of values edited.
-fn changed(alloc: Global, def: AttDef, fields: AttFields) -> Result<AttDef, NoMemory>
+/// The definition with the fields put where they are given, and its list of values edited. The only error is NoMemory, for want
+/// of memory.
+pub fn changed(alloc: Global, def: AttDef, fields: AttFields) -> Result<AttDef, NoMemory>
     ensures { IfOk result (λ made. made ≡ def_changed fields def) }
 {
     Ok(AttDef {

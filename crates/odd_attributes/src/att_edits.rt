@@ -88,6 +88,13 @@ impl AttEdits {
     {
         self.edits.find(ident)
     }
+
+    /// The edits themselves, moved out.
+    pub fn into_map(self) -> Map<Text, AttEdit>
+        ensures { result ≡ self }
+    {
+        self.edits
+    }
 }
 
 impl TryCopy for AttEdits {

@@ -9,7 +9,7 @@ pub mod reading;
 pub mod val_edit;
 
 pub use att_def::{AttDef, Datatype};
-pub use att_edit::{AttEdit, AttFields};
+pub use att_edit::{AttEdit, AttFields, changed};
 pub use att_edits::AttEdits;
 pub use definition::read_alt;
 pub use odd_overlay::Overlay;

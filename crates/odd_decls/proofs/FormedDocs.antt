@@ -56,7 +56,7 @@ use Rattle.odd_decls.proofs.FaultsAnywhere.{fault_anywhere}
 use Rattle.odd_decls.proofs.ItemElements.{each_item}
 use Rattle.odd_decls.proofs.KeysOnce.{keys_once}
 use Rattle.odd_decls.proofs.Searched.{found_formed}
-use Rattle.odd_decls.specs.Declares.{AreAttsDeclared, Declares, IsEntryOf, IsReadAs, alt_declared, content_of, kind_taken, mode_given, mode_named, namespace_declared, namespace_given, namespace_in, start_of, type_given}
+use Rattle.odd_decls.specs.Declares.{AreAttsDeclared, Declares, IsEntryOf, IsReadAs, alt_declared, content_of, kind_taken, mode_given, mode_named, namespace_around, namespace_by, namespace_declared, start_of, type_given}
 use Rattle.odd_decls.specs.Offences.{IsItem, ItemFault, ItemOffends, Offends, kind_declared}
 use Rattle.odd_decls.specs.Search as search
 use Rattle.odd_decls.specs.Search.{Finds, FindsAmong, Found}
@@ -155,7 +155,7 @@ mode_told (Some word) new = by (is_same word (codes "delete")) (is_same word (co
     by false false h = refl
 
 -- an element that does gives a namespace
-namespace_some : (m : Mode) (schema item : Tree) → IsTrue (is_new m) → IsSome (namespace_in m schema item)
+namespace_some : (m : Mode) (schema item : Tree) → IsTrue (is_new m) → IsSome (namespace_by m (namespace_around schema) item)
 namespace_some mode.Add schema item new = refl
 namespace_some mode.Replace schema item new = refl
 namespace_some m schema item new = cc
@@ -208,14 +208,14 @@ mutual
       subst (All AroundBound) (sym is) (All-append AroundBound first later (found_bound one bound (f t (stands_first t ts))) (among_bound rest bound (λ u s. f u (stands_later t u ts s))))
 
 -- the namespace of an element in documents
-legal_namespace : (schema item : Tree) → IsFormedTag schema → IsFormedTag item → IsLegal (namespace_given schema item)
+legal_namespace : (schema item : Tree) → IsFormedTag schema → IsFormedTag item → IsLegal (unwrap_or (given item (codes "ns")) (namespace_around schema))
 legal_namespace schema item f g =
     by_value (λ o. IsLegal (unwrap_or o (unwrap_or (given schema (codes "ns")) tei_namespace))) (given item (codes "ns"))
     (λ _. by_value (λ o. IsLegal (unwrap_or o tei_namespace)) (given schema (codes "ns")) (λ _. ascii.ascii_legal tei_namespace refl) (λ value is. legal_given schema (codes "ns") value f is))
     (λ value is. legal_given item (codes "ns") value g is)
 
 -- the one that its declaration gives
-legal_in : (m : Mode) (schema item : Tree) → IsFormedTag schema → IsFormedTag item → IfSome (namespace_in m schema item) IsLegal
+legal_in : (m : Mode) (schema item : Tree) → IsFormedTag schema → IsFormedTag item → IfSome (namespace_by m (namespace_around schema) item) IsLegal
 legal_in mode.Add schema item f g = legal_namespace schema item f g
 legal_in mode.Replace schema item f g = legal_namespace schema item f g
 legal_in m schema item f g = by_value (λ o. IfSome o IsLegal) (given item (codes "ns")) (λ _. tt) (λ value is. legal_given item (codes "ns") value g is)

@@ -21,8 +21,6 @@ use Rattle.odd_forms.specs.declared.element.Element.{Element}
 use Rattle.odd_forms.specs.declared.element.Element.TheVariants as element
 use Rattle.odd_library.specs.declared.odd.Entry.{Entry}
 use Rattle.odd_library.specs.declared.odd.Entry.TheVariants as entry
-use Rattle.odd_library.specs.declared.spec.Mode.{Mode}
-use Rattle.odd_library.specs.declared.spec.Mode.TheVariants as mode
 use Rattle.odd_members.specs.declared.membership.Membership.{Membership}
 use Rattle.odd_text.specs.declared.key.Key.{Key}
 use Rattle.odd_text.specs.declared.key.Kind.{Kind}
@@ -31,8 +29,8 @@ use Rattle.odd_text.specs.declared.name.Bind.{Bind}
 use Rattle.odd_tree.proofs.InList.{contained, stands_first}
 use Rattle.odd_tree.specs.Elements.{StandsIn, children_of, given, within}
 use Rattle.odd_tree.specs.declared.tree.Tree.{Tree, out-Tree}
-use Rattle.odd_decls.specs.Declares.{kind_taken, ChildrenGive, IsEntryOf, mode_given, namespace_around, namespace_declared, namespace_in}
-use Rattle.odd_decls.specs.ItemReading.{reference_of, taken_of, GivesEntry, IsEntryWith, IsSpecRead, namespace_by, namespace_with}
+use Rattle.odd_decls.specs.Declares.{kind_taken, ChildrenGive, IsEntryOf, namespace_around, namespace_declared}
+use Rattle.odd_decls.specs.ItemReading.{reference_of, taken_of, GivesEntry, IsEntryWith, IsSpecRead}
 use Rattle.odd_decls.specs.Items.{IsTold, trees_of}
 use Rattle.odd_decls.specs.declared.items.Item.{Item}
 use Rattle.odd_decls.specs.Offences.{IsItem, kind_declared, IsSpecOf, ItemFault}
@@ -116,17 +114,6 @@ key_given around item e k is declares sound none = by_value (given item (codes "
     by_value (Some word) h = broken (AttributeFault.value word h (ValueFault.malformed refl (λ named.
         none (record { kind = k; ident = word }) (record { element = e; is_item = is; of_kind = declares; ident = h; named = named }))))
 
--- the namespace that a declaration gives in the one around it is that which it gives in its `schemaSpec`
-namespace_mode : (m : Mode) (schema item : Tree) → namespace_by m (namespace_around schema) item ≡ namespace_in m schema item
-namespace_mode mode.Add schema item = refl
-namespace_mode mode.Replace schema item = refl
-namespace_mode mode.Change schema item = refl
-namespace_mode mode.Delete schema item = refl
-
-namespace_same : (k : Kind) (schema item : Tree) → namespace_with k (mode_given item) (namespace_around schema) item ≡ namespace_declared k schema item
-namespace_same kind.Element schema item = namespace_mode (mode_given item) schema item
-namespace_same k schema item = refl
-
 -- the entry that is made of it
 entry_given : (schema item : Tree) (around : List Bind) (e : Element) (content : Option Content) (classes : Option Membership) (made : Entry) → IsItem e item
     → ChildrenGive around e item content classes → IsEntryWith (namespace_around schema) item content classes made → (first : Found) → first.schema ≡ schema → within first.around first.schema ≡ around
@@ -136,7 +123,7 @@ entry_given schema item around e content classes made is gives w first same insi
       is_spec = w.is_spec;
       of_mode = refl;
       of_module = refl;
-      ns = namespace_same w.key.kind schema item ∙ ap (λ s. namespace_declared w.key.kind s item) (sym same);
+      ns = ap (λ s. namespace_declared w.key.kind s item) (sym same);
       alt = refl;
       gives = refl;
       atts = w.declared;

@@ -43,21 +43,20 @@ mode_given item = mode_named (unwrap_or (given item (codes "mode")) (codes "add"
 abbrev pub namespace_around : Tree → List ℕ
 namespace_around schema = unwrap_or (given schema (codes "ns")) tei_namespace
 
--- the namespace of an element in documents: its own, else that around it
-abbrev pub namespace_given : Tree → Tree → List ℕ
-namespace_given schema item = unwrap_or (given item (codes "ns")) (namespace_around schema)
-
--- the namespace that the declaration of an element gives: one that adds or replaces always gives one
-abbrev pub namespace_in : Mode → Tree → Tree → Option (List ℕ)
-namespace_in mode.Add schema item = Some (namespace_given schema item)
-namespace_in mode.Replace schema item = Some (namespace_given schema item)
-namespace_in mode.Change schema item = given item (codes "ns")
-namespace_in mode.Delete schema item = given item (codes "ns")
+-- the namespace that the declaration of an element gives: its own, and one that adds or replaces else gives the one around it
+abbrev pub namespace_by : Mode → List ℕ → Tree → Option (List ℕ)
+namespace_by mode.Add around item = Some (unwrap_or (given item (codes "ns")) around)
+namespace_by mode.Replace around item = Some (unwrap_or (given item (codes "ns")) around)
+namespace_by mode.Change around item = given item (codes "ns")
+namespace_by mode.Delete around item = given item (codes "ns")
 
 -- other components have none
+abbrev pub namespace_with : Kind → Mode → List ℕ → Tree → Option (List ℕ)
+namespace_with kind.Element m around item = namespace_by m around item
+namespace_with k m around item = None
+
 abbrev pub namespace_declared : Kind → Tree → Tree → Option (List ℕ)
-namespace_declared kind.Element schema item = namespace_in (mode_given item) schema item
-namespace_declared k schema item = None
+namespace_declared k schema item = namespace_with k (mode_given item) (namespace_around schema) item
 
 -- whether a class is of type `atts`, where its declaration gives a type
 abbrev pub type_given : Kind → Tree → Option Bool

@@ -4,7 +4,6 @@ use Rattle.std.specs.Borrow.{Bor}
 use Rattle.std.specs.Option.{option_map}
 use Rattle.odd_text.specs.declared.key.Key.{Key}
 use Rattle.odd_text.specs.declared.key.Kind.{Kind}
-use Rattle.odd_text.specs.declared.key.Kind.TheVariants as kind
 use Rattle.odd_text.specs.declared.name.Bind.{Bind}
 use Rattle.odd_tree.specs.Elements.{given, within}
 use Rattle.odd_tree.specs.declared.tree.Tree.{Tree, out-Tree}
@@ -14,24 +13,11 @@ use Rattle.odd_forms.specs.declared.element.Element.TheVariants as element
 use Rattle.odd_content.specs.Giving.{pick_given}
 use Rattle.odd_members.specs.declared.membership.Membership.{Membership}
 use Rattle.odd_attributes.specs.declared.att_edit.AttEdit.{AttEdit}
-use Rattle.odd_decls.specs.Declares.{AreAttsDeclared, ChildrenGive, alt_declared, IsEntryOf, kind_taken, mode_given, type_given}
+use Rattle.odd_decls.specs.Declares.{namespace_with, AreAttsDeclared, ChildrenGive, alt_declared, IsEntryOf, kind_taken, mode_given, type_given}
 use Rattle.odd_decls.specs.Offences.{IsItem, IsSpecOf}
 use Rattle.odd_decls.specs.Search.{Found}
 use Rattle.odd_library.specs.declared.odd.Entry.TheVariants as entry
 use Rattle.odd_library.specs.declared.odd.Entry.{Entry}
-use Rattle.odd_library.specs.declared.spec.Mode.{Mode}
-use Rattle.odd_library.specs.declared.spec.Mode.TheVariants as mode
-
--- the namespace that the declaration of an element gives, in this one; other components have none
-abbrev pub namespace_by : Mode → List ℕ → Tree → Option (List ℕ)
-namespace_by mode.Add around item = Some (unwrap_or (given item (codes "ns")) around)
-namespace_by mode.Replace around item = Some (unwrap_or (given item (codes "ns")) around)
-namespace_by mode.Change around item = given item (codes "ns")
-namespace_by mode.Delete around item = given item (codes "ns")
-
-abbrev pub namespace_with : Kind → Mode → List ℕ → Tree → Option (List ℕ)
-namespace_with kind.Element m around item = namespace_by m around item
-namespace_with k m around item = None
 
 -- the entry of a declaration with this key, and with what its children give
 abbrev pub entry_made : List ℕ → Tree → Key → Option Content → Option Membership → List (List ℕ × AttEdit) → Entry

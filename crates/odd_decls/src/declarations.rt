@@ -3,9 +3,9 @@ ghost use Rattle.odd_forms.specs.Children.{GivesOne};
 ghost use Rattle.odd_tree.specs.Elements.{all_binds, children_of, within};
 ghost use Rattle.odd_forms.specs.declared.element.Element.TheVariants as the_element;
 ghost use Rattle.odd_content.specs.Giving.{IsContentOf};
-ghost use Rattle.odd_decls.specs.Declares.{AreAttsDeclared, alt_declared as the_alt_declared, content_of as the_content_of, mode_given, mode_named as the_mode_named, namespace_around as the_namespace_around, type_given};
+ghost use Rattle.odd_decls.specs.Declares.{AreAttsDeclared, alt_declared as the_alt_declared, content_of as the_content_of, mode_given, mode_named as the_mode_named, namespace_around as the_namespace_around, namespace_by, namespace_with, type_given};
 ghost use Rattle.odd_decls.specs.Offences.{kind_declared as the_kind_declared};
-ghost use Rattle.odd_decls.specs.ItemReading.{IsEntryMade, IsSpecRead, namespace_by, namespace_with};
+ghost use Rattle.odd_decls.specs.ItemReading.{IsEntryMade, IsSpecRead};
 ghost use Rattle.odd_decls.specs.Items.{IsTold};
 
 use crate::items::{Item, key_given};

@@ -1,9 +1,7 @@
--- Chains of steps, nodes that lead to themselves, and induction along steps that come back to nothing.
-use Rattle.std.proofs.Common.{ℕ, List, ◌≡◌, ◌⊎◌, ◌≤◌, zero, suc, [], ◌∷◌, ◌++◌, length, inl, inr, ⊎_elim, ap, subst, arith, min, ◌↔◌, Bool, true, false}
-use Rattle.std.proofs.Math.ListN.{replicate}
-use Rattle.std.proofs.lemmas.List.{length-append, get_or-replicate}
-use Rattle.odd_graph.specs.Graph.{Chained, at_once, through, HasArrow, Leads}
-use Rattle.odd_graph.specs.Searching.{AreOnNone, IsFree}
+-- Chains of steps, and induction along steps that come back to nothing.
+use Rattle.std.proofs.Common.{ℕ, List, ◌≡◌, ◌⊎◌, ◌≤◌, zero, suc, [], ◌∷◌, ◌++◌, length, inl, inr, ⊎_elim, refl, ap, subst, arith}
+use Rattle.std.proofs.lemmas.List.{length-append}
+use Rattle.odd_graph.specs.Graph.{Chained, at_once, through}
 
 -- one leads on to where another leads that it leads to
 pub chained_on : {A : Type 0} (Step : A → A → Type 0) (a b c : A) → Chained Step a b → Chained Step b c → Chained Step a c
@@ -25,6 +23,11 @@ chained_along Step Other Is carry a last b is (through between s k) =
     let rest = chained_along Step Other Is carry between last n.0 n.1 k in
     (rest.0, rest.1, through n.0 n.2 rest.2)
 
+-- a chain is a step, or a step and a chain
+pub first_and_rest : {A : Type 0} (Step : A → A → Type 0) (a b : A) → Chained Step a b → (next : A) × Step a next × ((next ≡ b) ⊎ Chained Step next b)
+first_and_rest Step a b (at_once s) = (b, s, inl refl)
+first_and_rest Step a b (through between s k) = (between, s, inr k)
+
 -- a chain begins with a step
 pub first_step : {A : Type 0} (Step : A → A → Type 0) (a b : A) → Chained Step a b → (next : A) × Step a next
 first_step Step a b (at_once s) = (b, s)
@@ -34,25 +37,6 @@ first_step Step a b (through between s k) = (between, s)
 pub last_step : {A : Type 0} (Step : A → A → Type 0) (a b : A) → Chained Step a b → (before : A) × Step before b
 last_step Step a b (at_once s) = (a, s)
 last_step Step a b (through between s k) = last_step Step between b k
-
--- of two nodes that lead to each other the first has an arrow to one that leads to itself
-arrow_to : (arrows : List (List ℕ)) (node other : ℕ) → Leads arrows node other → Leads arrows other node → (next : ℕ) × HasArrow arrows node next × Leads arrows next next
-arrow_to arrows node other (at_once h) l = (other, h, chained_on (HasArrow arrows) other node other l (at_once h))
-arrow_to arrows node other (through next h k) l =
-    (next, h, chained_on (HasArrow arrows) next other next k (chained_on (HasArrow arrows) other node next l (at_once h)))
-
--- and one that leads to itself has an arrow to the second
-arrow_from : (arrows : List (List ℕ)) (node other : ℕ) → Leads arrows node other → Leads arrows other node → (before : ℕ) × HasArrow arrows before other × Leads arrows before before
-arrow_from arrows node other (at_once h) l = (node, h, through other h l)
-arrow_from arrows node other (through next h k) l = arrow_from arrows next other k (chained_on (HasArrow arrows) other node next l (at_once h))
-
--- so a node that leads to itself has an arrow to one that does
-pub arrow_on : (arrows : List (List ℕ)) (node : ℕ) → Leads arrows node node → (next : ℕ) × HasArrow arrows node next × Leads arrows next next
-arrow_on arrows node l = arrow_to arrows node node l l
-
--- and there is an arrow to it from one that does
-pub arrow_back : (arrows : List (List ℕ)) (node : ℕ) → Leads arrows node node → (before : ℕ) × HasArrow arrows before node × Leads arrows before before
-arrow_back arrows node l = arrow_from arrows node node l l
 
 -- the item stands in the list
 abbrev pub IsPart : {A : Type 0} → List A → A → Type 0
@@ -96,18 +80,3 @@ module _ {A : Type 0} (Step : A → A → Type 0) (P : ℕ → A → Type 0) (st
   -- and of the item at one more
   pub by_rank : (n : ℕ) (left : List A) (one : A) → length left ≤ n → AreAmong one left → IsApart one → P (suc n) one
   by_rank n left one few among apart = step n one (λ other s. at_less n left one other few among apart s)
-
--- at first each node is left that is one of both graphs
-pub all_left : (arrows back : List (List ℕ)) (left : List Bool) → ((node next : ℕ) → HasArrow back next node ↔ HasArrow arrows node next) → left ≡ replicate (min (length arrows) (length back)) true
-    → AreOnNone arrows left
-all_left arrows back left turned all node l =
-    rw all (get_or-replicate (min (length arrows) (length back)) node true false (omega (arith, (arrow_back arrows node l).1.within, ((turned node _).1 (arrow_on arrows node l).1).within)))
-
--- a node that is free is on no cycle
-pub free_forth : (arrows : List (List ℕ)) (left : List Bool) (node : ℕ) → AreOnNone arrows left → IsFree arrows left node → Leads arrows node node → ⊥
-free_forth arrows left node on_none free l = let a = arrow_on arrows node l in free a.0 a.1 (on_none a.0 a.2)
-
--- nor is one that is free where the arrows are turned round
-pub free_back : (arrows back : List (List ℕ)) (left : List Bool) (node : ℕ) → AreOnNone arrows left → ((node next : ℕ) → HasArrow back next node ↔ HasArrow arrows node next)
-    → IsFree back left node → Leads arrows node node → ⊥
-free_back arrows back left node on_none turned free l = let a = arrow_back arrows node l in free a.0 ((turned a.0 node).1 a.1) (on_none a.0 a.2)

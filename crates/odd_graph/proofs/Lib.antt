@@ -1,5 +1,11 @@
 pub mod Chains
+mod Closing
+mod Entering
+mod Joining
 mod NodesReached
 pub mod OneMore
+mod Parts
 pub mod Placed
-mod Trimmed
+mod Taking
+mod Tried
+mod Walking

@@ -6,7 +6,7 @@ use Rattle.std.proofs.lemmas.List.Elements.{Contains-append_left}
 use Rattle.std.specs.List.{Contains}
 use Rattle.odd_graph.specs.Graph.{HasArrow, Leads, StandOnce, at_once, through}
 use Rattle.odd_graph.specs.Marking.{AreClear, HasCleared, HasMarked}
-use Rattle.odd_graph.specs.Searching.{IsMarked}
+use Rattle.odd_graph.specs.Marking.{IsMarked}
 use Rattle.odd_graph.proofs.Chains.{chained_on}
 use Rattle.odd_graph.proofs.OneMore.{contains_next}
 

@@ -11,7 +11,7 @@ use Rattle.std.specs.List.{Contains}
 use Rattle.odd_graph.specs.Adding.{HasAdded}
 use Rattle.odd_graph.specs.Graph.{StandOnce, HasArrow}
 use Rattle.odd_graph.specs.Marking.{HasMarked}
-use Rattle.odd_graph.specs.Searching.{IsMarked}
+use Rattle.odd_graph.specs.Marking.{IsMarked}
 
 -- what a list with one item more contains
 pub contains_with : {X : Type 0} (xs : List X) (y x : X) → Contains (xs ++ y ∷ []) x ↔ (Contains xs x ⊎ (y ≡ x))
@@ -31,8 +31,8 @@ stands_at xs i y d within at =
     ⊎_elim (λ t. inl (t.1, rw (← t.1) (get_or-set_same xs i y d within), ap (λ n. get_or xs n d) t.1)) (λ t. inr (t.1, get_or-set_other xs i at y d (λ e. t.1 (sym e)))) (eqb_tells i at)
 
 -- a place in a list with one item more is the last one, or one of the list's
-pub place_with : (items before after : List ℕ) (last item : ℕ) → items ++ last ∷ [] ≡ before ++ item ∷ after
-    → ((items ≡ before) × (last ≡ item)) ⊎ ((rest : List ℕ) × (items ≡ before ++ item ∷ rest))
+pub place_with : {X : Type 0} (items before after : List X) (last item : X) → items ++ last ∷ [] ≡ before ++ item ∷ after
+    → ((items ≡ before) × (last ≡ item)) ⊎ ((rest : List X) × (items ≡ before ++ item ∷ rest))
 place_with [] [] after last item e = inl (refl, cc)
 place_with [] (x ∷ []) after last item e = cc
 place_with [] (x ∷ y ∷ before) after last item e = cc
@@ -82,8 +82,12 @@ marked_before nexts marks made nodes all i h within is = record {
   count = h.count;
 }
 
+-- only nodes have a mark
+pub marked_inside : (marks : List Bool) (node : ℕ) → IsMarked marks node → node < length marks
+marked_inside marks node is = grind (arith, common_steps)
+
 -- what has the mark with one node more
-one_marked : (marks : List Bool) (i node : ℕ) → i < length marks → IsMarked (set marks i true) node ↔ (IsMarked marks node ⊎ (i ≡ node))
+pub one_marked : (marks : List Bool) (i node : ℕ) → i < length marks → IsMarked (set marks i true) node ↔ (IsMarked marks node ⊎ (i ≡ node))
 one_marked marks i node within = grind (arith, stands_at marks i true false within node)
 
 -- what was reached then: what was before, and what has got the mark

@@ -2,6 +2,7 @@
 use Rattle.std.proofs.Common.{◌≡◌, ◌↔◌, ◌⊎◌, ◌<◌, ℕ, true, false, List, [], ◌∷◌, ◌++◌, length, set, cond, inl, inr, ⊎_elim, sym, ap, ◌∙◌, arith, ◌+◌, suc, get_or, take, drop, subst}
 use Rattle.std.proofs.Math.ListN.{length-set}
 use Rattle.std.proofs.Math.Seq.{split_at}
+use Rattle.std.proofs.lemmas.Bool.{cases_eq}
 use Rattle.std.proofs.lemmas.Grind.{common_steps}
 use Rattle.std.proofs.lemmas.List.{append_assoc, append-nil, take-append-drop, take-append-le}
 use Rattle.std.proofs.lemmas.List.Elements.{Contains-push_cases, Contains-append_left}
@@ -9,14 +10,15 @@ use Rattle.std.proofs.lemmas.List.FromFn.{get_or-range_with_len, length-range_wi
 use Rattle.std.proofs.lemmas.List.Sums.{sum_by-set}
 use Rattle.std.specs.List.{Contains, range_with_len}
 use Rattle.odd_graph.proofs.Chains.{last_step, IsPart, by_rank}
-use Rattle.odd_graph.proofs.OneMore.{one_cleared, contains_with, once_with, place_with, contains_next}
-use Rattle.odd_graph.proofs.Trimmed.{held_on, is_or_not, marked_inside, passed_one, tried_on, tried_one}
+use Rattle.odd_graph.proofs.OneMore.{one_cleared, contains_with, once_with, place_with, contains_next, marked_inside}
+use Rattle.odd_graph.proofs.Tried.{held_on, passed_one, tried_on, tried_one}
 use Rattle.odd_graph.specs.Graph.{HasArrow, Leads, at_once, through}
+use Rattle.odd_graph.specs.Marking.{IsMarked}
 use Rattle.odd_graph.specs.Ordering.{IsOrder, IsApart}
-use Rattle.odd_graph.specs.Placing.{GoesOn, IsNone, Places}
-use Rattle.odd_graph.specs.Searching.{AreHeld, ArePassed, IsFree, IsHeld, IsMarked}
+use Rattle.odd_graph.specs.Passing.{ArePassed, IsFree, IsHeld}
+use Rattle.odd_graph.specs.Placing.{AreHeld, GoesOn, IsNone, Places}
 use Rattle.odd_graph.specs.declared.ordering.Placing.{Placing}
-use Rattle.odd_graph.specs.declared.trimming.Side.{Side}
+use Rattle.odd_graph.specs.declared.passing.Passing.{Passing}
 
 -- an order with one node more at its end, which did not stand there, and all that its arrows lead to did
 order_with : (arrows : List (List ℕ)) (order : List ℕ) (node : ℕ) → IsOrder arrows order → node < length arrows → (Contains order node → ⊥) → ((next : ℕ) → HasArrow arrows node next → Contains order next)
@@ -33,30 +35,30 @@ one_placed : {All Was Before After Is Within : Type 0} → Is ⊎ (Is → ⊥) �
 one_placed is all was after within = grind arith
 
 -- a node that is left and leads to none that is left can be placed
-pub placed_one : (p q : Placing) (node : ℕ) → Places p → IsMarked p.left.items node → IsFree p.forth.arrows.now p.left.items node
-    → q.forth ≡ p.forth → q.left.items ≡ set p.left.items node false → q.order.items ≡ p.order.items ++ node ∷ [] → GoesOn p q (λ tried. node ≡ tried)
-placed_one p q node h marked free forth left order =
+pub placed_one : (p q : Placing) (node : ℕ) → Places p → IsMarked p.left.items node → IsFree p.passing.arrows.now p.left.items node
+    → q.passing ≡ p.passing → q.left.items ≡ set p.left.items node false → q.order.items ≡ p.order.items ++ node ∷ [] → GoesOn p q (λ tried. node ≡ tried)
+placed_one p q node h marked free passing left order =
     let inside = marked_inside p.left.items node marked in
-    let within : node < length p.forth.arrows.now = omega (arith, h.all.1) in
+    let within : node < length p.passing.arrows.now = omega (arith, h.all.1) in
     record {
       places = record {
-        all = rw (forth, left, length-set) h.all;
-        passed = rw (forth, left) (passed_one _ _ _ node inside h.passed);
-        order = rw (forth, order) (order_with _ _ node h.order within (λ c. ((h.placed node).0 c).1 marked) (λ next a. (h.placed next).1 (a.within, free next a)));
-        placed = rw (forth, left, order) (λ other.
-            one_placed (is_or_not node other) (contains_with p.order.items node other) (h.placed other) (one_cleared p.left.items node other inside) (λ e. omega arith));
-        count = rw (forth, left, order) (grind (arith, common_steps, h.count, sum_by-set (λ is. cond is 1 0) p.left.items node false true inside));
+        all = rw (passing, left, length-set) h.all;
+        passed = rw (passing, left) (passed_one _ _ _ node inside h.passed);
+        order = rw (passing, order) (order_with _ _ node h.order within (λ c. ((h.placed node).0 c).1 marked) (λ next a. (h.placed next).1 (a.within, free next a)));
+        placed = rw (passing, left, order) (λ other.
+            one_placed (cases_eq node other) (contains_with p.order.items node other) (h.placed other) (one_cleared p.left.items node other inside) (λ e. omega arith));
+        count = rw (passing, left, order) (grind (arith, common_steps, h.count, sum_by-set (λ is. cond is 1 0) p.left.items node false true inside));
       };
-      arrows = ap (λ side. side.arrows) forth;
+      arrows = ap (λ p. p.arrows) passing;
       order = (node ∷ [], order);
-      forth = rw left (tried_one _ _ node inside);
+      tries = rw left (tried_one _ _ node inside);
     }
 
 -- nothing was placed, but more arrows were passed
-pub placed_none : (p : Placing) (side : Side) (tried : ℕ → Type 0) → Places p → side.arrows ≡ p.forth.arrows → length side.passed.items ≡ length p.forth.passed.items
-    → ArePassed side.arrows.now side.passed.items p.left.items → ((node : ℕ) → tried node → IsMarked p.left.items node → IsHeld p.forth.arrows.now p.left.items node)
-    → GoesOn p (record p { forth = side }) tried
-placed_none p side tried h arrows same passed held = record {
+pub placed_none : (p : Placing) (passing : Passing) (tried : ℕ → Type 0) → Places p → passing.arrows ≡ p.passing.arrows → length passing.passed.items ≡ length p.passing.passed.items
+    → ArePassed passing.arrows.now passing.passed.items p.left.items → ((node : ℕ) → tried node → IsMarked p.left.items node → IsHeld p.passing.arrows.now p.left.items node)
+    → GoesOn p (record p { passing = passing }) tried
+placed_none p passing tried h arrows same passed held = record {
   places = record {
     all = rw arrows (same ∙ h.all.0, h.all.1);
     passed = passed;
@@ -66,7 +68,7 @@ placed_none p side tried h arrows same passed held = record {
   };
   arrows = arrows;
   order = ([], sym (append-nil p.order.items));
-  forth = record { left = λ node is. is; held = held };
+  tries = record { left = λ node is. is; held = held };
 }
 
 -- nodes are tried after others
@@ -75,7 +77,7 @@ placed_on p q r one two both g h either = record {
   places = h.places;
   arrows = h.arrows ∙ g.arrows;
   order = (g.order.0 ++ h.order.0, h.order.1 ∙ ap (λ order. order ++ h.order.0) g.order.1 ∙ append_assoc p.order.items g.order.0 h.order.0);
-  forth = tried_on g.forth (rw g.arrows at h.forth) either;
+  tries = tried_on g.tries (rw g.arrows at h.tries) either;
 }
 
 -- a list has at some place what it contains
@@ -88,15 +90,15 @@ contains_front items count item c = subst (λ all. Contains all item) (take-appe
 
 -- once the nodes with an arrow to one more node of the order were tried, each that is left has an arrow to one that is none of the front with that node
 pub held_more : (p q : Placing) (back : List (List ℕ)) (place node : ℕ) → Places p → GoesOn p q (Contains (get_or back node []))
-    → ((node next : ℕ) → HasArrow back next node ↔ HasArrow p.forth.arrows.now node next) → place < length p.order.items → get_or p.order.items place 0 ≡ node
-    → AreHeld p.forth.arrows.now p.left.items (IsNone (take place p.order.items)) → AreHeld q.forth.arrows.now q.left.items (IsNone (take (place + 1) q.order.items))
+    → ((node next : ℕ) → HasArrow back next node ↔ HasArrow p.passing.arrows.now node next) → place < length p.order.items → get_or p.order.items place 0 ≡ node
+    → AreHeld p.passing.arrows.now p.left.items (IsNone (take place p.order.items)) → AreHeld q.passing.arrows.now q.left.items (IsNone (take (place + 1) q.order.items))
 held_more p q back place node h g turned within is held = rw (g.arrows, g.order.1, take-append-le (place + 1) p.order.items g.order.0 (omega arith)) (
-    held_on (IsNone (take (place + 1) p.order.items)) g.forth (λ other marked c. ((h.placed other).0 (contains_front p.order.items (place + 1) other c)).1 marked)
+    held_on (IsNone (take (place + 1) p.order.items)) g.tries (λ other marked c. ((h.placed other).0 (contains_front p.order.items (place + 1) other c)).1 marked)
     (λ other marked.
     let next = held other marked in
     ⊎_elim (λ e. inl ((turned other node).1 (rw e at next.1)).among)
     (λ apart. inr (next.0, next.1, λ c. ⊎_elim next.2 (λ e. apart (sym e ∙ is)) ((contains_next p.order.items place 0 next.0 within).0 c)))
-    (is_or_not next.0 node)))
+    (cases_eq next.0 node)))
 
 module _ (arrows : List (List ℕ)) (order : List ℕ) (is : IsOrder arrows order) where
   -- what a node of the order leads to stands before it
@@ -121,10 +123,10 @@ number_below : (count node : ℕ) → node < count → IsPart (range_with_len 0 
 number_below count node within = part_of (range_with_len 0 count) node (node, rw length-range_with_len within, omega (arith, get_or-range_with_len 0 count node node within))
 
 -- a node that leads to no cycle is placed, where each that is left has an arrow to one that is not placed
-apart_placed : (p : Placing) (node : ℕ) → Places p → AreHeld p.forth.arrows.now p.left.items (IsNone p.order.items) → node < length p.forth.arrows.now → IsApart p.forth.arrows.now node
+apart_placed : (p : Placing) (node : ℕ) → Places p → AreHeld p.passing.arrows.now p.left.items (IsNone p.order.items) → node < length p.passing.arrows.now → IsApart p.passing.arrows.now node
     → Contains p.order.items node
 apart_placed p node h held within apart =
-    let arrows = p.forth.arrows.now in
+    let arrows = p.passing.arrows.now in
     (h.placed node).1 (
       within,
       by_rank (HasArrow arrows) (λ _ one. IsMarked p.left.items one → ⊥)
@@ -135,6 +137,6 @@ apart_placed p node h held within apart =
     )
 
 -- at the end those are placed that lead to no cycle
-pub all_placed : (p : Placing) → Places p → AreHeld p.forth.arrows.now p.left.items (IsNone p.order.items)
-    → (node : ℕ) → Contains p.order.items node ↔ ((node < length p.forth.arrows.now) × IsApart p.forth.arrows.now node)
-all_placed p h held node = (λ c. (h.order.within node c, placed_apart p.forth.arrows.now p.order.items h.order node c), λ is. apart_placed p node h held is.0 is.1)
+pub all_placed : (p : Placing) → Places p → AreHeld p.passing.arrows.now p.left.items (IsNone p.order.items)
+    → (node : ℕ) → Contains p.order.items node ↔ ((node < length p.passing.arrows.now) × IsApart p.passing.arrows.now node)
+all_placed p h held node = (λ c. (h.order.within node c, placed_apart p.passing.arrows.now p.order.items h.order node c), λ is. apart_placed p node h held is.0 is.1)

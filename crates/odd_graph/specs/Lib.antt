@@ -2,5 +2,6 @@ pub mod Adding
 pub mod Graph
 pub mod Marking
 pub mod Ordering
+pub mod Passing
 pub mod Placing
-pub mod Searching
+pub mod Walking

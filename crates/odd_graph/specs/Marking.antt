@@ -1,8 +1,15 @@
--- What marking some nodes of a graph does, and what taking the marks back does.
-use Rattle.std.specs.Prelude.{◌≡◌, ◌↔◌, ◌⊎◌, ◌<◌, ◌++◌, ℕ, Bool, List, length}
+-- Marks of nodes: what marking some of a graph does, and what taking the marks back does.
+use Rattle.std.specs.Prelude.{◌≡◌, ◌↔◌, ◌⊎◌, ◌<◌, ◌+◌, ◌++◌, ℕ, Bool, false, not, List, length, count_by, get_or, IsTrue}
 use Rattle.std.specs.List.{Contains}
 use Rattle.odd_graph.specs.Graph.{StandOnce}
-use Rattle.odd_graph.specs.Searching.{IsMarked, to_come}
+
+-- the node has the mark
+abbrev pub IsMarked : List Bool → ℕ → Type 0
+IsMarked marks node = IsTrue (get_or marks node false)
+
+-- how many nodes have none, with how many are still to be gone on from
+abbrev pub to_come : List Bool → List ℕ → ℕ
+to_come marks waiting = count_by not marks + length waiting
 
 -- a mark for each node, and none is set
 pub record AreClear (arrows : List (List ℕ)) (marks : List Bool) : Type 0 where

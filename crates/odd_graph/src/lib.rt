@@ -2,15 +2,18 @@
 #![tactic(auto)]
 
 mod cycles;
+mod marks;
 mod ordering;
+mod passing;
 mod search;
-mod trimming;
 mod turning;
+mod walk;
 
 pub use cycles::first_on_cycle;
+pub use marks::unmarked;
 use odd_text::Seq;
 pub use ordering::ordered;
-pub use search::{reached, unmarked};
+pub use search::reached;
 pub use turning::turned;
 
 /// Nodes of a graph by their numbers, counted from 0. A graph is the nodes that the arrows of each node lead to, node by

@@ -1,12 +1,14 @@
 ghost use Rattle.std.specs.Prelude.{◌≡◌, ◌↔◌, ◌<◌, ℕ, [], get_or, length, IfOk, OnOk};
 ghost use Rattle.std.specs.List.{Contains};
 ghost use Rattle.odd_graph.specs.Graph.{HasArrow};
+ghost use Rattle.odd_graph.specs.Marking.{IsMarked};
 ghost use Rattle.odd_graph.specs.Ordering.{IsApart, IsOrder};
-ghost use Rattle.odd_graph.specs.Placing.{GoesOn, IsNone, Places};
-ghost use Rattle.odd_graph.specs.Searching.{AreHeld, IsFree, IsMarked};
+ghost use Rattle.odd_graph.specs.Passing.{IsFree};
+ghost use Rattle.odd_graph.specs.Placing.{AreHeld, GoesOn, IsNone, Places};
 
 use crate::Nodes;
-use crate::trimming::{Side, is_marked};
+use crate::marks::is_marked;
+use crate::passing::Passing;
 use crate::turning::turned;
 use odd_text::NoMemory;
 use std::alloc::Global;
@@ -27,7 +29,7 @@ pub fn ordered(alloc: Global, arrows: &[Nodes]) -> Result<Vec<usize>, NoMemory>
 // Nodes of a graph in an order, and those that are left: that do not stand in it yet.
 #[derive(Drop)]
 struct Placing<'a> {
-    forth: Side<'a>,
+    passing: Passing<'a>,
     left: Vec<bool>,
     order: Vec<usize>,
 }
@@ -36,10 +38,10 @@ impl<'a> Placing<'a> {
     // An order in which no node stands yet.
     fn new(alloc: Global, arrows: &'a [Nodes]) -> Result<Placing<'a>, NoMemory>
         ensures places { IfOk result Places }
-        ensures arrows { IfOk result (λ placing. placing.forth.arrows.now ≡ arrows.now) }
+        ensures arrows { IfOk result (λ placing. placing.passing.arrows.now ≡ arrows.now) }
     {
         Ok(Placing {
-            forth: Side::new(alloc, arrows)?,
+            passing: Passing::new(alloc, arrows)?,
             left: vec![in alloc; true; arrows.len()]?,
             order: Vec::new(alloc),
         })
@@ -59,11 +61,11 @@ impl<'a> Placing<'a> {
     // Tries those that have an arrow to a node that stands in the order, for one such node after the other.
     fn settle(&mut self, back: &[Nodes]) -> Result<(), NoMemory>
         requires places { Places self.old }
-        requires turned { (node next : ℕ) → HasArrow back.now next node ↔ HasArrow self.old.forth.arrows.now node next }
-        requires held { AreHeld self.old.forth.arrows.now self.old.left.items (IsNone []) }
+        requires turned { (node next : ℕ) → HasArrow back.now next node ↔ HasArrow self.old.passing.arrows.now node next }
+        requires held { AreHeld self.old.passing.arrows.now self.old.left.items (IsNone []) }
         ensures places { OnOk result (Places self.new) }
-        ensures arrows { OnOk result (self.new.forth.arrows ≡ self.old.forth.arrows) }
-        ensures held { OnOk result (AreHeld self.new.forth.arrows.now self.new.left.items (IsNone self.new.order.items)) }
+        ensures arrows { OnOk result (self.new.passing.arrows ≡ self.old.passing.arrows) }
+        ensures held { OnOk result (AreHeld self.new.passing.arrows.now self.new.left.items (IsNone self.new.order.items)) }
     {
         let mut place = 0;
         while let Some(&node) = self.order.get(place) {
@@ -101,7 +103,7 @@ impl<'a> Placing<'a> {
         ensures { OnOk result (GoesOn self.old self.new (λ tried. node ≡ tried)) }
     {
         let left = self.left.as_slice();
-        if is_marked(left, node) && self.forth.is_free(left, node) {
+        if is_marked(left, node) && self.passing.is_free(left, node) {
             self.place(node)?;
         }
         Ok(())
@@ -111,7 +113,7 @@ impl<'a> Placing<'a> {
     fn place(&mut self, node: usize) -> Result<(), NoMemory>
         requires places { Places self.old }
         requires left { IsMarked self.old.left.items node }
-        requires free { IsFree self.old.forth.arrows.now self.old.left.items node }
+        requires free { IsFree self.old.passing.arrows.now self.old.left.items node }
         ensures { OnOk result (GoesOn self.old self.new (λ tried. node ≡ tried)) }
     {
         self.order.push(node)?;

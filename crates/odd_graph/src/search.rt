@@ -7,14 +7,6 @@ use crate::Nodes;
 use odd_text::NoMemory;
 use std::alloc::Global;
 
-/// A mark for each node of a graph, none of them set. The only error is NoMemory, for want of memory.
-pub fn unmarked(alloc: Global, arrows: &[Nodes]) -> Result<Vec<bool>, NoMemory>
-    ensures { IfOk result (λ marks. AreClear arrows.now marks.items) }
-{
-    let marks = vec![in alloc; false; arrows.len()]?;
-    Ok(marks)
-}
-
 /// The nodes that a node leads to, by one arrow or more, each once. The marks are those of `unmarked`, and where the nodes
 /// are answered none is set afterwards, so that they serve many searches. The only error is NoMemory, for want of memory.
 pub fn reached(

@@ -4,5 +4,6 @@ pub mod Conditions
 pub mod Contents
 pub mod Labels
 pub mod Links
+pub mod Offering
 pub mod Offers
 pub mod Rules

@@ -230,6 +230,11 @@ none_passed refs entries specs rising last = record {
     over_none None key = refl
     over_none (Some s) key = refl
 
+-- what is above all keys is above the last
+last_below : {X : Type 0} (key bound : Key) (x : X) (es : List (Key × X)) → IsAboveAll key_cmp (es ++ (key, x) ∷ []) bound → key_cmp key bound ≡ Less
+last_below key bound x [] h = h.0
+last_below key bound x (e ∷ es) h = last_below key bound x es h.1
+
 -- a part more is passed
 module _ (refs : References) (entries : List Entry) (passed : List (Key × Component)) (key : Key) (part : Component) (above : IsAboveAll key_cmp passed key) (layer : Acts) (specs : List Spec)
     (rising : IsTrue (is_sorted key_cmp (waiting layer specs)))
@@ -239,13 +244,9 @@ module _ (refs : References) (entries : List Entry) (passed : List (Key × Compo
   bound_more : (bound : Key) → IsAboveAll key_cmp (passed ++ (key, part) ∷ []) bound → AreBelow layer bound
   bound_more bound all = chained layer below
     where
-      less : (es : List (Key × Component)) → IsAboveAll key_cmp (es ++ (key, part) ∷ []) bound → key_cmp key bound ≡ Less
-      less [] h = h.0
-      less (e ∷ es) h = less es h.1
-
       chained : (es : Acts) → AreBelow es key → AreBelow es bound
       chained [] h = tt
-      chained (e ∷ es) h = (key_total.trans e.0 key bound h.0 (less passed all), chained es h.1)
+      chained (e ∷ es) h = (key_total.trans e.0 key bound h.0 (last_below key bound part passed all), chained es h.1)
 
   -- nothing was found at its key before
   fresh : (asked : Key) → eq_by_cmp key_cmp asked key ≡ true → find key_cmp asked passed ≡ None
@@ -315,15 +316,11 @@ module _ (refs : References) (entries : List Entry) (passed : List (Key × Compo
     one_kept listed = record {
       rising = subst (λ es. IsTrue (is_sorted key_cmp es)) (sym whole) (sorted_is _ (between_rises key Keep layer (acts_of specs) (rises_of key_cmp _ rising) below later));
       acts = λ asked. ap (find key_cmp asked) whole ∙ found_between asked key Keep layer (acts_of specs) below ∙ by_tie asked (eq_by_cmp key_cmp asked key) refl;
-      bound = λ bound all. above_push key_cmp layer bound key Keep (bound_more bound all) (last_less passed bound all);
+      bound = λ bound all. above_push key_cmp layer bound key Keep (bound_more bound all) (last_below key bound part passed all);
     }
       where
         whole : waiting (layer ++ (key, Keep) ∷ []) specs ≡ layer ++ (key, Keep) ∷ acts_of specs
         whole = append_assoc layer ((key, Keep) ∷ []) (acts_of specs)
-
-        last_less : (es : List (Key × Component)) (bound : Key) → IsAboveAll key_cmp (es ++ (key, part) ∷ []) bound → key_cmp key bound ≡ Less
-        last_less [] bound h = h.0
-        last_less (e ∷ es) bound h = last_less es bound h.1
 
         by_tie : (asked : Key) (b : Bool) → eq_by_cmp key_cmp asked key ≡ b
             → cond b (Some Keep) (find key_cmp asked (waiting layer specs)) ≡ put_over (spec_at entries asked) (kept_at refs asked (find key_cmp asked (passed ++ (key, part) ∷ [])))

@@ -1,9 +1,9 @@
--- What is escaped is read back, as a text and as a value; escaping character by character.
+-- What is escaped is read back, as a text and as a value; escaping whole, and character by character.
 use Rattle.std.proofs.Common.{◌≡◌, ◌≢◌, ℕ, true, false, List, [], ◌∷◌, ◌++◌, map, sym, refl, ap, ap₂, ◌∙◌, append_assoc, append-nil, codes, IsTrue, subst, length}
 use Rattle.std.proofs.lemmas.Grind.{flat_map-append}
-use Rattle.std.proofs.lemmas.List.Elements.{All-nil, All-cons}
+use Rattle.std.proofs.lemmas.List.Elements.{All-nil, All-cons, All-head, All-tail}
 use Rattle.std.proofs.lemmas.Str.{encodes-append}
-use Rattle.std.specs.List.{list_all, flat_map}
+use Rattle.std.specs.List.{All, list_all, flat_map}
 use Rattle.std.specs.Prelude.{None}
 use Rattle.std.specs.Str.{encode_utf8_all}
 use Rattle.odd_tokens.proofs.Ascii.{ascii_codes, ascii_ncname}
@@ -164,8 +164,18 @@ value_read_back value l = subst (λ (v : List ℕ). IsValueOf (escaped_value v) 
   attributes = refl;
 })
 
--- a text whose bytes are escaped, and what is left of it
+-- each byte of a text is put as `f` of it
 module _ (f : ℕ → List ℕ) where
+  -- a byte that is put as itself
+  abbrev pub IsPlain : ℕ → Type 0
+  IsPlain b = f b ≡ b ∷ []
+
+  -- a text of such bytes alone is put as it is
+  pub all_plain : (text : List ℕ) → All IsPlain text → flat_map f text ≡ text
+  all_plain [] plain = refl
+  all_plain (b ∷ bs) plain = rw (All-head IsPlain b bs plain, all_plain bs (All-tail IsPlain b bs plain)) refl
+
+  -- a text whose bytes are escaped, and what is left of it
   pub record PutUpTo (old now text left : List ℕ) : Type 0 where
     pub front : List ℕ
     pub put : now ≡ old ++ front

@@ -1,5 +1,5 @@
-ghost use Rattle.std.specs.Prelude.{◌≡◌, ◌++◌, OnOk, codes, encode_utf8};
-ghost use Rattle.odd_tree.specs.Markup.{escaped_value, escaped_text};
+ghost use Rattle.std.specs.Prelude.{◌≡◌, ◌↔◌, ◌++◌, [], ◌∷◌, IsTrue, OnOk, codes, encode_utf8};
+ghost use Rattle.odd_tree.specs.Markup.{escaped_value, escaped_value_char, escaped_text, escaped_text_char};
 
 use odd_text::{NoMemory, Text};
 
@@ -56,6 +56,9 @@ pub fn add_end_tag(out: &mut Text, name: &str) -> Result<(), NoMemory>
 pub fn add_escaped_value(out: &mut Text, value: &str) -> Result<(), NoMemory>
     ensures ok { OnOk result (out.new ≡ out.old ++ escaped_value value.now) }
 {
+    if value.bytes().all(is_plain_in_value) {
+        return out.push_str(value);
+    }
     for c in value.chars() {
         add_value_character(out, c)?;
     }
@@ -66,10 +69,28 @@ pub fn add_escaped_value(out: &mut Text, value: &str) -> Result<(), NoMemory>
 pub fn add_escaped_text(out: &mut Text, text: &str) -> Result<(), NoMemory>
     ensures ok { OnOk result (out.new ≡ out.old ++ escaped_text text.now) }
 {
+    if text.bytes().all(is_plain_in_text) {
+        return out.push_str(text);
+    }
     for c in text.chars() {
         add_text_character(out, c)?;
     }
     Ok(())
+}
+
+// Whether a byte of a value is put as itself: a value of such bytes alone is put at once, which is faster. What has to be
+// a reference is ASCII, and so one byte.
+fn is_plain_in_value(byte: u8) -> bool
+    ensures { IsTrue result ↔ (escaped_value_char byte ≡ byte ∷ []) }
+{
+    !matches!(byte, b'"' | b'\t' | b'\n') && is_plain_in_text(byte)
+}
+
+// The same for a byte of a text.
+fn is_plain_in_text(byte: u8) -> bool
+    ensures { IsTrue result ↔ (escaped_text_char byte ≡ byte ∷ []) }
+{
+    !matches!(byte, b'&' | b'<' | b'>' | b'\r')
 }
 
 // A quote would end the value, and a parser turns a tab or a line feed into a space.

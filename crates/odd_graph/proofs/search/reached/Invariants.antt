@@ -1,5 +1,5 @@
 use Rattle.std.proofs.Common.{◌-◌}
-use Rattle.odd_graph.specs.Searching.{to_come}
+use Rattle.odd_graph.specs.Marking.{to_come}
 use Rattle.odd_graph.proofs.NodesReached.{ReachedSoFar}
 use Rattle.odd_graph.proofs.search.reached.Given as goal
 

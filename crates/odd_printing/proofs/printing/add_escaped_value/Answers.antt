@@ -1,7 +1,13 @@
-use Rattle.std.proofs.Common.{encode_utf8}
+use Rattle.std.proofs.Common.{encode_utf8, rules}
+use Rattle.std.specs.List.{All}
 use Rattle.odd_tree.specs.Markup.{escaped_value_char}
-use Rattle.odd_printing.proofs.Escaped.{none_put, more_put, all_put}
+use Rattle.odd_printing.proofs.Escaped.{IsPlain, all_plain, none_put, more_put, all_put}
 use Rattle.odd_printing.proofs.printing.add_escaped_value.Goals as goal
+
+pub returns-then-all : goal.returns-then-all
+returns-then-all c =
+    let plain : All (IsPlain escaped_value_char) c.args.value.now = search rules in
+    rw (all_plain escaped_value_char c.args.value.now plain) (record { ok = c.push_str.ensures.ok })
 
 pub loop-c-init : goal.loop-c-init
 loop-c-init c = none_put escaped_value_char cc

@@ -1,0 +1,136 @@
+-- Whether what is inherited differs.
+use Rattle.std.proofs.Common.{◌≡◌, ◌≢◌, ⊎_elim, ℕ, Bool, true, false, not, cond, List, [], ◌∷◌, Option, Some, None, refl, sym, ap, subst, ◌∙◌}
+use Rattle.std.specs.Cmp.{Equal-is}
+use Rattle.std.specs.FinMap.{find, slice_cmp-IsAntisymmetric, nat_cmp-IsAntisymmetric}
+use Rattle.std.specs.List.{list_any}
+use Rattle.std.specs.Ordering.{eq_by_cmp}
+use Rattle.odd_text.specs.Text.{text_cmp}
+use Rattle.odd_text.specs.declared.key.Key.{Key}
+use Rattle.odd_tree.specs.Elements.{StandsIn}
+use Rattle.odd_tree.proofs.InList.{first_or_later, nothing_stands, stands_first, stands_later}
+use Rattle.odd_attributes.specs.Attributes.{def_changed}
+use Rattle.odd_attributes.specs.declared.att_def.AttDef.{AttDef}
+use Rattle.odd_attributes.specs.declared.att_edit.AttEdit.{AttEdit}
+use Rattle.odd_attributes.specs.declared.att_edit.AttEdit.TheVariants.{Set, Change, Delete}
+use Rattle.odd_library.specs.declared.library.Component.{Component}
+use Rattle.odd_library.specs.declared.library.Library.{Library}
+use Rattle.odd_meaning.specs.Links.{class_key}
+use Rattle.odd_meaning.specs.Offering.{Inherits, Passes}
+use Rattle.odd_offers.specs.Same.{both, def_same, def_test, first as first_true, second as second_true}
+use Rattle.odd_offers.specs.Tables.{ClashesBy, IsInherited, StandsAt, Table, clashes_at, differ, differ_at, passes_at}
+use Rattle.odd_offers.specs.declared.table.Offer.{Offer}
+use Rattle.odd_offers.proofs.Lists.{any_stands, stands_any}
+use Rattle.odd_offers.proofs.TableOf.{giver_is_class}
+
+-- what is not so is false
+not_true : (b : Bool) → not b ≡ true → b ≡ false
+not_true true h = cc
+not_true false h = refl
+
+-- where the definitions differ, two of the offers have different ones
+differ_two : (os : List Offer) → differ os ≡ true → (a b : Offer) × StandsIn os a × StandsIn os b × (a.def ≢ b.def)
+differ_two [] h = cc
+differ_two (o ∷ os) h =
+    let r = any_stands (λ (p : Offer). not (def_same o.def p.def)) os h in
+    (o, r.0, stands_first o os, stands_later o r.0 os r.1, λ e. let no : true ≡ false = sym (def_test.itself o.def) ∙ ap (def_same o.def) e ∙ not_true (def_same o.def r.0.def) r.2 in cc)
+
+-- where none differs from a definition, each is that
+same_unless : (d : AttDef) (os : List Offer) (p : Offer) → list_any (λ (p : Offer). not (def_same d p.def)) os ≡ false → StandsIn os p → d ≡ p.def
+same_unless d os p h m =
+    elim (def_same d p.def) as (λ b. def_same d p.def ≡ b → d ≡ p.def) [
+      | true ↦ λ e. def_test.exact d p.def e
+      | false ↦ λ e. let no : true ≡ false = sym (stands_any (λ (p : Offer). not (def_same d p.def)) os p m (ap not e)) ∙ h in cc
+    ] refl
+
+-- and so is that of each of the offers
+all_same : (o : Offer) (os : List Offer) → list_any (λ (p : Offer). not (def_same o.def p.def)) os ≡ false → (a : Offer) → StandsIn (o ∷ os) a → o.def ≡ a.def
+all_same o os e a m = ⊎_elim (λ is. ap (λ (x : Offer). x.def) (sym is)) (λ later. same_unless o.def os a e later) (first_or_later o a os m)
+
+-- where two of the offers have different definitions, they differ
+two_differ : (os : List Offer) (a b : Offer) → StandsIn os a → StandsIn os b → a.def ≢ b.def → differ os ≡ true
+two_differ [] a b m n h = absurd (nothing_stands a m)
+two_differ (o ∷ os) a b m n h =
+    elim (list_any (λ (p : Offer). not (def_same o.def p.def)) os) as (λ w. list_any (λ (p : Offer). not (def_same o.def p.def)) os ≡ w → w ≡ true) [
+      | true ↦ λ e. refl
+      | false ↦ λ e. absurd (h (sym (all_same o os e a m) ∙ all_same o os e b n))
+    ] refl
+
+-- an own edit that is no Set and no Delete lets each definition pass
+passes_some : (e : Option AttEdit) (d : AttDef) → passes_at e ≡ true → (result : AttDef) × Passes e d result
+passes_some None d h = (d, Passes.as_it_is)
+passes_some (Some (Set x)) d h = cc
+passes_some (Some Delete) d h = cc
+passes_some (Some (Change f)) d h = (def_changed f d, Passes.changed f)
+
+-- and only such an edit does
+some_passes : (e : Option AttEdit) (d r : AttDef) → Passes e d r → passes_at e ≡ true
+some_passes None d r p = refl
+some_passes (Some (Set x)) d r p = elim p [ ]
+some_passes (Some Delete) d r p = elim p [ ]
+some_passes (Some (Change f)) d r p = refl
+
+-- what is found is the value of an entry
+find_entry : {V : Type 0} (q : List ℕ) (v : V) (es : List (List ℕ × V)) → find text_cmp q es ≡ Some v → (e : List ℕ × V) × StandsIn es e × (e.0 ≡ q)
+find_entry q v [] h = cc
+find_entry {V = V} q v (e ∷ es) h =
+    elim (eq_by_cmp text_cmp q e.0) as (λ b. eq_by_cmp text_cmp q e.0 ≡ b → cond b (Some e.1) (find text_cmp q es) ≡ Some v → (f : List ℕ × V) × StandsIn (e ∷ es) f × (f.0 ≡ q)) [
+      | true ↦ λ t k. (e, stands_first e es, sym (slice_cmp-IsAntisymmetric nat_cmp-IsAntisymmetric q e.0 ((Equal-is (text_cmp q e.0)).0 t)))
+      | false ↦ λ t k. let r = find_entry q v es k in (r.0, stands_later e r.0 es r.1, r.2)
+    ] refl h
+
+-- what differs at an ident
+differ_of : (o : Option (List Offer)) → differ_at o ≡ true → (one other : AttDef) × (giver other_giver : List ℕ) × StandsAt o one giver × StandsAt o other other_giver × (one ≢ other)
+differ_of None h = cc
+differ_of (Some os) h = let r = differ_two os h in (r.0.def, r.1.def, r.0.giver, r.1.giver, r.2, r.3, r.4)
+
+-- two that differ
+of_differ : (o : Option (List Offer)) (one other : AttDef) (giver other_giver : List ℕ) → StandsAt o one giver → StandsAt o other other_giver → one ≢ other → differ_at o ≡ true
+of_differ None one other giver other_giver m n h = absurd m
+of_differ (Some os) one other giver other_giver m n h = two_differ os (record { def = one; giver = giver }) (record { def = other; giver = other_giver }) m n h
+
+-- where an offer stands there are offers
+some_of : (o : Option (List Offer)) (d : AttDef) (g : List ℕ) → StandsAt o d g → (os : List Offer) × (o ≡ Some os)
+some_of None d g m = absurd m
+some_of (Some os) d g m = (os, refl)
+
+-- what is inherited stands in the table, and a class gives it
+stands_inherited : (library : Library) (part : Component) (inherited : Table) → IsInherited library part inherited → (ident : List ℕ) (def : AttDef) (giver : Key) → Inherits library part ident def giver
+    → (class : List ℕ) × StandsAt (find text_cmp ident inherited) def class
+stands_inherited library part inherited all ident def giver i =
+    let g = giver_is_class library (class_key i.class) giver ident def i.class refl i.offered in
+    (g.0, (all ident def g.0).1 (subst (λ k. Inherits library part ident def k) g.1 i))
+
+-- the answer tells whether some attribute clashes
+pub clash_told : (edits : List (List ℕ × AttEdit)) (inherited : Table) (b : Bool) → b ≡ list_any (λ entry. clashes_at edits inherited entry.0) inherited → ClashesBy edits inherited b
+clash_told edits inherited b e library part same all = (
+  λ h.
+      let r = any_stands (λ (entry : List ℕ × List Offer). clashes_at edits inherited entry.0) inherited (sym e ∙ h) in
+      let ident = r.0.0 in
+      let p = passes_at (find text_cmp ident edits) in
+      let q = differ_at (find text_cmp ident inherited) in
+      let d = differ_of (find text_cmp ident inherited) (second_true p q r.2) in (
+        ident,
+        record {
+          one = d.0;
+          other = d.1;
+          giver = class_key d.2;
+          other_giver = class_key d.3;
+          passes = subst (λ (es : List (List ℕ × AttEdit)). (result : AttDef) × Passes (find text_cmp ident es) d.0 result) (sym same) (passes_some (find text_cmp ident edits) d.0 (first_true p q r.2));
+          first = (all ident d.0 d.2).0 d.4;
+          second = (all ident d.1 d.3).0 d.5;
+          differ = d.6;
+        },
+      ),
+  λ c.
+      let ident = c.0 in
+      let clash = c.1 in
+      let one = stands_inherited library part inherited all ident clash.one clash.giver clash.first in
+      let other = stands_inherited library part inherited all ident clash.other clash.other_giver clash.second in
+      let os = some_of (find text_cmp ident inherited) clash.one one.0 one.1 in
+      let entry = find_entry ident os.0 inherited os.1 in
+      let passed = subst (λ (es : List (List ℕ × AttEdit)). Passes (find text_cmp ident es) clash.one clash.passes.0) same clash.passes.1 in
+      e ∙ stands_any (λ (entry : List ℕ × List Offer). clashes_at edits inherited entry.0) inherited entry.0 entry.1
+      (ap (clashes_at edits inherited) entry.2
+      ∙ both (passes_at (find text_cmp ident edits)) (differ_at (find text_cmp ident inherited)) (some_passes (find text_cmp ident edits) clash.one clash.passes.0 passed)
+      (of_differ (find text_cmp ident inherited) clash.one clash.other one.0 other.0 one.1 other.1 clash.differ)),
+)

@@ -1,0 +1,4 @@
+mod Clashing
+mod Lists
+mod OneByOne
+mod TableOf
