@@ -3,7 +3,7 @@ use Rattle.std.proofs.Common.{◌≡◌, ◌↔◌, ℕ, List, [], ◌∷◌, re
 use Rattle.std.proofs.lemmas.Bool.{false≢true}
 use Rattle.std.proofs.lemmas.List.Elements.{All-nil, All-head}
 use Rattle.std.specs.Prelude.{All}
-use Rattle.compile_contents.proofs.Standing.{element_held, IsElementAt}
+use Rattle.compile_contents.proofs.Standing.{element_held, IsElementAt, stands_left}
 use Rattle.compile_contents.specs.Contents.{condition_name, condition_pattern, define_name, element_pattern, holds_element, reference, content_pattern}
 use Rattle.compile_defines.specs.Compiled.{IsGrammarOf, element_body}
 use Rattle.odd_content.specs.declared.content.Condition.{Condition}
@@ -15,6 +15,7 @@ use Rattle.odd_library.specs.declared.library.Library.{Library}
 use Rattle.odd_meaning.specs.Admission.{offers_of, IsValidWithin, counting, IsValidBy, name_in_documents}
 use Rattle.odd_meaning.specs.Contents.{IsOne, Admits, IsOfMacro}
 use Rattle.odd_meaning.specs.Labels.{Label, condition, element}
+use Rattle.odd_meaning.specs.Links.{named_by_edits, named_in}
 use Rattle.odd_meaning.specs.Offers.{AreOffered, IsOffered}
 use Rattle.odd_tree.proofs.InList.{nothing_stands}
 use Rattle.odd_tree.specs.Elements.{StandsIn}
@@ -137,7 +138,7 @@ module _ (library : Library) (start : List (List ℕ)) (g : Grammar) (is : IsGra
         let key = element_key ident in
         let formed = (f.formed key (component.Element part) held).1.content in
         let macros = macro_kept library start g is f none counts marks Q kept in
-        let named = names_kept library start g is f none counts marks Q (IsOfMacro library counts) key (component.Element part) held (λ other among. macros other) in
+        let named = names_kept library start g is f none counts marks Q (IsOfMacro library counts) key (component.Element part) held (named_in part.content) (λ k s. stands_left (named_in part.content) (named_by_edits part.atts) k s) (λ other among. macros other) in
         content_law library is.conditions is.members g counts marks Q kept (IsOfMacro library counts) 60 part.content formed named children (all_kept t children s)
 
     -- a valid element is accepted by the define of the held element

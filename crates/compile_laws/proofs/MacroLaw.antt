@@ -9,7 +9,7 @@ use Rattle.compile_contents.specs.Conditions.{conditions_of}
 use Rattle.compile_contents.specs.Contents.{holds_macro, macro_name, macro_pattern}
 use Rattle.compile_defines.specs.Compiled.{IsGrammarOf}
 use Rattle.odd_classes.proofs.Linked.{held}
-use Rattle.odd_classes.proofs.MacrosOrdered.{macro_kind}
+use Rattle.odd_classes.proofs.OnCycles.{macro_kind}
 use Rattle.odd_graph.proofs.Chains.{last_step, by_rank}
 use Rattle.odd_graph.specs.Graph.{Chained}
 use Rattle.odd_library.specs.Formed.{IsFormedLibrary}
@@ -20,7 +20,7 @@ use Rattle.odd_library.specs.declared.library.Library.{Library}
 use Rattle.odd_library.specs.declared.library.OtherPart.{OtherPart}
 use Rattle.odd_meaning.specs.Contents.{AdmitsBy, MacroAdmits, Macros, IsOfMacro}
 use Rattle.odd_meaning.specs.Labels.{Label}
-use Rattle.odd_meaning.specs.Links.{IsLinked, is_macro, macro_key, macros_of, named_by, named_in}
+use Rattle.odd_meaning.specs.Links.{IsLinked, class_key, is_macro, macro_key, macros_of, named_by, named_in}
 use Rattle.odd_meaning.specs.Rules.{Breaks, of_attributes, reaches_itself}
 use Rattle.odd_text.specs.Key.{key_cmp}
 use Rattle.odd_text.specs.KeyOrder.{key_total, key_exact}
@@ -65,13 +65,13 @@ module _ (library : Library) (start : List (List ℕ)) (g : Grammar) (is : IsGra
   abbrev pub IsKeptBy : Macros → List ℕ → Type 0
   IsKeptBy macros ident = Same Q (macros ident) (IsMatched g marks (macro_pattern library ident))
 
-  -- what a held component names is kept where the macros are
-  pub names_kept : (macros : Macros) (key : Key) (part : Component) → find key_cmp key library.parts ≡ Some part
-      → ((ident : List ℕ) → StandsIn (named_by part) (macro_key ident) → IsKeptBy macros ident)
-      → AreNamesKept library is.conditions is.members g counts marks Q macros (named_by part) (conditions_of (content_of part))
-  names_kept macros key part held kept = record {
+  -- what the content of a held component names is kept where the macros are
+  pub names_kept : (macros : Macros) (key : Key) (part : Component) → find key_cmp key library.parts ≡ Some part → (named : List Key) → ((k : Key) → StandsIn named k → StandsIn (named_by part) k)
+      → ((ident : List ℕ) → StandsIn named (macro_key ident) → IsKeptBy macros ident)
+      → AreNamesKept library is.conditions is.members g counts marks Q macros named (conditions_of (content_of part))
+  names_kept macros key part held named all kept = record {
     macros = kept;
-    classes = λ ident s a. none key 17 (of_attributes ident (record { part = part; held = held; among = s }) a);
+    classes = λ ident s a. none key 17 (of_attributes ident (record { part = part; held = held; among = all (class_key ident) s }) a);
     conditions = λ c s. is.are_conditions.each c (record { entry = (key, part); among = held_stands key_cmp key_total key_exact key part library.parts held; holds = s });
   }
 
@@ -92,7 +92,7 @@ module _ (library : Library) (start : List (List ℕ)) (g : Grammar) (is : IsGra
         → ((other : List ℕ) → StandsIn (named_in part.content) (macro_key other) → IsKept levels other) → IsKept (suc levels) ident
     held_kept levels ident part held more =
         let macros : Macros = MacroAdmits levels library counts in
-        let named = names_kept macros (macro_key ident) (component.Macro part) held more in
+        let named = names_kept macros (macro_key ident) (component.Macro part) held (named_in part.content) (λ k s. s) more in
         let formed = (f.formed (macro_key ident) (component.Macro part) held).1.content in
         let law = content_law library is.conditions is.members g counts marks Q kept macros 60 part.content formed named in
         let referred = trans Q (λ w q. admits_content library counts levels ident part held w) (trans Q law (λ w q. macro_law library start g is marks ident part held w)) in

@@ -53,6 +53,8 @@ pub enum Head<'a> {
     Docs,
     Library,
     Members,
+    Offers,
+    OffersUnasked,
     Table(usize),
     Chosen,
 }
@@ -96,6 +98,8 @@ pub fn read_text_head(head: &str) -> Option<Head<'_>> {
         "docs" => Some(Head::Docs),
         "library" => Some(Head::Library),
         "members" => Some(Head::Members),
+        "offers" => Some(Head::Offers),
+        "offers unasked" => Some(Head::OffersUnasked),
         "chosen" => Some(Head::Chosen),
         _ => read_named(head),
     }

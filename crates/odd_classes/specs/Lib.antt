@@ -1,3 +1,6 @@
+pub mod DataFacts
+pub mod Inheriting
 pub mod Listing
+pub mod Offered
 pub mod Placing
 pub mod Ranking

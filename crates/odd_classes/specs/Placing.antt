@@ -1,19 +1,26 @@
 -- What the private functions of this crate keep: the places of keys among the entries of a library, and its graph by a link.
-use Rattle.std.specs.Prelude.{◌≡◌, ◌≢◌, ◌↔◌, ℕ, List, Some, filter, length, slice_get}
+use Rattle.std.specs.Prelude.{◌≡◌, ◌≢◌, ◌↔◌, ℕ, Bool, false, List, Option, Some, None, length, slice_get}
 use Rattle.std.specs.List.{Contains}
 use Rattle.std.specs.declared.cmp.Ordering.TheVariants.{Greater}
 use Rattle.odd_text.specs.Key.{key_cmp}
 use Rattle.odd_text.specs.declared.key.Key.{Key}
 use Rattle.odd_graph.specs.Graph.{Chained, HasArrow, Leads}
 use Rattle.odd_tree.specs.Elements.{StandsIn}
-use Rattle.odd_content.specs.declared.content.Content.{Content}
+use Rattle.odd_attributes.specs.declared.att_def.Datatype.{Datatype}
+use Rattle.odd_attributes.specs.declared.att_edit.AttEdit.{AttEdit}
+use Rattle.odd_attributes.specs.declared.att_edit.AttEdit.TheVariants as edit
 use Rattle.odd_library.specs.Odd.{element_key}
 use Rattle.odd_library.specs.declared.library.Component.{Component}
 use Rattle.odd_library.specs.declared.library.Component.TheVariants as component
 use Rattle.odd_library.specs.declared.library.ElementPart.{ElementPart}
 use Rattle.odd_library.specs.declared.library.Library.{Library}
-use Rattle.odd_meaning.specs.Links.{IsHeld, IsLinked, class_key, classes_of, is_macro, macro_key, macros_of, named_in}
+use Rattle.odd_meaning.specs.Links.{IsHeld, IsLinked, class_key, classes_of, datatype_key, datatypes_of, is_datatype, is_macro, macro_key, macros_of}
 use Rattle.odd_meaning.specs.Rules.{IsOfAttributes, Names}
+use Rattle.odd_text.specs.declared.key.Kind.{Kind}
+use Rattle.odd_classes.specs.declared.cycles.CycleRefusal.{CycleRefusal}
+use Rattle.odd_classes.specs.declared.cycles.CycleRefusal.TheVariants as cycle
+use Rattle.odd_classes.specs.declared.rules.LibraryRefusal.{LibraryRefusal}
+use Rattle.odd_classes.specs.declared.rules.LibraryRefusal.TheVariants as refusal
 use Rattle.odd_classes.specs.declared.links.Link.{Link}
 use Rattle.odd_classes.specs.declared.links.Link.TheVariants as link
 use Rattle.odd_classes.specs.declared.rules.WrongReference.{WrongReference}
@@ -23,6 +30,30 @@ use Rattle.odd_classes.specs.declared.rules.WrongReference.TheVariants as wrong
 abbrev pub keys_by : Link → Component → List Key
 keys_by link.Classes part = classes_of part
 keys_by link.Macros part = macros_of part
+keys_by link.Datatypes part = datatypes_of part
+
+-- the link follows keys of the kind, of those that a component names
+abbrev pub is_followed : Link → Kind → Bool
+is_followed link.Classes k = false
+is_followed link.Macros k = is_macro k
+is_followed link.Datatypes k = is_datatype k
+
+-- the datatype that an edit of an attribute gives
+abbrev pub datatype_in : AttEdit → Option Datatype
+datatype_in (edit.Set def) = def.datatype
+datatype_in (edit.Change fields) = fields.datatype
+datatype_in edit.Delete = None
+
+-- the rule that forbids a reference
+abbrev pub rule_of : WrongReference → ℕ
+rule_of wrong.MacroNotHeld = 11
+rule_of wrong.DatatypeNotHeld = 12
+rule_of wrong.OfAttributes = 17
+
+-- a cycle, as an offence of a library
+abbrev pub as_library : CycleRefusal → LibraryRefusal
+as_library (cycle.Loop key rule) = refusal.Rule key rule
+as_library cycle.NoMemory = refusal.NoMemory
 
 -- the component at the key leads to itself by a link
 abbrev pub LeadsToItself : Link → Library → Key → Type 0
@@ -31,10 +62,6 @@ LeadsToItself link library key = Chained (IsLinked (keys_by link) library) key k
 -- the entry at a place has the key and the component
 abbrev pub IsEntryAt : List (Key × Component) → ℕ → Key → Component → Type 0
 IsEntryAt entries place key part = slice_get entries place ≡ Some (key, part)
-
--- the keys of the macros that a content names
-abbrev pub macros_in : Content → List Key
-macros_in content = filter (λ key. is_macro key.kind) (named_in content)
 
 -- the entry at a place has the key
 abbrev pub IsPlaceOf : List (Key × Component) → ℕ → Key → Type 0
@@ -60,12 +87,13 @@ pub record IsTurnedGraphOf (keys_of : Component → List Key) (entries : List (K
 abbrev pub IsReachedFrom : List (Key × Component) → List (List ℕ) → ℕ → List ℕ → Type 0
 IsReachedFrom entries arrows place ident = (from : ℕ) × (part : ElementPart) × IsEntryAt entries from (element_key ident) (component.Element part) × Leads arrows place from
 
--- a content may not name the key
+-- a component may not name the key
 abbrev pub IsWrong : Library → WrongReference → Key → Type 0
 IsWrong library wrong.MacroNotHeld key = (ident : List ℕ) × (key ≡ macro_key ident) × (IsHeld library key → ⊥)
+IsWrong library wrong.DatatypeNotHeld key = (ident : List ℕ) × (key ≡ datatype_key ident) × (IsHeld library key → ⊥)
 IsWrong library wrong.OfAttributes key = (ident : List ℕ) × (key ≡ class_key ident) × IsOfAttributes library ident
 
--- the content of what is held at the key names such a key
+-- what is held at the key names such a key
 abbrev pub NamesWrongly : Library → WrongReference → Key → Type 0
 NamesWrongly library w key = (other : Key) × Names library key other × IsWrong library w other
 

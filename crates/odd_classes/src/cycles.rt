@@ -21,17 +21,18 @@ pub enum CycleRefusal {
 // A class is a member of itself.
 const OWN_MEMBER: u8 = 13;
 
-// A macro reaches itself.
+// A macro or a datatype reaches itself.
 const REACHES_ITSELF: u8 = 14;
 
 /// Loop is answered for the first class of a library, by ident, that is a member of itself (rule 13), and where there is none
-/// for the first macro that reaches itself (rule 14). NoMemory is answered for want of memory.
+/// for the first macro, or else the first datatype, that reaches itself (rule 14). NoMemory is answered for want of memory.
 pub fn check_cycles(alloc: Global, library: &Library) -> Result<(), CycleRefusal>
     ensures none { IsOk result → (key : AKey) (rule : ℕ) → BreaksByCycle library.now key rule → ⊥ }
     ensures first { (key : AKey) (rule : ℕ) → result ≡ Err (CycleRefusal.Loop key rule) → IsFirstBreak (BreaksByCycle library.now) key rule }
 {
     check_link(alloc, library, Link::Classes, OWN_MEMBER)?;
-    check_link(alloc, library, Link::Macros, REACHES_ITSELF)
+    check_link(alloc, library, Link::Macros, REACHES_ITSELF)?;
+    check_link(alloc, library, Link::Datatypes, REACHES_ITSELF)
 }
 
 /// Loop is answered for the first class of a library, by ident, that is a member of itself (rule 13). NoMemory is answered for

@@ -1,18 +1,21 @@
-//! Which elements are members of a class, in which order macros stand in one another, and which libraries break a rule on
-//! classes and macros: a class that is a member of itself, a macro that reaches itself, a content that names a macro that is
-//! not held or a class of attributes.
+//! Which elements are members of a class, what elements offer of attributes, in which order macros stand in one another, and which
+//! libraries break a rule: the rules on what components name, on cycles, on what elements offer, and on data.
 #![tactic(auto)]
 
 mod class_members;
 mod cycles;
+mod data;
 mod graph;
+mod inheriting;
 mod links;
 mod macro_order;
 mod member_lists;
+mod offering;
 mod rules;
 
 pub use class_members::members;
 pub use cycles::{CycleRefusal, check_cycles};
 pub use macro_order::in_macro_order;
 pub use member_lists::{MemberTable, TableRefusal, member_table};
+pub use offering::{Offer, OfferRefusal, Offers, offered};
 pub use rules::{LibraryRefusal, check_library};

@@ -1,10 +1,13 @@
-ghost use Rattle.std.specs.Prelude.{◌≡◌, [], ◌∷◌, ◌++◌, IfOk, OnOk, flat_map, map};
-ghost use Rattle.odd_meaning.specs.Links.{class_key, classes_of, macros_of};
-ghost use Rattle.odd_classes.specs.Placing.{keys_by, macros_in};
+ghost use Rattle.std.specs.Prelude.{◌≡◌, [], ◌∷◌, ◌++◌, IfOk, OnOk, filter, flat_map, map};
+ghost use Rattle.std.specs.Option.{option_copied};
+ghost use Rattle.odd_meaning.specs.Links.{class_key, classes_of, named_by as the_named_by, named_by_datatype, named_by_edits, named_by_item, named_in};
+ghost use Rattle.odd_classes.specs.Placing.{datatype_in, keys_by, is_followed};
 
+use odd_attributes::{AttEdit, AttEdits, Datatype};
 use odd_content::{Content, Contents};
 use odd_library::Component;
 use odd_text::{Key, Keys, Kind, NoMemory, Text, TryCopy, Words};
+use rng_types::Item;
 use std::alloc::Global;
 
 /// By what a component leads on to others.
@@ -14,6 +17,8 @@ pub enum Link {
     Classes,
     /// The macros that its content names.
     Macros,
+    /// The datatypes that it names.
+    Datatypes,
 }
 
 /// The keys that a component names by a link.
@@ -22,7 +27,7 @@ pub fn linked(alloc: Global, link: Link, part: &Component) -> Result<Keys, NoMem
 {
     match link {
         Link::Classes => classes(alloc, part),
-        Link::Macros => macros(alloc, part),
+        Link::Macros | Link::Datatypes => followed(alloc, link, &named(alloc, part)?),
     }
 }
 
@@ -48,47 +53,107 @@ fn class_keys(alloc: Global, words: &Words) -> Result<Keys, NoMemory>
     Ok(keys)
 }
 
-// The keys of the macros that the content of a component names.
-fn macros(alloc: Global, part: &Component) -> Result<Keys, NoMemory>
-    ensures { IfOk result (λ keys. keys ≡ macros_of part.now) }
+// Those of the keys that the link follows.
+fn followed(alloc: Global, link: Link, keys: &Keys) -> Result<Keys, NoMemory>
+    ensures { IfOk result (λ made. made ≡ filter (λ key. is_followed link key.kind) keys.now) }
+{
+    let mut made = Keys::new(alloc);
+    for key in keys.as_slice() {
+        if follows(link, key.kind) {
+            made.push(key.copy(alloc)?)?;
+        }
+    }
+    Ok(made)
+}
+
+// Whether the link follows keys of a kind.
+fn follows(link: Link, kind: Kind) -> bool
+    ensures { result ≡ is_followed link kind }
+{
+    matches!(
+        (link, kind),
+        (Link::Macros, Kind::Macro) | (Link::Datatypes, Kind::Datatype)
+    )
+}
+
+/// The keys that a component names, in its content and in its edits of attributes.
+pub fn named(alloc: Global, part: &Component) -> Result<Keys, NoMemory>
+    ensures { IfOk result (λ keys. keys ≡ the_named_by part.now) }
 {
     let mut keys = Keys::new(alloc);
     match part {
-        Component::Element(part) => push_macros(alloc, &mut keys, &part.content)?,
-        Component::Macro(part) => push_macros(alloc, &mut keys, &part.content)?,
-        Component::Class(_) | Component::Datatype(_) => {}
+        Component::Element(part) => {
+            push_named(alloc, &mut keys, &part.content)?;
+            push_datatypes(alloc, &mut keys, &part.atts)?;
+        }
+        Component::Class(part) => push_datatypes(alloc, &mut keys, &part.atts)?,
+        Component::Macro(part) | Component::Datatype(part) => {
+            push_named(alloc, &mut keys, &part.content)?;
+        }
     }
     Ok(keys)
 }
 
-// Puts the keys of the macros that a content names, at any depth, at the end.
-#[cycle(push_macros)]
-fn push_macros(alloc: Global, keys: &mut Keys, content: &Content) -> Result<(), NoMemory>
-    ensures { OnOk result (keys.new ≡ keys.old ++ macros_in content.now) }
+// Puts the keys that a content names, at any depth, at the end.
+#[cycle(push_named)]
+fn push_named(alloc: Global, keys: &mut Keys, content: &Content) -> Result<(), NoMemory>
+    ensures { OnOk result (keys.new ≡ keys.old ++ named_in content.now) }
 {
     match content {
+        Content::Value(item) => push_item(alloc, keys, item),
+        Content::Element { key, bounds: _ } => push_key(alloc, keys, Kind::Element, key),
+        Content::Class { key, .. } => push_key(alloc, keys, Kind::Class, key),
         Content::Macro { key, bounds: _ } => push_key(alloc, keys, Kind::Macro, key),
-        Content::Sequence { parts, bounds: _ } => push_macros_of(alloc, keys, parts),
-        Content::Alternate { parts, bounds: _ } => push_macros_of(alloc, keys, parts),
-        Content::Element { .. }
-        | Content::Class { .. }
-        | Content::Empty
-        | Content::Text
-        | Content::Value(_)
-        | Content::Vals(_)
-        | Content::Any { .. } => Ok(()),
+        Content::Sequence { parts, bounds: _ } => push_named_of(alloc, keys, parts),
+        Content::Alternate { parts, bounds: _ } => push_named_of(alloc, keys, parts),
+        Content::Empty | Content::Text | Content::Vals(_) | Content::Any { .. } => Ok(()),
     }
 }
 
 // The same of each part.
-#[cycle(push_macros)]
-fn push_macros_of(alloc: Global, keys: &mut Keys, parts: &Contents) -> Result<(), NoMemory>
-    ensures { OnOk result (keys.new ≡ keys.old ++ flat_map macros_in parts.now) }
+#[cycle(push_named)]
+fn push_named_of(alloc: Global, keys: &mut Keys, parts: &Contents) -> Result<(), NoMemory>
+    ensures { OnOk result (keys.new ≡ keys.old ++ flat_map named_in parts.now) }
 {
     for part in parts.as_slice() {
-        push_macros(alloc, keys, part)?;
+        push_named(alloc, keys, part)?;
     }
     Ok(())
+}
+
+// Puts the keys of the datatypes that edits of attributes name at the end.
+fn push_datatypes(alloc: Global, keys: &mut Keys, edits: &AttEdits) -> Result<(), NoMemory>
+    ensures { OnOk result (keys.new ≡ keys.old ++ named_by_edits edits.now) }
+{
+    for at in 0..edits.len() {
+        if let Some(edit) = edits.value(at) {
+            if let Some(datatype) = datatype_of(edit) {
+                push_item(alloc, keys, &datatype.item)?;
+            }
+        }
+    }
+    Ok(())
+}
+
+// The datatype that an edit of an attribute gives.
+fn datatype_of(edit: &AttEdit) -> Option<&Datatype>
+    ensures { option_copied result ≡ datatype_in edit.now }
+{
+    match edit {
+        AttEdit::Set(def) => def.datatype.as_ref(),
+        AttEdit::Change(fields) => fields.datatype.as_ref(),
+        AttEdit::Delete => None,
+    }
+}
+
+// Puts the key of the datatype that an item names at the end.
+fn push_item(alloc: Global, keys: &mut Keys, item: &Item) -> Result<(), NoMemory>
+    ensures { OnOk result (keys.new ≡ keys.old ++ named_by_item item.now) }
+{
+    match item {
+        Item::Key(key) => push_key(alloc, keys, Kind::Datatype, key),
+        Item::Typed { .. } => Ok(()),
+    }
 }
 
 // Puts the key of a kind and an ident at the end.

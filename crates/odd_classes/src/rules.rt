@@ -1,14 +1,16 @@
-ghost use Rattle.std.specs.Prelude.{◌≡◌, ◌↔◌, ℕ, Err, IsOk, IsTrue, flat_map};
+ghost use Rattle.std.specs.Prelude.{◌≡◌, ◌↔◌, ℕ, Err, IfOk, IsOk, IsTrue};
 ghost use Rattle.odd_text.specs.declared.key.Key.{Key as AKey};
 ghost use Rattle.odd_tree.specs.Elements.{StandsIn};
 ghost use Rattle.odd_library.specs.declared.library.ClassPart.{ClassPart as AClassPart};
 ghost use Rattle.odd_library.specs.declared.library.Component.TheVariants as the_component;
-ghost use Rattle.odd_meaning.specs.Links.{named_by, named_in};
-ghost use Rattle.odd_meaning.specs.Rules.{Breaks, IsFirstBreak};
-ghost use Rattle.odd_classes.specs.Placing.{IsFirstAmong, IsWrong, NamesWrongly};
+ghost use Rattle.odd_meaning.specs.Links.{named_by};
+ghost use Rattle.odd_meaning.specs.Rules.{Breaks, BreaksWithin, IsFirstBreak};
+ghost use Rattle.odd_classes.specs.Placing.{IsWrong, rule_of};
 
 use crate::cycles::{CycleRefusal, check_cycles};
-use odd_content::{Content, Contents};
+use crate::data::check_data;
+use crate::links::named;
+use crate::offering::check_offers;
 use odd_library::{Component, Library};
 use odd_text::{Key, Kind, NoMemory, Text, TryCopy};
 use std::alloc::Global;
@@ -21,107 +23,93 @@ pub enum LibraryRefusal {
     NoMemory,
 }
 
-/// A reference that a content may not have.
+/// A reference that a component may not have.
 #[derive(Clone, Copy, Drop)]
 pub enum WrongReference {
-    /// A macro that is not held.
+    /// To a macro that is not held.
     MacroNotHeld,
-    /// A class of type `atts`.
+    /// To a datatype that is not held.
+    DatatypeNotHeld,
+    /// To a class of type `atts`.
     OfAttributes,
 }
 
-// A content names a macro that is not held.
-const MACRO_NOT_HELD: u8 = 11;
+impl WrongReference {
+    // The rule that forbids it.
+    fn rule(self) -> u8
+        ensures { result ≡ rule_of self }
+    {
+        match self {
+            WrongReference::MacroNotHeld => 11,
+            WrongReference::DatatypeNotHeld => 12,
+            WrongReference::OfAttributes => 17,
+        }
+    }
+}
 
-// A content names a class of type `atts`.
-const OF_ATTRIBUTES: u8 = 17;
-
-/// Whether a library breaks one of the rules on classes and macros: 11, the content of an element or a macro names a macro that
-/// is not held; 13, a class is a member of itself; 14, a macro reaches itself; 17, such a content names a class of type
-/// `atts`. Rule is answered for the first offence by rule, then by kind (element, class, macro) and then by ident. NoMemory is
-/// answered for want of memory.
+/// Whether a library breaks one of its rules: 11, a content names a macro that is not held; 12, a component names a datatype that
+/// is not held, in its content or in an attribute that it sets or changes; 13, a class is a member of itself; 14, a macro or a
+/// datatype reaches itself; 15, an element inherits different definitions of an attribute that it does not itself set or delete;
+/// 16, two attributes of an element have one name in documents; 17, a content names a class of type `atts`; 18, the content of an
+/// element or a macro reaches data and is not data content. Rule is answered for the first offence by rule, then by kind
+/// (element, class, macro, datatype) and then by ident. NoMemory is answered for want of memory.
 pub fn check_library(alloc: Global, library: &Library) -> Result<(), LibraryRefusal>
     ensures none { IsOk result → (key : AKey) (rule : ℕ) → Breaks library.now key rule → ⊥ }
     ensures first { (key : AKey) (rule : ℕ) → result ≡ Err (LibraryRefusal.Rule key rule) → IsFirstBreak (Breaks library.now) key rule }
 {
-    check_names(alloc, library, WrongReference::MacroNotHeld, MACRO_NOT_HELD)?;
-    match check_cycles(alloc, library) {
-        Ok(()) => {}
-        Err(CycleRefusal::Loop { key, rule }) => return Err(LibraryRefusal::Rule { key, rule }),
-        Err(CycleRefusal::NoMemory) => return Err(LibraryRefusal::NoMemory),
-    }
-    check_names(alloc, library, WrongReference::OfAttributes, OF_ATTRIBUTES)
+    check_names(alloc, library, WrongReference::MacroNotHeld)?;
+    check_names(alloc, library, WrongReference::DatatypeNotHeld)?;
+    check_cycles(alloc, library)?;
+    check_offers(alloc, library)?;
+    check_names(alloc, library, WrongReference::OfAttributes)?;
+    check_data(alloc, library)
 }
 
-// Whether a content names what it may not.
+// Whether a component names what it may not.
 fn check_names(
     alloc: Global,
     library: &Library,
     wrong: WrongReference,
-    rule: u8,
 ) -> Result<(), LibraryRefusal>
-    ensures none { IsOk result → (key : AKey) → NamesWrongly library.now wrong key → ⊥ }
-    ensures first { (key : AKey) (given : ℕ) → result ≡ Err (LibraryRefusal.Rule key given) → IsFirstAmong (NamesWrongly library.now wrong) key }
-    ensures rule { (key : AKey) (given : ℕ) → result ≡ Err (LibraryRefusal.Rule key given) → given ≡ rule }
+    ensures none { IsOk result → (key : AKey) (rule : ℕ) → BreaksWithin (rule_of wrong) (rule_of wrong) library.now key rule → ⊥ }
+    ensures first { (key : AKey) (rule : ℕ) → result ≡ Err (LibraryRefusal.Rule key rule) → IsFirstBreak (BreaksWithin (rule_of wrong) (rule_of wrong) library.now) key rule }
 {
     for (key, part) in library.parts.entries() {
-        if names(library, wrong, part) {
+        if names(alloc, library, wrong, part)? {
             let key = key.copy(alloc)?;
+            let rule = wrong.rule();
             return Err(LibraryRefusal::Rule { key, rule });
         }
     }
     Ok(())
 }
 
-// Whether the content of a component names what it may not.
-fn names(library: &Library, wrong: WrongReference, part: &Component) -> bool
-    ensures { IsTrue result ↔ ((key : AKey) × StandsIn (named_by part.now) key × IsWrong library.now wrong key) }
+// Whether a component names what it may not.
+fn names(
+    alloc: Global,
+    library: &Library,
+    wrong: WrongReference,
+    part: &Component,
+) -> Result<bool, NoMemory>
+    ensures { IfOk result (λ b. IsTrue b ↔ ((key : AKey) × StandsIn (named_by part.now) key × IsWrong library.now wrong key)) }
 {
-    match part {
-        Component::Element(part) => content_names(library, wrong, &part.content),
-        Component::Macro(part) => content_names(library, wrong, &part.content),
-        Component::Class(_) | Component::Datatype(_) => false,
-    }
-}
-
-// Whether a content does, at any depth.
-#[cycle(content_names)]
-fn content_names(library: &Library, wrong: WrongReference, content: &Content) -> bool
-    ensures { IsTrue result ↔ ((key : AKey) × StandsIn (named_in content.now) key × IsWrong library.now wrong key) }
-{
-    match content {
-        Content::Class { key, .. } => is_wrong(library, wrong, Kind::Class, key),
-        Content::Macro { key, bounds: _ } => is_wrong(library, wrong, Kind::Macro, key),
-        Content::Sequence { parts, bounds: _ } => one_names(library, wrong, parts),
-        Content::Alternate { parts, bounds: _ } => one_names(library, wrong, parts),
-        Content::Element { .. }
-        | Content::Empty
-        | Content::Text
-        | Content::Value(_)
-        | Content::Vals(_)
-        | Content::Any { .. } => false,
-    }
-}
-
-// Whether one of the parts does.
-#[cycle(content_names)]
-fn one_names(library: &Library, wrong: WrongReference, parts: &Contents) -> bool
-    ensures { IsTrue result ↔ ((key : AKey) × StandsIn (flat_map named_in parts.now) key × IsWrong library.now wrong key) }
-{
-    for part in parts.as_slice() {
-        if content_names(library, wrong, part) {
-            return true;
+    for key in named(alloc, part)?.as_slice() {
+        if is_wrong(library, wrong, key.kind, &key.ident) {
+            return Ok(true);
         }
     }
-    false
+    Ok(false)
 }
 
-// Whether a content may not name a component of a kind by an ident.
+// Whether a component may not name one of a kind by an ident.
 fn is_wrong(library: &Library, wrong: WrongReference, kind: Kind, ident: &Text) -> bool
     ensures { IsTrue result ↔ IsWrong library.now wrong (record { kind = kind; ident = ident.now }) }
 {
     match (wrong, kind) {
         (WrongReference::MacroNotHeld, Kind::Macro) => library.find_by(kind, ident).is_none(),
+        (WrongReference::DatatypeNotHeld, Kind::Datatype) => {
+            library.find_by(kind, ident).is_none()
+        }
         (WrongReference::OfAttributes, Kind::Class) => match library.find_by(kind, ident) {
             Some(part) => is_of_attributes(part),
             None => false,
@@ -147,5 +135,18 @@ impl From<NoMemory> for LibraryRefusal {
 
     fn from(_error: NoMemory) -> LibraryRefusal {
         LibraryRefusal::NoMemory
+    }
+}
+
+impl From<CycleRefusal> for LibraryRefusal {
+    ghost use Rattle.odd_classes.specs.Placing.{as_library};
+
+    ghost from_gives = { λ refusal made. made ≡ as_library refusal };
+
+    fn from(refusal: CycleRefusal) -> LibraryRefusal {
+        match refusal {
+            CycleRefusal::Loop { key, rule } => LibraryRefusal::Rule { key, rule },
+            CycleRefusal::NoMemory => LibraryRefusal::NoMemory,
+        }
     }
 }

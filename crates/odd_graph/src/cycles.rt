@@ -16,8 +16,9 @@ pub fn first_on_cycle(alloc: Global, arrows: &[Nodes]) -> Result<Option<usize>, 
     Ok(marks.iter().position(|marked| *marked))
 }
 
-// For each node of a graph whether it leads to itself.
-fn on_cycles(alloc: Global, arrows: &[Nodes]) -> Result<Vec<bool>, NoMemory>
+/// For each node of a graph whether it leads to itself, in time linear in nodes and arrows. The only error is NoMemory, for want of
+/// memory.
+pub fn on_cycles(alloc: Global, arrows: &[Nodes]) -> Result<Vec<bool>, NoMemory>
     ensures { IfOk result (λ marks. (node : ℕ) → IsMarked marks.items node ↔ Leads arrows.now node node) }
 {
     let mut walk = Walk::new(alloc, arrows)?;

@@ -1,4 +1,4 @@
-//! Graphs: which nodes one leads to, the first node that leads to itself, and an order of those that lead to no cycle.
+//! Graphs: which nodes one leads to, which nodes lead to themselves, and an order of those that lead to no cycle.
 #![tactic(auto)]
 
 mod cycles;
@@ -9,8 +9,8 @@ mod search;
 mod turning;
 mod walk;
 
-pub use cycles::first_on_cycle;
-pub use marks::unmarked;
+pub use cycles::{first_on_cycle, on_cycles};
+pub use marks::{is_marked, unmarked};
 use odd_text::Seq;
 pub use ordering::ordered;
 pub use search::reached;

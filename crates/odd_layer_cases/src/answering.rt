@@ -1,4 +1,6 @@
-use crate::chains::{told_chosen, told_library, told_members, told_table};
+use crate::chains::{
+    told_chosen, told_library, told_members, told_offers, told_table, told_unasked,
+};
 use crate::draft::read_question;
 use crate::letters::Letters;
 use crate::patterns::told_lines;
@@ -65,6 +67,25 @@ fn chains_difference(alloc: Global, chains: &[Chain]) -> Result<Option<String>, 
 
 // What is answered of a chain otherwise than wanted.
 fn chain_difference(alloc: Global, chain: &Chain) -> Result<Option<String>, CaseFault> {
+    let difference = members_difference(alloc, chain)?;
+    if difference.is_some() {
+        return Ok(difference);
+    }
+    let difference = offers_difference(alloc, chain)?;
+    if difference.is_some() {
+        return Ok(difference);
+    }
+    match &chain.chosen {
+        Some(wanted) => {
+            let text = told_chosen(alloc, chain.docs.as_slice())?;
+            text_difference(alloc, "chosen", wanted, &text)
+        }
+        None => Ok(None),
+    }
+}
+
+// The same of the library and of the members of its classes.
+fn members_difference(alloc: Global, chain: &Chain) -> Result<Option<String>, CaseFault> {
     if let Some((limit, wanted)) = &chain.table {
         let text = told_table(alloc, chain.docs.as_slice(), *limit)?;
         let difference = text_difference(alloc, "table", wanted, &text)?;
@@ -79,17 +100,28 @@ fn chain_difference(alloc: Global, chain: &Chain) -> Result<Option<String>, Case
             return Ok(difference);
         }
     }
-    if let Some(wanted) = &chain.members {
-        let text = told_members(alloc, &chain.docs)?;
-        let difference = text_difference(alloc, "members", wanted, &text)?;
+    match &chain.members {
+        Some(wanted) => {
+            let text = told_members(alloc, &chain.docs)?;
+            text_difference(alloc, "members", wanted, &text)
+        }
+        None => Ok(None),
+    }
+}
+
+// The same of what its elements offer.
+fn offers_difference(alloc: Global, chain: &Chain) -> Result<Option<String>, CaseFault> {
+    if let Some(wanted) = &chain.offers {
+        let text = told_offers(alloc, &chain.docs)?;
+        let difference = text_difference(alloc, "offers", wanted, &text)?;
         if difference.is_some() {
             return Ok(difference);
         }
     }
-    match &chain.chosen {
+    match &chain.unasked {
         Some(wanted) => {
-            let text = told_chosen(alloc, chain.docs.as_slice())?;
-            text_difference(alloc, "chosen", wanted, &text)
+            let text = told_unasked(alloc, chain.docs.as_slice())?;
+            text_difference(alloc, "offers unasked", wanted, &text)
         }
         None => Ok(None),
     }

@@ -1,4 +1,5 @@
 use crate::edits::add_edits;
+use crate::offers::add_offers;
 use odd_case_files::add_content;
 use odd_chain::{OddDocs, merge};
 use odd_classes::{MemberTable, TableRefusal, member_table, members};
@@ -27,6 +28,26 @@ pub fn told_members(alloc: Global, docs: &OddDocs) -> Result<Text, NoMemory> {
     let mut out = Text::new(alloc);
     match merged(alloc, docs) {
         Ok(library) => add_members(alloc, &mut out, &library)?,
+        Err(refusal) => add_refusal(alloc, &mut out, &refusal)?,
+    }
+    Ok(out)
+}
+
+/// What each element of the library after the docs of a chain offers, or their first offence.
+pub fn told_offers(alloc: Global, docs: &OddDocs) -> Result<Text, NoMemory> {
+    let mut out = Text::new(alloc);
+    match merged(alloc, docs) {
+        Ok(library) => add_offers(alloc, &mut out, &library)?,
+        Err(refusal) => add_refusal(alloc, &mut out, &refusal)?,
+    }
+    Ok(out)
+}
+
+/// The same where no library is asked for what it breaks: of an element that breaks a rule on what it offers, the rule.
+pub fn told_unasked(alloc: Global, docs: &[OddDoc]) -> Result<Text, NoMemory> {
+    let mut out = Text::new(alloc);
+    match library_after(alloc, docs) {
+        Ok(library) => add_offers(alloc, &mut out, &library)?,
         Err(refusal) => add_refusal(alloc, &mut out, &refusal)?,
     }
     Ok(out)

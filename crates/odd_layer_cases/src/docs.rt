@@ -1,20 +1,14 @@
+use crate::contents::read_content;
 use crate::edits::read_edits;
 use odd_attributes::AttEdits;
 use odd_case_files::CaseFault;
 use odd_chain::OddDocs;
-use odd_content::{Content, Contents, Pick};
+use odd_content::Pick;
 use odd_forms::{TEI, sorted};
 use odd_library::{Entries, Entry, Mode, OddDoc, Spec};
 use odd_members::{ClassMarks, Membership};
 use odd_text::{Key, Kind, NoMemory, Text, Words};
-use rng_types::Bounds;
 use std::alloc::Global;
-
-// The bounds of a part that stands once.
-const ONCE: Bounds = Bounds {
-    min: 1,
-    max: Some(1),
-};
 
 /// The docs of a text. Each begins with a line of its ident and start words, and each line below it is an item, whose
 /// place is the number of the line, counted from 1.
@@ -202,45 +196,4 @@ fn read_marks(alloc: Global, value: &str) -> Result<ClassMarks, CaseFault> {
         marks.put(Text::from_str(alloc, class)?, is_added)?;
     }
     Ok(marks)
-}
-
-// A part of the content, or several with commas between them, which are a sequence.
-fn read_content(alloc: Global, content: &str) -> Result<Content, NoMemory> {
-    if !content.contains(',') {
-        return read_part(alloc, content);
-    }
-    let mut parts = Contents::new(alloc);
-    for part in content.split(',') {
-        parts.push(read_part(alloc, part)?)?;
-    }
-    Ok(Content::Sequence {
-        parts,
-        bounds: ONCE,
-    })
-}
-
-fn read_part(alloc: Global, part: &str) -> Result<Content, NoMemory> {
-    match part.split_once('/') {
-        Some(("class", ident)) => Ok(Content::Class {
-            key: Text::from_str(alloc, ident)?,
-            pick: Pick::All,
-            bounds: ONCE,
-        }),
-        Some(("macro", ident)) => Ok(Content::Macro {
-            key: Text::from_str(alloc, ident)?,
-            bounds: ONCE,
-        }),
-        _ => read_named(alloc, part),
-    }
-}
-
-fn read_named(alloc: Global, part: &str) -> Result<Content, NoMemory> {
-    match part {
-        "empty" => Ok(Content::Empty),
-        "text" => Ok(Content::Text),
-        ident => Ok(Content::Element {
-            key: Text::from_str(alloc, ident)?,
-            bounds: ONCE,
-        }),
-    }
 }

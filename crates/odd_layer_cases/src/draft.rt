@@ -46,6 +46,18 @@ fn put_part(alloc: Global, draft: &mut Draft, part: Part<'_>) -> Result<(), Case
             draft.chains.push(begun_chain(alloc, text)?)?;
             Ok(())
         }
+        _ => put_wanted(alloc, draft, head, text),
+    }
+}
+
+// Puts what must be answered of the last chain.
+fn put_wanted(
+    alloc: Global,
+    draft: &mut Draft,
+    head: Head<'_>,
+    text: &[u8],
+) -> Result<(), CaseFault> {
+    match head {
         Head::Library => {
             let wanted = said_answer(alloc, text)?;
             set_once(&mut last_chain(draft)?.library, wanted)
@@ -53,6 +65,14 @@ fn put_part(alloc: Global, draft: &mut Draft, part: Part<'_>) -> Result<(), Case
         Head::Members => {
             let wanted = said_answer(alloc, text)?;
             set_once(&mut last_chain(draft)?.members, wanted)
+        }
+        Head::Offers => {
+            let wanted = said_answer(alloc, text)?;
+            set_once(&mut last_chain(draft)?.offers, wanted)
+        }
+        Head::OffersUnasked => {
+            let wanted = said_answer(alloc, text)?;
+            set_once(&mut last_chain(draft)?.unasked, wanted)
         }
         Head::Table(limit) => {
             let wanted = said_answer(alloc, text)?;
@@ -75,6 +95,8 @@ fn begun_chain(alloc: Global, text: &[u8]) -> Result<Chain, CaseFault> {
         docs: read_docs(alloc, text)?,
         library: None,
         members: None,
+        offers: None,
+        unasked: None,
         table: None,
         chosen: None,
     })
@@ -111,7 +133,9 @@ fn finish(draft: Draft) -> Result<Question, CaseFault> {
 fn chains_question(chains: Vec<Chain>) -> Result<Question, CaseFault> {
     for chain in &chains {
         let asks_members = chain.members.is_some() || chain.table.is_some();
-        if !asks_members && chain.library.is_none() && chain.chosen.is_none() {
+        let asks_offers = chain.offers.is_some() || chain.unasked.is_some();
+        let asks_library = chain.library.is_some() || chain.chosen.is_some();
+        if !asks_members && !asks_offers && !asks_library {
             return Err(CaseFault::NothingAsked);
         }
     }

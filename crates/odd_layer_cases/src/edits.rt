@@ -11,59 +11,92 @@ const ONCE: Bounds = Bounds {
 };
 
 /// Edits of attributes with commas between them, each an ident, a colon and words with points between them: `set`, `change` or
-/// `delete`, then a usage, and then the key of a datatype.
+/// `delete`, and then what it gives: a usage, the key of a datatype, a name in documents and a namespace.
 pub fn read_edits(alloc: Global, value: &str) -> Result<AttEdits, CaseFault> {
     let mut edits = AttEdits::new(alloc);
     for edit in value.split(',').filter(|edit| !edit.is_empty()) {
-        let (ident, words) = edit.split_once(':').ok_or(CaseFault::NoItem)?;
-        edits.put(Text::from_str(alloc, ident)?, read_edit(alloc, words)?)?;
+        let (ident, words) = read_ident(alloc, edit)?;
+        edits.put(ident, read_edit(alloc, words)?)?;
     }
     Ok(edits)
 }
 
+// The ident of an edit, and what stands behind the colon after it, which is not the colon of `xml:`.
+fn read_ident(alloc: Global, edit: &str) -> Result<(Text, &str), CaseFault> {
+    let (ident, words) = edit.split_once(':').ok_or(CaseFault::NoItem)?;
+    if ident != "xml" {
+        return Ok((Text::from_str(alloc, ident)?, words));
+    }
+    let (local, words) = words.split_once(':').ok_or(CaseFault::NoItem)?;
+    let ident = format!(in alloc; "xml:{local}")?;
+    Ok((Text::from_string(alloc, ident)?, words))
+}
+
 fn read_edit(alloc: Global, words: &str) -> Result<AttEdit, CaseFault> {
     let (kind, rest) = words.split_once('.').unwrap_or((words, ""));
-    let (needed, rest) = read_usage(rest);
-    let datatype = read_key(alloc, rest)?;
-    match (kind, needed) {
-        ("set", Some(needed)) => Ok(AttEdit::Set(AttDef {
-            alt: None,
-            ns: None,
-            needed,
-            datatype,
-            vals: None,
-        })),
-        ("change", needed) => Ok(AttEdit::Change(AttFields {
-            alt: None,
-            ns: None,
-            needed,
-            datatype,
-            vals: None,
-        })),
-        ("delete", None) => Ok(AttEdit::Delete),
+    let fields = read_fields(alloc, rest)?;
+    match kind {
+        "set" => read_def(fields),
+        "change" => Ok(AttEdit::Change(fields)),
+        "delete" if rest.is_empty() => Ok(AttEdit::Delete),
         _ => Err(CaseFault::NoItem),
     }
 }
 
-// Whether the attribute is needed, where the first word says it, and the other words.
-fn read_usage(words: &str) -> (Option<bool>, &str) {
-    let (usage, rest) = words.split_once('.').unwrap_or((words, ""));
-    match usage {
-        "req" => (Some(true), rest),
-        "opt" => (Some(false), rest),
-        _ => (None, words),
-    }
+// The edit that sets an attribute with these fields, which say whether it is needed.
+fn read_def(fields: AttFields) -> Result<AttEdit, CaseFault> {
+    let AttFields {
+        alt,
+        ns,
+        needed,
+        datatype,
+        vals: _,
+    } = fields;
+    let needed = needed.ok_or(CaseFault::NoItem)?;
+    Ok(AttEdit::Set(AttDef {
+        alt,
+        ns,
+        needed,
+        datatype,
+        vals: None,
+    }))
 }
 
-// The datatype of a key, where there is one.
-fn read_key(alloc: Global, key: &str) -> Result<Option<Datatype>, NoMemory> {
-    if key.is_empty() {
-        return Ok(None);
+// What the words of an edit give.
+fn read_fields(alloc: Global, words: &str) -> Result<AttFields, CaseFault> {
+    let mut fields = AttFields {
+        alt: None,
+        ns: None,
+        needed: None,
+        datatype: None,
+        vals: None,
+    };
+    for word in words.split('.').filter(|word| !word.is_empty()) {
+        put_word(alloc, &mut fields, word)?;
     }
-    Ok(Some(Datatype {
+    Ok(fields)
+}
+
+fn put_word(alloc: Global, fields: &mut AttFields, word: &str) -> Result<(), CaseFault> {
+    match word.split_once('=') {
+        Some(("alt", name)) => fields.alt = Some(Text::from_str(alloc, name)?),
+        Some(("ns", name)) => fields.ns = Some(Text::from_str(alloc, name)?),
+        Some(_) => return Err(CaseFault::NoItem),
+        None => match word {
+            "req" => fields.needed = Some(true),
+            "opt" => fields.needed = Some(false),
+            key => fields.datatype = Some(datatype_of(alloc, key)?),
+        },
+    }
+    Ok(())
+}
+
+// The datatype of a key.
+fn datatype_of(alloc: Global, key: &str) -> Result<Datatype, NoMemory> {
+    Ok(Datatype {
         item: Item::Key(Text::from_str(alloc, key)?),
         bounds: ONCE,
-    }))
+    })
 }
 
 /// Puts edits of attributes as they are read.
@@ -83,27 +116,35 @@ pub fn add_edits(out: &mut Text, edits: &AttEdits) -> Result<(), NoMemory> {
 fn add_edit(out: &mut Text, edit: &AttEdit) -> Result<(), NoMemory> {
     match edit {
         AttEdit::Set(def) => {
-            out.push_str(":set")?;
-            add_words(out, Some(def.needed), def.datatype.as_ref())
+            out.push_str(":set.")?;
+            add_def(out, def)
         }
-        AttEdit::Change(fields) => {
-            out.push_str(":change")?;
-            add_words(out, fields.needed, fields.datatype.as_ref())
-        }
+        AttEdit::Change(fields) => add_fields(out, fields),
         AttEdit::Delete => out.push_str(":delete"),
     }
 }
 
-fn add_words(
-    out: &mut Text,
-    needed: Option<bool>,
-    datatype: Option<&Datatype>,
-) -> Result<(), NoMemory> {
-    out.push_str(match needed {
-        Some(true) => ".req",
-        Some(false) => ".opt",
-        None => "",
+/// Puts a definition of an attribute: its usage, and what else it gives as in an edit.
+pub fn add_def(out: &mut Text, def: &AttDef) -> Result<(), NoMemory> {
+    out.push_str(if def.needed { "req" } else { "opt" })?;
+    add_datatype(out, def.datatype.as_ref())?;
+    add_named(out, ".alt=", def.alt.as_ref())?;
+    add_named(out, ".ns=", def.ns.as_ref())
+}
+
+fn add_fields(out: &mut Text, fields: &AttFields) -> Result<(), NoMemory> {
+    out.push_str(match fields.needed {
+        Some(true) => ":change.req",
+        Some(false) => ":change.opt",
+        None => ":change",
     })?;
+    add_datatype(out, fields.datatype.as_ref())?;
+    add_named(out, ".alt=", fields.alt.as_ref())?;
+    add_named(out, ".ns=", fields.ns.as_ref())
+}
+
+// Puts the key of a datatype, where there is one.
+fn add_datatype(out: &mut Text, datatype: Option<&Datatype>) -> Result<(), NoMemory> {
     if let Some(
         Datatype {
             item: Item::Key(key),
@@ -111,8 +152,16 @@ fn add_words(
         },
     ) = datatype
     {
-        out.push('.')?;
-        out.push_str(key.as_str())?;
+        add_named(out, ".", Some(key))?;
+    }
+    Ok(())
+}
+
+// Puts a text behind its name, where there is one.
+fn add_named(out: &mut Text, name: &str, text: Option<&Text>) -> Result<(), NoMemory> {
+    if let Some(text) = text {
+        out.push_str(name)?;
+        out.push_str(text.as_str())?;
     }
     Ok(())
 }

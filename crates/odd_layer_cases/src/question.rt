@@ -10,6 +10,10 @@ pub struct Chain {
     pub library: Option<Bytes>,
     /// The members of its classes.
     pub members: Option<Bytes>,
+    /// What its elements offer.
+    pub offers: Option<Bytes>,
+    /// The same where no library is asked for what it breaks.
+    pub unasked: Option<Bytes>,
     /// The same in a table whose lists together hold no more idents than this.
     pub table: Option<(usize, Bytes)>,
     /// What the last chooses.

@@ -1,9 +1,13 @@
 pub mod Admission
+pub mod Attributed
 pub mod Classes
 pub mod Conditions
 pub mod Contents
+pub mod Data
 pub mod Labels
 pub mod Links
+pub mod Naming
 pub mod Offering
 pub mod Offers
 pub mod Rules
+pub mod Values

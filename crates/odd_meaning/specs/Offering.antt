@@ -2,6 +2,7 @@
 -- Documentation Elements).
 use Rattle.std.specs.Prelude.{◌≡◌, ◌≢◌, ℕ, List, [], Option, Some, None}
 use Rattle.std.specs.FinMap.{find}
+use Rattle.std.specs.declared.cmp.Ordering.TheVariants.{Greater}
 use Rattle.odd_text.specs.Key.{key_cmp}
 use Rattle.odd_text.specs.Text.{text_cmp}
 use Rattle.odd_text.specs.declared.key.Key.{Key}
@@ -11,6 +12,7 @@ use Rattle.odd_attributes.specs.declared.att_def.AttDef.{AttDef}
 use Rattle.odd_attributes.specs.declared.att_edit.AttEdit.{AttEdit}
 use Rattle.odd_attributes.specs.declared.att_edit.AttEdit.TheVariants.{Set, Change}
 use Rattle.odd_attributes.specs.declared.att_edit.AttFields.{AttFields}
+use Rattle.odd_library.specs.Odd.{element_key}
 use Rattle.odd_library.specs.declared.library.Component.{Component}
 use Rattle.odd_library.specs.declared.library.Component.TheVariants as component
 use Rattle.odd_library.specs.declared.library.Library.{Library}
@@ -53,3 +55,13 @@ pub record Clashes (library : Library) (part : Component) (ident : List ℕ) : T
   pub first : Inherits library part ident one giver
   pub second : Inherits library part ident other other_giver
   pub differ : one ≢ other
+
+-- of several givers the least; none where the element sets the attribute itself
+abbrev pub giver_key : List ℕ → Option (List ℕ) → Key
+giver_key element None = element_key element
+giver_key element (Some class) = class_key class
+
+-- the element offers the attribute, and no lesser giver gives it
+pub record IsOfferOf (library : Library) (element ident : List ℕ) (def : AttDef) (giver : Option (List ℕ)) : Type 0 where
+  pub offered : Offers library (element_key element) ident def (giver_key element giver)
+  pub least : (other_def : AttDef) (other : Key) → Offers library (element_key element) ident other_def other → key_cmp (giver_key element giver) other ≢ Greater

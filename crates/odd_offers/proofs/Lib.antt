@@ -1,4 +1,6 @@
-mod Clashing
-mod Lists
-mod OneByOne
-mod TableOf
+pub mod AlikeNames
+pub mod LeastGivers
+pub mod Clashing
+pub mod Lists
+pub mod Named
+pub mod TableOf

@@ -6,7 +6,7 @@ use Rattle.odd_text.specs.Key.{key_cmp}
 use Rattle.odd_text.specs.Text.{text_cmp}
 use Rattle.odd_text.specs.declared.key.Key.{Key}
 use Rattle.odd_tree.specs.Elements.{StandsIn}
-use Rattle.odd_tree.proofs.InList.{map_stands, only_item, stands_first, stands_map}
+use Rattle.odd_tree.proofs.InList.{map_stands, nothing_stands, only_item, stands_first, stands_map}
 use Rattle.odd_overlay.specs.Overlaid.{find_zipped, zipped}
 use Rattle.odd_attributes.specs.declared.att_def.AttDef.{AttDef}
 use Rattle.odd_attributes.specs.declared.att_edit.AttEdit.{AttEdit}
@@ -15,7 +15,7 @@ use Rattle.odd_library.specs.declared.library.Component.{Component}
 use Rattle.odd_library.specs.declared.library.Library.{Library}
 use Rattle.odd_meaning.specs.Links.{IsHeld, class_key, memberships}
 use Rattle.odd_meaning.specs.Offering.{Offers, Passes, edits_of}
-use Rattle.odd_offers.specs.Tables.{HaveAllOf, InheritsAll, IsInherited, IsTableOf, StandsAt, Table, Tells, offer_changed, own_at, table_at, united, united_at}
+use Rattle.odd_offers.specs.Tables.{HaveAll, IsInherited, IsOwnTable, IsTableOf, StandsAt, Table, Tells, offer_changed, own_at, united, united_at}
 use Rattle.odd_offers.specs.declared.table.Offer.{Offer}
 use Rattle.odd_offers.proofs.Lists.{stands_either, stands_left, stands_right, united_stands}
 
@@ -78,11 +78,20 @@ module _ (library : Library) (class : List ℕ) (part : Component) (inherited : 
       }))
 
   -- with what it inherits the class's own edits make its table
-  pub own_table : IsTableOf library class (zipped text_cmp (own_at class) (edits_of part) inherited)
-  own_table ident def giver = (
-    λ h. is_offered ident def giver (subst (λ o. StandsAt o def giver) (own_found class (edits_of part) inherited ident) h),
-    λ h. subst (λ o. StandsAt o def giver) (sym (own_found class (edits_of part) inherited ident)) (has_offered (class_key class) (class_key giver) ident def giver refl refl h),
-  )
+  pub own_offers : (made : Table) → IsOwnTable class (edits_of part) inherited made → IsTableOf library class made
+  own_offers made own ident def giver = (λ h. is_offered ident def giver ((own ident def giver).0 h), λ h. (own ident def giver).1 (has_offered (class_key class) (class_key giver) ident def giver refl refl h))
+
+-- edits laid over a table in one sweep
+pub own_zipped : (class : List ℕ) (edits : List (List ℕ × AttEdit)) (inherited : Table) → IsOwnTable class edits inherited (zipped text_cmp (own_at class) edits inherited)
+own_zipped class edits inherited ident def giver =
+    let found = own_found class edits inherited ident in
+    (λ h. subst (λ o. StandsAt o def giver) found h, λ h. subst (λ o. StandsAt o def giver) (sym found) h)
+
+-- without an edit the table stays
+pub own_unedited : (class : List ℕ) (edits : List (List ℕ × AttEdit)) (inherited : Table) → edits ≡ [] → IsOwnTable class edits inherited inherited
+own_unedited class edits inherited none ident def giver =
+    let same : own_at class (find text_cmp ident edits) (find text_cmp ident inherited) ≡ find text_cmp ident inherited = ap (λ es. own_at class (find text_cmp ident es) (find text_cmp ident inherited)) none in
+    (λ h. subst (λ o. StandsAt o def giver) (sym same) h, λ h. subst (λ o. StandsAt o def giver) same h)
 
 -- the offers of two tables
 united_tells : (one other : Table) (ident : List ℕ) (def : AttDef) (giver : List ℕ) → Tells (united one other) ident def giver ↔ (Tells one ident def giver ⊎ Tells other ident def giver)
@@ -91,52 +100,35 @@ united_tells one other ident def giver =
     let both = united_stands (find text_cmp ident one) (find text_cmp ident other) def giver in
     (λ h. both.0 (subst (λ o. StandsAt o def giver) found h), λ h. subst (λ o. StandsAt o def giver) (sym found) (both.1 h))
 
--- of one class its table is all
-pub all_of_one : (tables : List (List ℕ × Table)) (classes : List (List ℕ)) (class : List ℕ) (made : Table) → classes ≡ class ∷ [] → made ≡ table_at (find text_cmp class tables) → HaveAllOf tables classes made
-all_of_one tables classes class made is e ident def giver = (
-  λ h. (class, subst (λ (cs : List (List ℕ)). StandsIn cs class) (sym is) (stands_first class []), subst (λ (t : Table). Tells t ident def giver) e h),
-  λ h.
-      let same = only_item class h.0 (subst (λ (cs : List (List ℕ)). StandsIn cs h.0) is h.1) in
-      subst (λ (t : Table). Tells t ident def giver) (sym e) (subst (λ c. Tells (table_at (find text_cmp c tables)) ident def giver) same h.2),
+-- no table has nothing
+pub all_of_none : (tables : List Table) (made : Table) → tables ≡ [] → made ≡ [] → HaveAll tables made
+all_of_none tables made none empty ident def giver = (
+  λ h. absurd (subst (λ (t : Table). Tells t ident def giver) empty h),
+  λ h. absurd (nothing_stands h.0 (subst (λ (ts : List Table). StandsIn ts h.0) none h.1)),
+)
+
+-- of one table it is all
+pub all_of_one : (tables : List Table) (table made : Table) → tables ≡ table ∷ [] → made ≡ table → HaveAll tables made
+all_of_one tables table made one same ident def giver = (
+  λ h. (table, subst (λ (ts : List Table). StandsIn ts table) (sym one) (stands_first table []), subst (λ (t : Table). Tells t ident def giver) same h),
+  λ h. subst (λ (t : Table). Tells t ident def giver) (only_item table h.0 (subst (λ (ts : List Table). StandsIn ts h.0) one h.1) ∙ sym same) h.2,
 )
 
 -- two halves make the whole
-pub all_of_both : (tables : List (List ℕ × Table)) (xs ys classes : List (List ℕ)) (one other made : Table) → classes ≡ xs ++ ys → HaveAllOf tables xs one → HaveAllOf tables ys other → made ≡ united one other
-    → HaveAllOf tables classes made
-all_of_both tables xs ys classes one other made is first second e ident def giver =
+pub all_of_both : (xs ys tables : List Table) (one other made : Table) → tables ≡ xs ++ ys → HaveAll xs one → HaveAll ys other → made ≡ united one other → HaveAll tables made
+all_of_both xs ys tables one other made is first second e ident def giver =
     let both = united_tells one other ident def giver in (
-      λ h. ⊎_elim (λ k. let r = (first ident def giver).0 k in (r.0, subst (λ (cs : List (List ℕ)). StandsIn cs r.0) (sym is) (stands_left xs ys r.0 r.1), r.2))
-          (λ k. let r = (second ident def giver).0 k in (r.0, subst (λ (cs : List (List ℕ)). StandsIn cs r.0) (sym is) (stands_right xs ys r.0 r.1), r.2))
+      λ h. ⊎_elim (λ k. let r = (first ident def giver).0 k in (r.0, subst (λ (ts : List Table). StandsIn ts r.0) (sym is) (stands_left xs ys r.0 r.1), r.2))
+          (λ k. let r = (second ident def giver).0 k in (r.0, subst (λ (ts : List Table). StandsIn ts r.0) (sym is) (stands_right xs ys r.0 r.1), r.2))
           (both.0 (subst (λ (t : Table). Tells t ident def giver) e h)),
       λ h. subst (λ (t : Table). Tells t ident def giver) (sym e) (both.1 (⊎_elim (λ k. inl ((first ident def giver).1 (h.0, k, h.2))) (λ k. inr ((second ident def giver).1 (h.0, k, h.2)))
-          (stands_either xs ys h.0 (subst (λ (cs : List (List ℕ)). StandsIn cs h.0) is h.1)))),
+          (stands_either xs ys h.0 (subst (λ (ts : List Table). StandsIn ts h.0) is h.1)))),
     )
 
 -- what offers is held
-offers_held : (library : Library) (holder giver : Key) (ident : List ℕ) (def : AttDef) → Offers library holder ident def giver → IsHeld library holder
+pub offers_held : (library : Library) (holder giver : Key) (ident : List ℕ) (def : AttDef) → Offers library holder ident def giver → IsHeld library holder
 offers_held library holder giver ident def (Offers.own part is e) = search is
 offers_held library holder giver ident def (Offers.inherited part class before is among offered passes) = search is
-
--- a table that tells something is there
-told_by : (o : Option Table) (ident : List ℕ) (def : AttDef) (giver : List ℕ) → Tells (table_at o) ident def giver → (table : Table) × (o ≡ Some table) × Tells table ident def giver
-told_by None ident def giver h = absurd h
-told_by (Some table) ident def giver h = (table, refl, h)
-
--- what the tables of the classes have is what is inherited
-pub all_inherited : (tables : List (List ℕ × Table)) (classes : List (List ℕ)) (made : Table) → HaveAllOf tables classes made → InheritsAll tables classes made
-all_inherited tables classes made so library part is exact ready ident def giver = (
-  λ h.
-      let k = (so ident def giver).0 h in
-      let t = told_by (find text_cmp k.0 tables) ident def giver k.2 in
-      record { class = k.0; among = subst (λ (cs : List (List ℕ)). StandsIn cs k.0) (sym is) k.1; offered = (exact k.0 t.0 t.1 ident def giver).0 t.2 },
-  λ i.
-      let t = ready i.class i.among (offers_held library (class_key i.class) (class_key giver) ident def i.offered) in
-      (so ident def giver).1 (
-        i.class,
-        subst (λ (cs : List (List ℕ)). StandsIn cs i.class) is i.among,
-        subst (λ o. Tells (table_at o) ident def giver) (sym t.1) ((exact i.class t.0 t.1 ident def giver).1 i.offered),
-      ),
-)
 
 -- a class hands on only what classes give
 pub giver_is_class : (library : Library) (holder giver : Key) (ident : List ℕ) (def : AttDef) (class : List ℕ) → holder ≡ class_key class → Offers library holder ident def giver

@@ -1,2 +1,4 @@
+pub mod Answers
+pub mod Names
 pub mod Same
 pub mod Tables

@@ -2,7 +2,6 @@
 use Rattle.std.specs.Prelude.{◌≡◌, ◌↔◌, ◌&&◌, Bool, true, false, not, if◌then◌else◌, ℕ, List, [], ◌∷◌, ◌++◌, map, Option, Some, None, IsTrue, refl}
 use Rattle.std.specs.FinMap.{find}
 use Rattle.std.specs.List.{list_any}
-use Rattle.odd_text.specs.Key.{key_cmp}
 use Rattle.odd_text.specs.Text.{text_cmp}
 use Rattle.odd_tree.specs.Elements.{StandsIn}
 use Rattle.odd_overlay.specs.Overlaid.{joined_at, zipped}
@@ -13,7 +12,7 @@ use Rattle.odd_attributes.specs.declared.att_edit.AttEdit.{AttEdit}
 use Rattle.odd_attributes.specs.declared.att_edit.AttEdit.TheVariants.{Set, Change, Delete}
 use Rattle.odd_library.specs.declared.library.Component.{Component}
 use Rattle.odd_library.specs.declared.library.Library.{Library}
-use Rattle.odd_meaning.specs.Links.{IsHeld, class_key, memberships}
+use Rattle.odd_meaning.specs.Links.{class_key}
 use Rattle.odd_meaning.specs.Offering.{Clashes, Inherits, Offers, edits_of}
 use Rattle.odd_offers.specs.Same.{Test, def_same, def_test, pair_test, test_by, text_test}
 use Rattle.odd_offers.specs.declared.table.Offer.{Offer}
@@ -59,11 +58,6 @@ own_at class (Some Delete) offers = None
 own_at class (Some (Change fields)) None = None
 own_at class (Some (Change fields)) (Some offers) = Some (map (offer_changed fields) offers)
 
--- the table, where there is one, and else the empty one
-abbrev pub table_at : Option Table → Table
-table_at None = []
-table_at (Some table) = table
-
 -- the offer is one of these
 abbrev pub StandsAt : Option (List Offer) → AttDef → List ℕ → Type 0
 StandsAt None def giver = ⊥
@@ -81,31 +75,14 @@ IsTableOf library class table = (ident : List ℕ) (def : AttDef) (giver : List 
 abbrev pub IsInherited : Library → Component → Table → Type 0
 IsInherited library part table = (ident : List ℕ) (def : AttDef) (giver : List ℕ) → Tells table ident def giver ↔ Inherits library part ident def (class_key giver)
 
--- each table is that of its class
-abbrev pub AreTables : Library → List (List ℕ × Table) → Type 0
-AreTables library tables = (class : List ℕ) (table : Table) → find text_cmp class tables ≡ Some table → IsTableOf library class table
+-- the table has exactly what these have
+abbrev pub HaveAll : List Table → Table → Type 0
+HaveAll tables made = (ident : List ℕ) (def : AttDef) (giver : List ℕ) → Tells made ident def giver ↔ ((table : Table) × StandsIn tables table × Tells table ident def giver)
 
--- each of these classes that is held has a table
-abbrev pub HaveTables : Library → List (List ℕ × Table) → List (List ℕ) → Type 0
-HaveTables library tables classes = (class : List ℕ) → StandsIn classes class → IsHeld library (class_key class) → (table : Table) × (find text_cmp class tables ≡ Some table)
-
--- each held class among the memberships has a table
-abbrev pub AreReady : Library → Component → List (List ℕ × Table) → Type 0
-AreReady library part tables = HaveTables library tables (memberships part)
-
--- each held class stands after the held classes among its memberships
-abbrev pub IsOrderOf : Library → List (List ℕ) → Type 0
-IsOrderOf library order = (before after : List (List ℕ)) (ident class : List ℕ) (part : Component) → order ≡ before ++ ident ∷ after → find key_cmp (class_key ident) library.parts ≡ Some part
-    → StandsIn (memberships part) class → IsHeld library (class_key class) → StandsIn before class
-
--- the table has exactly what the tables of these classes have
-abbrev pub HaveAllOf : List (List ℕ × Table) → List (List ℕ) → Table → Type 0
-HaveAllOf tables classes made = (ident : List ℕ) (def : AttDef) (giver : List ℕ)
-    → Tells made ident def giver ↔ ((class : List ℕ) × StandsIn classes class × Tells (table_at (find text_cmp class tables)) ident def giver)
-
--- in each library in which the tables are those of its classes, and each held one of these has one, it is what a component with these memberships inherits
-abbrev pub InheritsAll : List (List ℕ × Table) → List (List ℕ) → Table → Type 0
-InheritsAll tables classes made = (library : Library) (part : Component) → memberships part ≡ classes → AreTables library tables → AreReady library part tables → IsInherited library part made
+-- the table has exactly what the class with these edits makes of what it inherits
+abbrev pub IsOwnTable : List ℕ → List (List ℕ × AttEdit) → Table → Table → Type 0
+IsOwnTable class edits inherited made = (ident : List ℕ) (def : AttDef) (giver : List ℕ)
+    → Tells made ident def giver ↔ StandsAt (own_at class (find text_cmp ident edits) (find text_cmp ident inherited)) def giver
 
 -- the own edit is no Set and no Delete
 abbrev pub passes_at : Option AttEdit → Bool

@@ -2,14 +2,19 @@
 #![tactic(auto)]
 
 mod clash;
+mod given;
 mod links;
 mod making;
+mod naming;
 mod pairings;
 mod same;
 mod shared;
 mod table;
 
 pub use clash::clashes;
-pub use making::{inherited, own_table, tables};
+pub use given::{Given, Givens, answered};
+pub use links::edits_of;
+pub use making::{own_table, united};
+pub use naming::shares_name;
 pub use shared::Shared;
 pub use table::{Offer, Offers, Table};

@@ -69,7 +69,8 @@ fn call_over(alloc: Global) -> Result<(), Fault> {
     wants(both.over(alloc, Some(def(alloc)?))?.is_none())
 }
 
-fn def(alloc: Global) -> Result<AttDef, NoMemory> {
+/// An attribute of any value that is not needed.
+pub fn def(alloc: Global) -> Result<AttDef, NoMemory> {
     Ok(AttDef {
         alt: Some(Text::from_str(alloc, "u")?),
         ns: None,

@@ -1,8 +1,14 @@
-use crate::decls::library;
+use crate::attributes::def;
+use crate::decls::{element_with, library};
 use crate::fault::{Fault, wants};
-use odd_base::Text;
-use odd_classes::{CycleRefusal, MemberTable, TableRefusal, check_cycles, member_table, members};
-use odd_decls::Library;
+use crate::making::{key_of, word};
+use odd_attributes::{AttEdit, AttEdits};
+use odd_base::{Kind, NoMemory, Text};
+use odd_classes::{
+    CycleRefusal, MemberTable, Offer, OfferRefusal, Offers, TableRefusal, check_cycles,
+    member_table, members, offered,
+};
+use odd_decls::{Library, Parts};
 use std::alloc::Global;
 
 /// The names of odd_classes.
@@ -11,8 +17,10 @@ pub fn names(alloc: Global) -> Result<&'static str, Fault> {
     call_members(alloc, &library)?;
     call_cycles(alloc, &library)?;
     call_table(alloc, &library)?;
+    call_offered(alloc)?;
     Ok(
-        "odd_classes: CycleRefusal TableRefusal MemberTable\n  members check_cycles member_table MemberTable::of",
+        "odd_classes: CycleRefusal TableRefusal MemberTable Offer Offers OfferRefusal\n  \
+        members check_cycles member_table MemberTable::of offered",
     )
 }
 
@@ -43,4 +51,47 @@ fn call_table(alloc: Global, library: &Library) -> Result<(), Fault> {
 
 fn has_none(table: &MemberTable, class: &Text) -> bool {
     table.of(class).is_none()
+}
+
+// A library of an element that sets an attribute.
+fn setting(alloc: Global) -> Result<Library, NoMemory> {
+    let mut atts = AttEdits::new(alloc);
+    atts.put(Text::from_str(alloc, "t")?, AttEdit::Set(def(alloc)?))?;
+    let mut parts = Parts::new(alloc);
+    parts.push(
+        key_of(alloc, Kind::Element, "a")?,
+        element_with(alloc, atts)?,
+    )?;
+    Ok(Library {
+        ident: Text::from_str(alloc, "s")?,
+        start: word(alloc, "a")?,
+        parts,
+    })
+}
+
+fn call_offered(alloc: Global) -> Result<(), Fault> {
+    let library = setting(alloc)?;
+    let element = Text::from_str(alloc, "a")?;
+    let Some(_) = library.find_by(Kind::Element, &element) else {
+        return Err(Fault::Wrong);
+    };
+    match offered(alloc, &library, &element) {
+        Ok(offers) => wants(sets_one(&offers)),
+        Err(OfferRefusal::Rule(_)) => Err(Fault::Wrong),
+        Err(OfferRefusal::NoMemory) => Err(Fault::NoMemory),
+    }
+}
+
+// Whether they are one attribute, which the element sets itself.
+fn sets_one(offers: &Offers) -> bool {
+    match offers.get(0) {
+        Some(
+            Offer {
+                ident,
+                giver: None,
+                ..
+            },
+        ) => offers.len() == 1 && ident.as_str() == "t",
+        _ => false,
+    }
 }

@@ -72,13 +72,18 @@ fn takes_second(entries: &Entries) -> bool {
 
 /// An element that is a member of a class.
 pub fn element(alloc: Global) -> Result<Component, NoMemory> {
+    element_with(alloc, AttEdits::new(alloc))
+}
+
+/// Such an element with edits of its attributes.
+pub fn element_with(alloc: Global, atts: AttEdits) -> Result<Component, NoMemory> {
     Ok(Component::Element(ElementPart {
         module: Text::new(alloc),
         ns: Text::from_str(alloc, "urn:x")?,
         alt: None,
         classes: word(alloc, "c")?,
         content: Content::Empty,
-        atts: AttEdits::new(alloc),
+        atts,
     }))
 }
 

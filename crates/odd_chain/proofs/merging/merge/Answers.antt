@@ -1,4 +1,4 @@
-use Rattle.std.proofs.Common.{◌+◌, take, refl, sym, subst, arith}
+use Rattle.std.proofs.Common.{rules, ◌+◌, take, refl, sym, subst, arith}
 use Rattle.std.proofs.lemmas.Result.{err_from_is_err_and}
 use Rattle.std.specs.Prelude.{All}
 use Rattle.odd_library.specs.Formed.{IsFormedDoc}
@@ -6,8 +6,17 @@ use Rattle.odd_modes.specs.Offences.{IsFirstOffence, Offends}
 use Rattle.odd_chain.specs.Offences.{OffendsIn}
 use Rattle.odd_chain.specs.Order.{IsFirst}
 use Rattle.odd_chain.specs.Reading.{IsFirstOfLibrary}
+use Rattle.odd_chain.proofs.NothingBroken.{nothing_breaks}
 use Rattle.odd_chain.proofs.Merged.{item_refused, library_refused, none_left, one_merged}
 use Rattle.odd_chain.proofs.merging.merge.Goals as goal
+
+pub loop-doc-init : goal.loop-doc-init
+loop-doc-init c = record {
+  numbered = refl;
+  merged = search rules;
+  formed = λ all. c.in_ok-library.ensures.formed;
+  unbroken = nothing_breaks c.in_ok-library.library c.in_ok-library.ensures.empty.holds;
+}
 
 pub loop-doc-preserved : goal.loop-doc-preserved
 loop-doc-preserved c =

@@ -1,4 +1,4 @@
-use Rattle.odd_classes.proofs.MacrosOrdered.{first_own, none_own}
+use Rattle.odd_classes.proofs.OnCycles.{first_own, none_own}
 use Rattle.odd_classes.proofs.cycles.check_own_members.Goals as goal
 
 pub returns-clause-none : goal.returns-clause-none

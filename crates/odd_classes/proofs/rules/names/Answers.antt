@@ -1,24 +1,24 @@
-use Rattle.std.proofs.Common.{◌≡◌, ◌↔◌, false, inl, inr, subst}
-use Rattle.std.specs.Prelude.{IsTrue}
-use Rattle.odd_meaning.specs.Links.{named_by}
-use Rattle.odd_tree.proofs.InList.{StandsOnce, nothing_stands}
-use Rattle.odd_library.specs.declared.library.Component.{Component}
-use Rattle.odd_library.specs.declared.library.Library.{Library}
+use Rattle.std.proofs.Common.{⊎_elim, refl, sym, subst, take, ◌∙◌}
+use Rattle.std.proofs.lemmas.Bool.{false≢true}
+use Rattle.odd_tree.proofs.InList.{StandsOnce, ends, nothing_stands, once_push, standing}
+use Rattle.odd_tree.specs.Elements.{StandsIn}
 use Rattle.odd_classes.specs.Placing.{IsWrong}
-use Rattle.odd_classes.specs.declared.rules.WrongReference.{WrongReference}
 use Rattle.odd_classes.proofs.rules.names.Goals as goal
 
--- a component that names nothing
-nameless : (library : Library) (w : WrongReference) (part other : Component) → part ≡ other → (StandsOnce (IsWrong library w) (named_by other) → ⊥)
-    → IsTrue false ↔ StandsOnce (IsWrong library w) (named_by part)
-nameless library w part other is none = (λ f. cc, λ s. absurd (none (subst (λ p. StandsOnce (IsWrong library w) (named_by p)) is s)))
+pub loop-key-init : goal.loop-key-init
+loop-key-init c = λ s. nothing_stands s.0 s.1
 
-pub returns-in-Class : goal.returns-in-Class
-returns-in-Class c =
-    let told = nameless c.args.library.now c.args.wrong c.args.part.now in
-    elim c.in-Class.is [ inl e ↦ told _ e.1 (λ s. nothing_stands s.0 s.1) | inr e ↦ told _ e.1 (λ s. nothing_stands s.0 s.1) ]
+pub returns-then-is_wrong : goal.returns-then-is_wrong
+returns-then-is_wrong c =
+    let key = c.key-item.result in
+    let stands = standing c.as_slice-key-items.result.now key (c.loop-key.key-index, c.loop-key-test.true, sym c.key-item.is) in
+    let named = subst (λ keys. StandsIn keys key) (c.as_slice-key-items.ensures ∙ c.in_ok-named.ensures) stands in
+    (λ _. (key, named, c.is_wrong.ensures.0 c.if-is_wrong.true), λ _. refl)
 
-pub returns-in-Class-2 : goal.returns-in-Class-2
-returns-in-Class-2 c =
-    let told = nameless c.args.library.now c.args.wrong c.args.part.now in
-    elim c.in-Class.is [ inl e ↦ told _ e.1 (λ s. nothing_stands s.0 s.1) | inr e ↦ told _ e.1 (λ s. nothing_stands s.0 s.1) ]
+pub loop-key-preserved : goal.loop-key-preserved
+loop-key-preserved c = λ s.
+    let Is = IsWrong c.args.library.now c.args.wrong in
+    let keys = c.as_slice-key-items.result.now in
+    let i = c.loop-key.key-index in
+    let more = subst (StandsOnce Is) (ends keys i c.key-item.result c.loop-key-test.true c.key-item.is) s in
+    ⊎_elim c.loop-key.invariant (λ w. false≢true (sym c.if-is_wrong.false ∙ c.is_wrong.ensures.1 w)) ((once_push Is (take i keys) c.key-item.result).0 more)

@@ -1,0 +1,150 @@
+ghost use Rattle.std.specs.Prelude.{◌≡◌, ◌↔◌, ℕ, List, Err, IfOk, IsOk, IsTrue};
+ghost use Rattle.odd_text.specs.declared.key.Key.{Key as AKey};
+ghost use Rattle.odd_meaning.specs.Rules.{Breaks, BreaksWithin, IsFirstBreak};
+ghost use Rattle.odd_content.specs.Formed.{once};
+ghost use Rattle.odd_content.specs.declared.content.Content.{Macro};
+ghost use Rattle.odd_classes.specs.DataFacts.{AreFactsOf, HasFacts, HasFactsOfParts, IsMixedPart};
+
+use crate::macro_order::in_macro_order;
+use crate::rules::LibraryRefusal;
+use odd_content::{Content, Contents};
+use odd_library::{Component, Library};
+use odd_text::{Kind, Map, NoMemory, Text, TryCopy};
+use rng_types::Bounds;
+use std::alloc::Global;
+
+/// Whether a content reaches data, and whether it is data content.
+#[derive(Clone, Copy, Drop)]
+pub struct DataFacts {
+    pub reaches: bool,
+    pub is_data: bool,
+}
+
+// What holds of each macro, by ident.
+type MacroFacts = Map<Text, DataFacts>;
+
+// The content of an element or a macro reaches data and is not data content.
+const MIXES_DATA: u8 = 18;
+
+/// Rule is answered for the first element, or else the first macro, whose content reaches data and is not data content (rule 18). No
+/// macro of the library reaches itself. NoMemory is answered for want of memory.
+pub fn check_data(alloc: Global, library: &Library) -> Result<(), LibraryRefusal>
+    requires { (key : AKey) → Breaks library.now key 14 → ⊥ }
+    ensures none { IsOk result → (key : AKey) (rule : ℕ) → BreaksWithin 18 18 library.now key rule → ⊥ }
+    ensures first { (key : AKey) (rule : ℕ) → result ≡ Err (LibraryRefusal.Rule key rule) → IsFirstBreak (BreaksWithin 18 18 library.now) key rule }
+{
+    let macros = macro_facts(alloc, library)?;
+    for (key, part) in library.parts.entries() {
+        if is_mixed(part, &macros) {
+            let key = key.copy(alloc)?;
+            let rule = MIXES_DATA;
+            return Err(LibraryRefusal::Rule { key, rule });
+        }
+    }
+    Ok(())
+}
+
+// Whether a component is an element or a macro whose content reaches data and is not data content.
+fn is_mixed(part: &Component, macros: &MacroFacts) -> bool
+    ensures { IsMixedPart macros.now part.now result }
+{
+    match part {
+        Component::Element(part) => {
+            let facts = facts_of(&part.content, macros);
+            facts.reaches && !facts.is_data
+        }
+        Component::Macro(part) => {
+            let facts = facts_of(&part.content, macros);
+            facts.reaches && !facts.is_data
+        }
+        Component::Class(_) | Component::Datatype(_) => false,
+    }
+}
+
+// What holds of each held macro, each after those that its content names.
+fn macro_facts(alloc: Global, library: &Library) -> Result<MacroFacts, NoMemory>
+    requires { (key : AKey) → Breaks library.now key 14 → ⊥ }
+    ensures { IfOk result (AreFactsOf library.now) }
+{
+    let mut facts = MacroFacts::new(alloc);
+    for ident in in_macro_order(alloc, library)?.as_slice() {
+        if let Some(Component::Macro(part)) = library.find_by(Kind::Macro, ident) {
+            let of_it = facts_of(&part.content, &facts);
+            facts.put(ident.copy(alloc)?, of_it)?;
+        }
+    }
+    Ok(facts)
+}
+
+// What holds of a content, by what holds of macros.
+#[cycle(facts_of)]
+fn facts_of(content: &Content, macros: &MacroFacts) -> DataFacts
+    ensures { HasFacts macros.now content.now result }
+{
+    match content {
+        Content::Value(_) | Content::Vals(_) => DataFacts {
+            reaches: true,
+            is_data: true,
+        },
+        Content::Macro { key, bounds } => macro_named(key, *bounds, macros),
+        Content::Sequence { parts, bounds: _ } => DataFacts {
+            reaches: facts_of_parts(parts, macros).reaches,
+            is_data: false,
+        },
+        Content::Alternate { parts, bounds } => {
+            let facts = facts_of_parts(parts, macros);
+            DataFacts {
+                reaches: facts.reaches,
+                is_data: facts.is_data && is_once(*bounds) && !parts.is_empty(),
+            }
+        }
+        Content::Empty
+        | Content::Text
+        | Content::Element { .. }
+        | Content::Class { .. }
+        | Content::Any { .. } => NO_DATA,
+    }
+}
+
+// What holds of a content without data.
+const NO_DATA: DataFacts = DataFacts {
+    reaches: false,
+    is_data: false,
+};
+
+// Whether one of the parts reaches data, and whether each is data content.
+#[cycle(facts_of)]
+fn facts_of_parts(parts: &Contents, macros: &MacroFacts) -> DataFacts
+    ensures { HasFactsOfParts macros.now parts.now result }
+{
+    let mut facts = DataFacts {
+        reaches: false,
+        is_data: true,
+    };
+    for part in parts.as_slice() {
+        let of_part = facts_of(part, macros);
+        facts.reaches = facts.reaches || of_part.reaches;
+        facts.is_data = facts.is_data && of_part.is_data;
+    }
+    facts
+}
+
+// What holds of a reference to a macro.
+fn macro_named(key: &Text, bounds: Bounds, macros: &MacroFacts) -> DataFacts
+    ensures { HasFacts macros.now (Macro key.now bounds) result }
+{
+    match macros.find(key) {
+        Some(facts) => DataFacts {
+            reaches: facts.reaches,
+            is_data: facts.is_data && is_once(bounds),
+        },
+        None => NO_DATA,
+    }
+}
+
+// Whether bounds are 1 and 1.
+fn is_once(bounds: Bounds) -> bool
+    ensures { IsTrue result ↔ (bounds ≡ once) }
+{
+    bounds.min == 1 && bounds.max == Some(1)
+}
