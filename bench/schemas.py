@@ -6,6 +6,8 @@
 compiles, each five times:
 
 - the chain of examples/, a source of the shape of TEI's own and a customisation, and the source alone;
+- made sources of TEI's size: 600 elements with 60 attributes each from 180 classes, in 5.5 MB with prose as TEI's own has it, and twice as many; and the
+  same with a customisation that changes an attribute of each of 100 elements;
 - made files of classes of type `model`, of elements that are members of them, and of contents that name the classes: 900
   elements in 100 classes, where each class but the first ten is a member of another, and the same five and ten times as large;
 - 400 classes, each a member of the next, with an element each, so that their schema has 80,000 references to members; and twice as many;
@@ -95,35 +97,91 @@ def listed_members(members):
     return schema_spec("f", items)
 
 
-def measured(command, status=0):
-    """The least time in seconds, and the greatest memory in MB, of a command that ends with the status."""
+PROSE = "Some words on what this is for, as the source of the Guidelines has them in a dozen languages, with examples and remarks. "
+
+
+def attribute_spec(number, prose):
+    """An attribute with a datatype, a list of values or neither."""
+    said = [
+        '<datatype><dataRef key="data.word"/></datatype>',
+        '<datatype maxOccurs="unbounded"><dataRef name="token"><dataFacet name="maxLength" value="40"/></dataRef></datatype>',
+        '<valList type="closed"><valItem ident="one"/><valItem ident="two"/><valItem ident="three"/></valList>',
+        "",
+    ][number % 4]
+    return f'<attDef ident="a{number:05}"><desc>{prose}</desc>{said}</attDef>'
+
+
+def attributes_source(elements):
+    """So many elements with 60 attributes each, which come from classes in rows of three with four attributes a class."""
+    rows = elements // 10
+    items = ['<dataSpec ident="data.word" module="m"><content><dataRef name="token" restriction="[^ ]+"/></content></dataSpec>']
+    for at in range(3 * rows):
+        of = f'<classes><memberOf key="att.{at + rows}"/></classes>' if at < 2 * rows else ""
+        given = "".join(attribute_spec(4 * at + number, PROSE) for number in range(4))
+        items.append(f'<classSpec ident="att.{at}" type="atts" module="m">{of}<attList>{given}</attList></classSpec>')
+    items.append('<classSpec ident="model.all" type="model" module="m"/>')
+    for at in range(elements):
+        keys = "".join(f'<memberOf key="att.{(at * 7 + number) % rows}"/>' for number in range(5))
+        content = '<alternate minOccurs="0" maxOccurs="unbounded"><textNode/><classRef key="model.all"/></alternate>'
+        aside = f"<desc>{PROSE}</desc><exemplum><p>{PROSE * 67}</p></exemplum><remarks><p>{PROSE}</p></remarks>"
+        items.append(f'<elementSpec ident="e{at:05}" module="m">{aside}<classes><memberOf key="model.all"/>{keys}</classes><content>{content}</content></elementSpec>')
+    return schema_spec("e00000", items)
+
+
+def attributes_edition(elements):
+    """A customisation that takes all, and changes an attribute of each of a hundred elements."""
+    rows = elements // 10
+    items = ['<moduleRef key="m"/>']
+    for at in range(100):
+        ident = f"a{4 * ((at * 7) % rows):05}"
+        items.append(f'<elementSpec ident="e{at:05}" mode="change"><attList><attDef ident="{ident}" mode="change" usage="req"/></attList></elementSpec>')
+    return schema_spec("e00000", items)
+
+
+def attribute_rows(program, folder):
+    """Prints the rows of the sources of TEI's size."""
+    alone, chains = {}, {}
+    for count in (600, 1200):
+        source, edition = folder / f"source{count}.odd", folder / f"edition{count}.odd"
+        source.write_text(attributes_source(count), encoding="utf-8")
+        edition.write_text(attributes_edition(count), encoding="utf-8")
+        title = f"{count} elements with 60 attributes, {source.stat().st_size / 1e6:.2f} MB"
+        alone[count] = row(title, program, [source], alone.get(count // 2), again=10)
+        chains[count] = row("the same and a customisation", program, [source, edition], chains.get(count // 2), again=10)
+
+
+def measured(command, status=0, again=1):
+    """The least time in seconds, and the greatest memory in MB, of a command that ends with the status. A quick one is run so often again at a time, since
+    GNU time counts in hundredths of a second."""
+    loop = ["sh", "-c", 'n=$0; while [ "$n" -gt 0 ]; do "$@" >/dev/null || exit; n=$((n - 1)); done', str(again), *map(str, command)]
     times, sizes = [], []
     for _ in range(RUNS):
-        run = subprocess.run(["/usr/bin/time", "-f", "%U %S %M", *command], stdout=subprocess.DEVNULL, stderr=subprocess.PIPE, text=True)
+        run = subprocess.run(["/usr/bin/time", "-f", "%U %S %M", *(loop if again > 1 else command)], stdout=subprocess.DEVNULL, stderr=subprocess.PIPE, text=True)
         if run.returncode != status:
             sys.exit(f"{command}: status {run.returncode}\n{run.stderr}")
         user, system, kilobytes = run.stderr.split()[-3:]
-        times.append(float(user) + float(system))
+        times.append((float(user) + float(system)) / again)
         sizes.append(int(kilobytes) / 1000)
     return min(times), max(sizes)
 
 
-def row(title, program, files, before=None, status=0):
+def row(title, program, files, before=None, status=0, again=1):
     """Prints how a chain compares, and gives the program's time and memory."""
-    time, size = measured([program, "compile", *files], status)
-    reads, holds = measured(["xmllint", "--noout", *files])
+    time, size = measured([program, "compile", *files], status, again)
+    reads, holds = measured(["xmllint", "--noout", *files], 0, again)
     growth = f", {time / before[0]:.1f} and {size / before[1]:.1f} times the half" if before and before[0] else ""
-    print(f"{title:44} {time:6.2f} s {size:5.0f} MB; xmllint --noout {reads:5.2f} s {holds:5.0f} MB{growth}")
+    print(f"{title:44} {time:7.3f} s {size:5.0f} MB; xmllint --noout {reads:7.3f} s {holds:5.0f} MB{growth}")
     return time, size
 
 
 def main(program):
     program = os.path.abspath(program)
     source, edition = EXAMPLES / "tei-like.odd", EXAMPLES / "letters-custom.odd"
-    row("examples/tei-like.odd", program, [source])
-    row("the same and examples/letters-custom.odd", program, [source, edition])
+    row("examples/tei-like.odd", program, [source], again=40)
+    row("the same and examples/letters-custom.odd", program, [source, edition], again=40)
     with tempfile.TemporaryDirectory() as name:
         folder = pathlib.Path(name)
+        attribute_rows(program, folder)
         for title, made, counts in (("classes", many_classes, (100, 500, 1000)), ("nested classes", nested_classes, (400, 800)), ("nested macros", nested_macros, (10_000, 20_000))):
             found = {}
             for count in counts:

@@ -1,13 +1,17 @@
-"""Random libraries with content models, documents for them, and which of these are admitted.
+"""Random libraries with content models and attributes, documents for them, and which of these are admitted.
 
 What docs/content.md, docs/odd-files.md and docs/admission.md say is worked out here on the parts of a `content` as the ODD
-file has them: by the places where a piece of the children that a part admits may end. Nothing here reads a schema.
+file has them: by the places where a piece of the children that a part admits may end. Attributes and data are in
+attribute_models.py. Nothing here reads a schema.
 """
 
 import collections
 import random
 import xml.etree.ElementTree as Tree
 from xml.sax.saxutils import escape, quoteattr
+
+import attribute_models
+from attribute_models import data_of
 
 TEI = "http://www.tei-c.org/ns/1.0"
 XML = "http://www.w3.org/XML/1998/namespace"
@@ -16,26 +20,28 @@ SEED = 20261128
 DOCUMENTS = 20
 
 # A part of a content. What it is of: the key of an elementRef or a macroRef, the class of a classRef with what is picked of
-# its members, the condition of an anyElement, the parts of a sequence or an alternate. A high of None is unbounded. What is
-# picked: all ("all"), or those with one of some idents ("include") or with none of them ("except"). A condition has
-# namespaces that it requires and excepts, and names that it excepts, as pairs of a namespace and a local name.
+# its members, the condition of an anyElement, the data of what is data content, the parts of a sequence or an alternate. A
+# high of None is unbounded. What is picked: all ("all"), or those with one of some idents ("include") or with none of them
+# ("except"). A condition has namespaces that it requires and excepts, and names that it excepts, as pairs of a namespace and a
+# local name.
 Part = collections.namedtuple("Part", "kind low high of", defaults=(1, 1, None))
 Condition = collections.namedtuple("Condition", "required namespaces names")
 Members = collections.namedtuple("Members", "key pick idents", defaults=("all", ()))
 
-# The start words, the ns of the schemaSpec, and for each ident the ns of its elementSpec, its content and its classes; the
-# classes and the macros by their idents. A content is a sequence of the parts that stand in it, or None where there is none.
-# An ns that is absent is None.
-Library = collections.namedtuple("Library", "start ns elements classes macros", defaults=({}, {}))
-Spec = collections.namedtuple("Spec", "ns content classes", defaults=((),))
-Class = collections.namedtuple("Class", "type classes")
+# The start words, the ns of the schemaSpec, and for each ident the ns of its elementSpec, its content, its classes, its edits of
+# attributes and its altIdent; the classes, the macros and the data of datatypes by their idents. A content is a sequence of the
+# parts that stand in it, or None where there is none. An ns or an altIdent that is absent is None.
+Library = collections.namedtuple("Library", "start ns elements classes macros datatypes", defaults=({}, {}, {}))
+Spec = collections.namedtuple("Spec", "ns content classes edits alt", defaults=((), {}, None))
+Class = collections.namedtuple("Class", "type classes edits")
 
-# What a content may name.
-Names = collections.namedtuple("Names", "elements classes macros")
+# What a content may name: macros of data stand apart.
+Names = collections.namedtuple("Names", "elements classes macros datatypes data_macros")
 
 # How a library is made.
 IDENTS = ["a", "b", "c", "d", "x", "e.a", "a-1", "_z", "\u00e9"]
 LOCALS = [*IDENTS, "k", "other"]
+ALTERNATIVES = ["b", "x", "k", "alt"]
 NOT_HELD = ["absent", "other"]
 CLASSES = ["model.a", "model.b", "a", "c.k", "k-1"]
 ATTRIBUTE_CLASSES = ["att.a", "b"]
@@ -75,22 +81,40 @@ def made_library(rng):
         idents = rng.sample(IDENTS, rng.randrange(1, 6))
         start = rng.choices(idents, k=rng.choice([1, 1, 1, 2, 3]))
         ns = rng.choice([None, None, None, "", *NAMESPACES])
-        classes = made_classes(rng)
-        macros = made_macros(rng, idents, classes)
-        names = Names(idents, classes, macros)
-        elements = {ident: Spec(made_ns(rng), made_content(rng, names), made_memberships(rng, list(classes))) for ident in idents}
-        library = Library(start, ns, elements, classes, macros)
+        datatypes = attribute_models.made_datatypes(rng)
+        classes = made_classes(rng, list(datatypes))
+        macros = made_macros(rng, idents, classes, list(datatypes))
+        names = names_of(idents, classes, macros, list(datatypes))
+        elements = {ident: made_element(rng, names) for ident in idents}
+        library = Library(start, ns, elements, classes, macros, datatypes)
         size = min(sizes(library)[word] for word in start)
         plain = max(weight(macros, elements[word].content or Part("empty")) for word in start) < 4
         if (size <= GREATEST_SIZE or size == NEVER and rng.random() < 0.1) and (not plain or rng.random() < 0.1):
             return library
 
 
-def made_classes(rng):
+def made_element(rng, names):
+    """An element that breaks no rule."""
+    spec = Spec(made_ns(rng), made_content(rng, names), made_memberships(rng, list(names.classes)))
+    known = list(attribute_models.inherited(names.classes, spec))
+    spec = spec._replace(edits=attribute_models.made_edits(rng, known, names.datatypes))
+    alt = rng.choice(ALTERNATIVES) if rng.random() < 0.15 else None
+    return attribute_models.repaired(rng, names.classes, spec._replace(alt=alt), names.datatypes)
+
+
+def names_of(idents, classes, macros, datatypes):
+    """What a content may name."""
+    data = [ident for ident, content in macros.items() if data_of(content)]
+    return Names(idents, classes, {ident: content for ident, content in macros.items() if ident not in data}, datatypes, data)
+
+
+def made_classes(rng, datatypes):
     """Classes, of which none is a member of itself."""
     idents, made = rng.sample(CLASSES, rng.choice([0, 1, 2, 2, 3, 4])) + rng.sample(ATTRIBUTE_CLASSES, rng.choice([0, 0, 1, 2])), {}
     for ident in rng.sample(idents, len(idents)):
-        made[ident] = Class("atts" if ident in ATTRIBUTE_CLASSES else "model", made_memberships(rng, list(made)))
+        each = Class("atts" if ident in ATTRIBUTE_CLASSES else "model", made_memberships(rng, list(made)), {})
+        known = list(attribute_models.inherited(made, each))
+        made[ident] = each._replace(edits=attribute_models.made_edits(rng, known, datatypes))
     return made
 
 
@@ -100,11 +124,11 @@ def made_memberships(rng, classes):
     return tuple(words + (["absent"] if rng.random() < 0.05 else []))
 
 
-def made_macros(rng, idents, classes):
+def made_macros(rng, idents, classes, datatypes):
     """Macros, of which none reaches itself: each may name those that are made before it."""
     made = {}
     for ident in rng.sample(MACROS, rng.choice([0, 1, 1, 2, 3])):
-        made[ident] = made_content(rng, Names(idents, classes, dict(made)))
+        made[ident] = made_content(rng, names_of(idents, classes, made, datatypes))
     return made
 
 
@@ -132,6 +156,8 @@ def made_content(rng, names):
     """The content of an elementSpec or a macroSpec, or None."""
     if rng.random() < 0.05:
         return None
+    if rng.random() < 0.25:
+        return Part("sequence", of=[Part("data", of=attribute_models.made_data(rng, names.datatypes, names.data_macros))])
     while True:
         levels = rng.choice([0, 1, 1, 2, 2, 3, 4])
         parts = [made_part(rng, names, levels) for _ in range(rng.choice([0, 1, 1, 1, 1, 2, 2, 3, 4]))]
@@ -193,11 +219,11 @@ def greatest_depth(library):
     return next(depth for depth in (5, 4, 3, 2) if depth == 2 or heaviest**depth <= 20_000)
 
 
-def namespace(library, ident):
-    """The namespace in documents of a held element."""
-    own = library.elements[ident].ns
+def element_name(library, ident):
+    """The namespace and the local name in documents of a held element."""
+    own, alt = library.elements[ident].ns, library.elements[ident].alt
     given = library.ns if own is None else own
-    return TEI if given is None else given
+    return (TEI if given is None else given), alt or ident
 
 
 # The ODD file of a library
@@ -209,6 +235,7 @@ def odd_file(rng, library):
     items = [written_spec(rng, ident, spec, scope) for ident, spec in library.elements.items()]
     items += [written_class(rng, ident, each) for ident, each in library.classes.items()]
     items += [written_macro(rng, ident, content, scope) for ident, content in library.macros.items()]
+    items += attribute_models.written_datatypes(rng, library.datatypes)
     specs = "".join(rng.sample(items, len(items)))
     words = rng.choice([" ", "\t ", "\n"]).join(library.start)
     ns = "" if library.ns is None else f" ns={quoteattr(library.ns)}"
@@ -219,12 +246,14 @@ def written_spec(rng, ident, spec, scope):
     """The elementSpec of an element."""
     ns = "" if spec.ns is None else f" ns={quoteattr(spec.ns)}"
     inside = [written_memberships(rng, spec.classes), written_content(rng, spec.content, scope)]
-    return f'<elementSpec ident="{ident}"{ns}>{"".join(rng.sample(inside, 2))}</elementSpec>\n'
+    inside += [attribute_models.written_attributes(rng, spec.edits), f"<altIdent>{spec.alt}</altIdent>" if spec.alt else ""]
+    return f'<elementSpec ident="{ident}"{ns}>{"".join(rng.sample(inside, 4))}</elementSpec>\n'
 
 
 def written_class(rng, ident, each):
     """The classSpec of a class."""
-    return f'<classSpec ident="{ident}" type="{each.type}">{written_memberships(rng, each.classes)}</classSpec>\n'
+    inside = [written_memberships(rng, each.classes), attribute_models.written_attributes(rng, each.edits)]
+    return f'<classSpec ident="{ident}" type="{each.type}">{"".join(rng.sample(inside, 2))}</classSpec>\n'
 
 
 def written_macro(rng, ident, content, scope):
@@ -254,6 +283,8 @@ def written_branch(rng, tag, attributes, parts, scope):
 def written_part(rng, part, scope):
     """The element of a part."""
     bounds = written_bounds(rng, part)
+    if part.kind == "data":
+        return attribute_models.written_data(rng, part.of)
     if part.kind == "elementRef":
         return f'<elementRef key="{part.of}"{bounds}/>'
     if part.kind == "macroRef":
@@ -317,6 +348,7 @@ class Verdicts:
 
     def __init__(self, library):
         self.library, self.known = library, {}
+        self.offers = {ident: attribute_models.attributes_of(library, ident) for ident in library.elements}
 
     def is_admitted(self, document):
         """Whether the library admits the document."""
@@ -333,8 +365,13 @@ class Verdicts:
     def is_valid_for_held(self, element, ident):
         """The same, worked out."""
         content = self.library.elements[ident].content or Part("empty")
-        if split_name(element.tag) != (namespace(self.library, ident), ident) or element.attrib:
+        data, attributes = data_of(content), {split_name(name): value for name, value in element.attrib.items()}
+        if split_name(element.tag) != element_name(self.library, ident):
             return False
+        if not attribute_models.are_admitted(self.library, self.offers[ident], attributes):
+            return False
+        if data:
+            return not len(element) and attribute_models.is_value(self.library, data, element.text or "")
         return any(len(items) in self.ends(content, items, 0) for items in significant(element))
 
     def ends(self, part, items, begin):
@@ -407,10 +444,11 @@ def significant(element):
 
 
 class Node:
-    """An element of a document: its name, its attributes by their names, and its children, which are nodes and texts."""
+    """An element of a document: its name, its attributes by their names, its children, which are nodes and texts, and for which
+    held element it was grown, if for one."""
 
-    def __init__(self, ns, local, attributes=(), children=()):
-        self.ns, self.local, self.attributes, self.children = ns, local, dict(attributes), list(children)
+    def __init__(self, ns, local, attributes=(), children=(), ident=None):
+        self.ns, self.local, self.attributes, self.children, self.ident = ns, local, dict(attributes), list(children), ident
 
     def nodes(self):
         """The node and all that are inside."""
@@ -422,15 +460,17 @@ class Node:
     def copied(self):
         """The same once more."""
         children = [child.copied() if isinstance(child, Node) else child for child in self.children]
-        return Node(self.ns, self.local, self.attributes, children)
+        return Node(self.ns, self.local, self.attributes, children, self.ident)
 
 
 def sizes(library):
     """For each ident how many elements the smallest tree has that is valid for it."""
     found, before = dict.fromkeys(library.elements, NEVER), None
+    possible = [ident for ident in library.elements if attribute_models.is_possible(library, ident)]
+    contents = {ident: library.elements[ident].content or Part("empty") for ident in possible}
     while found != before:
         before = found
-        found = {ident: 1 + least(library, spec.content or Part("empty"), before) for ident, spec in library.elements.items()}
+        found = before | {ident: 1 + least(library, content, before) for ident, content in contents.items()}
     return found
 
 
@@ -449,6 +489,8 @@ def least_once(library, part, found):
         return least(library, library.macros[part.of] or Part("empty"), found)
     if part.kind == "anyElement":
         return 1 if meeting_names(part.of) else NEVER
+    if part.kind == "data":
+        return 0 if attribute_models.admitted_texts(library, part.of) else NEVER
     if part.kind == "sequence":
         return sum(least(library, each, found) for each in part.of)
     if part.kind == "alternate":
@@ -466,6 +508,7 @@ class Grower:
 
     def __init__(self, rng, library):
         self.rng, self.library, self.sizes = rng, library, sizes(library)
+        self.offers = {ident: attribute_models.attributes_of(library, ident) for ident in library.elements}
         self.grown = self.depth = 0
         self.deep = greatest_depth(library)
 
@@ -481,7 +524,8 @@ class Grower:
         self.grown, self.depth = self.grown + 1, self.depth + 1
         children = self.part(self.library.elements[ident].content or Part("empty"))
         self.depth -= 1
-        return Node(namespace(self.library, ident), ident, (), children)
+        attributes = attribute_models.grown_attributes(self.rng, self.library, self.offers[ident])
+        return Node(*element_name(self.library, ident), attributes, children, ident)
 
     def is_large(self):
         """Whether what is to come shall be as small as can be: a validator may take long for a deep document."""
@@ -504,6 +548,8 @@ class Grower:
             return self.part(self.alternative(part.of))
         if part.kind == "textNode":
             return [self.rng.choice(TEXTS)] if self.rng.random() < 0.6 else []
+        if part.kind == "data":
+            return [attribute_models.spaced(self.rng, attribute_models.admitted_texts(self.library, part.of))]
         if part.kind == "macroRef":
             return self.part(self.library.macros[part.of] or Part("empty"))
         if part.kind == "elementRef":
@@ -580,7 +626,7 @@ def unwrap(_grower, parent, at):
 
 
 def rename(grower, node):
-    """An element has another name."""
+    """An element has another name, which may be the ident of one that has an altIdent."""
     node.local = grower.rng.choice([*grower.library.elements, grower.rng.choice(LOCALS)])
 
 
@@ -629,6 +675,8 @@ AT_NODES = [rename, rename, put_in_namespace, put_attribute, put_text, put_space
 def change(grower, root):
     """Changes a document once, and tells how."""
     rng, node = grower.rng, picked(grower.rng, root)
+    if rng.random() < 0.5 and (title := attribute_models.change(grower, root)):
+        return title
     kind = rng.choice(AT_CHILDREN if node.children and rng.random() < 0.6 else AT_NODES)
     if kind is move:
         move(grower, root, node)
@@ -669,7 +717,7 @@ def written_node(rng, node, scope):
     bound = {}
     name = written_name(rng, node.ns, node.local, scope, bound)
     attributes = "".join(
-        f" {written_attribute_name(rng, ns, local, scope, bound)}={quoteattr(value)}" for (ns, local), value in node.attributes.items()
+        f" {written_attribute_name(rng, *attribute, scope, bound)}={written_value(rng, value)}" for attribute, value in node.attributes.items()
     )
     inside = written_children(rng, node, {**scope, **bound})
     if not inside and rng.random() < 0.5:
@@ -701,6 +749,11 @@ def written_attribute_name(rng, ns, local, scope, bound):
         fitting = [f"n{len(force)}"]
         bound[fitting[0]] = ns
     return f"{rng.choice(fitting)}:{local}"
+
+
+def written_value(rng, text):
+    """The value of an attribute. At times its line feeds are no references, and so are spaces."""
+    return quoteattr(text).replace("&#10;", "\n") if rng.random() < 0.2 else quoteattr(text)
 
 
 def written_children(rng, node, scope):

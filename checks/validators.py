@@ -4,9 +4,10 @@
     checks/validators.py PROGRAM [COUNT]
 
 PROGRAM is the built program odd. Of the two validators those that are installed are asked, and one must be. The files are
-twenty-six small ones, and COUNT at random with content models (2,000 where it is not given), from a fixed seed. For each
-file and each of its documents the verdict that docs/admission.md gives is worked out apart from the program, and compared
-with theirs. Ends with 1 where one of them differs. Schemas that libxml2 is known to misread, listed below, are jing's alone.
+twenty-six small ones, and COUNT at random with content models, attributes and data (2,000 where it is not given), from a fixed
+seed. For each file and each of its documents the verdict that docs/admission.md gives is worked out apart from the program, and
+compared with theirs. Ends with 1 where one of them differs. Schemas that libxml2 is known to misread, listed below, are jing's
+alone.
 """
 
 import collections
@@ -21,8 +22,10 @@ import sys
 import tempfile
 from xml.sax.saxutils import quoteattr
 
+import attribute_models
 import content_models
-from content_models import BRANCHES, TEI, Library, Part, Spec, Verdicts, meeting_names, split_name
+from attribute_models import Either, Listed, Typed
+from content_models import BRANCHES, TEI, Library, Part, Spec, Verdicts, meeting_names
 
 # Where Debian puts jing. Its driver for test suites reads all folders in one run, of which the program jing would take hours.
 JING = pathlib.Path("/usr/share/java/jing.jar")
@@ -151,40 +154,75 @@ def case_of(number):
     return small_case(*LIBRARIES[number]) if number < len(LIBRARIES) else random_case(number - len(LIBRARIES))
 
 
-# The schemas that libxml2 misreads (2.9.14), each a fault of its own, found where jing and the standard say something else.
-# Its simplification of empty and notAllowed (xmlRelaxNGSimplify), and a choice of which it takes one branch alone
-# (xmlRelaxNGCheckChoiceDeterminism). Patterns are those of docs/schema.md, with what the defines of classes and macros hold
-# in place of references to them.
+# The schemas that libxml2 misreads (2.9.14), each a fault of its own, found where jing and the standard say something else: in
+# its simplification of empty and notAllowed (xmlRelaxNGSimplify), in a choice of which it takes one branch alone
+# (xmlRelaxNGCheckChoiceDeterminism), and in the text that it asks facets of (xmlSchemaValidateFacet). Patterns are those of
+# docs/schema.md. A ref to the define of a class, a macro or a datatype has in it what the define holds.
 
 Pattern = collections.namedtuple("Pattern", "kind inside part", defaults=((), None))
 REPEATED = {(0, 1): "optional", (0, None): "zeroOrMore", (1, None): "oneOrMore"}
 
 
+def often(one, low, high):
+    """A pattern as often as bounds say."""
+    if high == 0 or (low, high) == (1, 1):
+        return one if high else Pattern("empty")
+    if (low, high) in REPEATED:
+        return Pattern(REPEATED[low, high], (one,))
+    rest = [Pattern("zeroOrMore", (one,))] if high is None else [Pattern("optional", (one,))] * (high - low)
+    return Pattern("group", (*[one] * low, *rest))
+
+
+def joined(kind, inside):
+    """A group or a choice of patterns."""
+    if not inside:
+        return Pattern({"group": "empty", "choice": "notAllowed"}[kind])
+    return inside[0] if len(inside) == 1 else Pattern(kind, tuple(inside))
+
+
 def pattern(library, part):
     """The pattern of a part."""
-    one = pattern_once(library, part)
-    if part.high == 0 or (part.low, part.high) == (1, 1):
-        return one if part.high else Pattern("empty")
-    if (part.low, part.high) in REPEATED:
-        return Pattern(REPEATED[part.low, part.high], (one,))
-    rest = [Pattern("zeroOrMore", (one,))] if part.high is None else [Pattern("optional", (one,))] * (part.high - part.low)
-    return Pattern("group", (*[one] * part.low, *rest))
+    return often(pattern_once(library, part), part.low, part.high)
 
 
 def pattern_once(library, part):
     """The pattern of a part that stands once."""
     if part.kind in BRANCHES:
-        inside = tuple(pattern(library, each) for each in part.of)
-        kinds = {"sequence": ("group", "empty"), "alternate": ("choice", "notAllowed")}[part.kind]
-        return inside[0] if len(inside) == 1 else Pattern(kinds[0], inside) if inside else Pattern(kinds[1])
+        return joined({"sequence": "group", "alternate": "choice"}[part.kind], [pattern(library, each) for each in part.of])
     if part.kind == "elementRef" and part.of not in library.elements:
         return Pattern("notAllowed")
     if part.kind == "macroRef":
-        return pattern(library, library.macros[part.of] or Part("empty"))
+        return Pattern("ref", (pattern(library, library.macros[part.of] or Part("empty")),))
     if part.kind == "classRef":
-        inside = tuple(Pattern("ref", (), Part("elementRef", of=ident)) for ident in content_models.picked_members(library, part.of))
-        return inside[0] if len(inside) == 1 else Pattern("choice", inside) if inside else Pattern("notAllowed")
+        members = [Part("elementRef", of=ident) for ident in content_models.picked_members(library, part.of)]
+        choice = joined("choice", [Pattern("ref", (), member) for member in members])
+        return Pattern("ref", (choice,)) if part.of.pick == "all" and part.of.key in library.classes else choice
+    if part.kind == "data":
+        return data_pattern(library, part.of)
     return Pattern({"empty": "empty", "textNode": "text"}.get(part.kind, "ref"), (), part)
+
+
+def data_pattern(library, data):
+    """The pattern of data."""
+    if isinstance(data, Typed):
+        return Pattern("data", (), data)
+    if isinstance(data, Either):
+        return joined("choice", [data_pattern(library, branch) for branch in data.branches])
+    if isinstance(data, Listed) and data.type == "closed":
+        return joined("choice", [Pattern("value")] * len(data.idents))
+    if isinstance(data, Listed):
+        return Pattern("data", (), Typed("string", ()))
+    return Pattern("ref", (data_pattern(library, attribute_models.named_data(library, data)),))
+
+
+def attribute_pattern(library, definition):
+    """The pattern of an attribute's value."""
+    data = attribute_models.piece_of(definition)
+    piece = data_pattern(library, data) if data else Pattern("text")
+    if attribute_models.is_whole(definition):
+        return piece
+    _item, low, high = definition["datatype"]
+    return Pattern("list", (often(piece, low, high),))
 
 
 def content_pattern(library, ident):
@@ -204,7 +242,7 @@ def reached(library, idents):
     found, new = set(), set(idents)
     while new:
         parts = [each.part for ident in new for each in within(content_pattern(library, ident)) if each.kind == "ref"]
-        new = {part.of for part in parts if part.kind == "elementRef"} - found
+        new = {part.of for part in parts if part and part.kind == "elementRef"} - found
         found |= new
     return found
 
@@ -215,10 +253,15 @@ def is_misread(library):
 
 
 def is_misread_at(library, ident):
-    """Whether libxml2 misreads the content of an element."""
+    """Whether libxml2 misreads the content of an element or its attributes."""
     content, again = content_pattern(library, ident), ident in reached(library, [ident])
-    wrong = is_wrong_repetition, is_wrong_choice, functools.partial(is_cut_short, again), functools.partial(is_wrong_triage, library)
-    return is_refused(content) or any(test(each) for each in within(content) for test in wrong)
+    definitions = attribute_models.attributes_of(library, ident).values()
+    values = [each for definition in definitions for each in within(attribute_pattern(library, definition))]
+    if is_refused(content) or is_moved(again, definitions, content):
+        return True
+    by_context = functools.partial(is_cut_short, again), functools.partial(is_wrong_triage, library)
+    wrong = is_wrong_repetition, is_wrong_choice, is_wrong_pattern, is_wrong_length, *by_context
+    return any(test(each) for each in [*within(content), *values] for test in wrong)
 
 
 def left(whole):
@@ -235,7 +278,8 @@ def is_wrong_repetition(whole):
 
 
 def is_wrong_choice(whole):
-    """A choice of which nothing is allowed accepts no child; one loses a branch that becomes empty by simplification."""
+    """A choice of which nothing is allowed accepts no child, or any value; one loses a branch that becomes empty by
+    simplification."""
     lost = any(left(each) == "empty" and each.inside for each in whole.inside)
     return whole.kind == "choice" and (lost or all(left(each) == "notAllowed" for each in whole.inside))
 
@@ -267,14 +311,35 @@ def staying(whole):
 
 
 def is_refused(whole):
-    """The content of an element that holds nothing but what is not allowed is taken for attributes, and then refused."""
-    return bool(whole.inside) and holds_nothing(whole)
+    """The content of an element that is not allowed is taken for attributes, and then refused where something is in it."""
+    return holds_nothing(whole) and any(not each.inside and each.kind not in ("empty", "notAllowed") for each in within(whole))
 
 
 def holds_nothing(whole):
     """Whether libxml2 finds no element, text or empty in a pattern."""
     inside = staying(whole) or whole.inside
     return left(whole) == "notAllowed" or bool(inside) and all(holds_nothing(each) for each in inside)
+
+
+def is_moved(again, definitions, content):
+    """Where the element may stand in itself and has an attribute that it doesn't need, the one part that stays of a group of
+    content is put among the attributes, and then refused."""
+    return again and not all(map(attribute_models.is_needed, definitions)) and remaining(content) != content
+
+
+def is_wrong_pattern(whole):
+    """The pattern of a number, a boolean or an anyURI is asked of the text with the white space around it."""
+    return "pattern" in facets_of(whole) and whole.part.type != "normalizedString" and attribute_models.has_wrong_space(whole.part.type)
+
+
+def is_wrong_length(whole):
+    """The length of a normalizedString is counted as if its white space were collapsed."""
+    return bool({*facets_of(whole)} - {"pattern"}) and whole.part.type == "normalizedString"
+
+
+def facets_of(whole):
+    """The names of the facets of a pattern, where it is of a datatype."""
+    return [name for name, _value in whole.part.facets] if whole.kind == "data" else []
 
 
 def is_wrong_triage(library, whole):
@@ -291,10 +356,10 @@ def tops(library, whole):
     """The elements and texts of a pattern: the key under which libxml2 holds each, and names of elements that it takes."""
     if whole.kind == "text":
         return [("#text", set())]
-    if whole.kind != "ref":
+    if whole.kind != "ref" or whole.inside:
         return [top for each in whole.inside if left(whole) != "notAllowed" for top in tops(library, each)]
     if whole.part.kind == "elementRef":
-        name = content_models.namespace(library, whole.part.of), whole.part.of
+        name = content_models.element_name(library, whole.part.of)
         return [(name, {name})]
     names = set(meeting_names(whole.part.of))
     required = set(whole.part.of.required) - set(whole.part.of.namespaces)
@@ -303,7 +368,7 @@ def tops(library, whole):
 
 def is_nullable(whole):
     """Whether a pattern accepts no child."""
-    if whole.kind in ("choice", "oneOrMore"):
+    if whole.kind in ("choice", "oneOrMore", "ref"):
         return any(is_nullable(each) for each in whole.inside)
     if whole.kind == "group":
         return all(is_nullable(each) for each in whole.inside)

@@ -42,6 +42,7 @@ use Rattle.odd_content.specs.ConditionOrder.{condition_cmp}
 use Rattle.compile_contents.specs.Budget.{pattern_elements}
 use Rattle.compile_contents.specs.Conditions.{IsConditionOf, conditions_of, conditions_in, conditions_in_parts}
 use Rattle.compile_contents.specs.Contents.{content_pattern, part_patterns}
+use Rattle.compile_contents.specs.Data.{data_pattern, data_patterns}
 use Rattle.compile_contents.specs.Parts.{bounds_of, is_never, part_pattern}
 use Rattle.compile_contents.specs.Repeating.{choice_pattern, group_pattern, repeated}
 use Rattle.compile_contents.specs.Wanted.{is_wanted}
@@ -96,6 +97,15 @@ sequence_conditions parts b = conditions_of_parts parts
 
 pub alternate_conditions : (parts : List Content) (b : Bounds) → conditions_in (Alternate parts b) ≡ flat_map conditions_in parts
 alternate_conditions parts b = conditions_of_parts parts
+
+-- the patterns of the parts of a row that is a datatype's are those of its list
+data_listed : {n : _} (row : Row_of-Content n) → data_patterns row ≡ map data_pattern (items-the_row-Content n row)
+data_listed end_of-Content = refl
+data_listed (more_of-Content part row) = ap (λ ps. data_pattern part ∷ ps) (data_listed row)
+
+-- so an alternation of a datatype's is a choice of them
+pub alternate_data : (parts : List Content) (b : Bounds) → data_pattern (Alternate parts b) ≡ choice_pattern (map data_pattern parts)
+alternate_data parts b = ap choice_pattern (data_listed (hidden-the_row-Content-0 parts) ∙ ap (map data_pattern) (items_hidden-the_row-Content-0 parts))
 
 module _ (library : Library) (conditions : List Condition) (members : Members) where
   -- the pattern of one part

@@ -1,4 +1,5 @@
 pub mod Collected
+pub mod DataElements
 pub mod Elements
 pub mod Standing
 pub mod Taking

@@ -1,5 +1,5 @@
 -- The pattern of a content: what it admits, in the patterns of RELAX NG, where `e.KEY` is the define of the element KEY, `c.KEY` that of the class, `m.KEY` that
--- of the macro, and `a.N` that of the condition of the number N.
+-- of the macro, `d.KEY` that of the datatype, and `a.N` that of the condition of the number N.
 use Rattle.std.specs.Prelude.{ℕ, ◌+◌, Bool, true, false, if◌then◌else◌, List, [], ◌∷◌, ◌++◌, Option, Some, None, codes, count_by, decimal, filter, map}
 use Rattle.std.specs.FinMap.{find}
 use Rattle.std.specs.Ordering.{is_lt}
@@ -19,6 +19,7 @@ use Rattle.odd_meaning.specs.Links.{macro_key}
 use Rattle.rng_patterns.specs.declared.grammar.Expr.{Expr}
 use Rattle.rng_patterns.specs.declared.grammar.Expr.TheVariants as expr
 use Rattle.odd_content.specs.ConditionOrder.{condition_cmp}
+use Rattle.compile_contents.specs.Data.{item_pattern, list_pattern}
 use Rattle.compile_contents.specs.Repeating.{choice_pattern, group_pattern, repeated}
 
 -- the names of the defines of an element, a class and a macro
@@ -88,8 +89,8 @@ abbrev mutual
   pub content_pattern : Library → List Condition → Members → Content → Expr
   content_pattern library conditions members Empty = expr.Empty
   content_pattern library conditions members Text = expr.Text
-  content_pattern library conditions members (Value item) = expr.NotAllowed
-  content_pattern library conditions members (Vals list) = expr.NotAllowed
+  content_pattern library conditions members (Value item) = item_pattern item
+  content_pattern library conditions members (Vals list) = list_pattern list
   content_pattern library conditions members (Element key b) = repeated (element_pattern library key) b
   content_pattern library conditions members (Class key p b) = repeated (members_pattern key p (members key)) b
   content_pattern library conditions members (Macro key b) = repeated (macro_pattern library key) b

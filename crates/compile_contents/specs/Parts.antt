@@ -8,6 +8,7 @@ use Rattle.rng_patterns.specs.declared.grammar.Expr.{Expr}
 use Rattle.rng_patterns.specs.declared.grammar.Expr.TheVariants as expr
 use Rattle.rng_types.specs.declared.bounds.Bounds.{Bounds}
 use Rattle.compile_contents.specs.Contents.{condition_pattern, element_pattern, macro_pattern, members_pattern, part_patterns}
+use Rattle.compile_contents.specs.Data.{item_pattern, list_pattern}
 use Rattle.compile_contents.specs.Repeating.{choice_pattern, group_pattern}
 
 -- how often its part stands: once, where nothing is said
@@ -27,8 +28,8 @@ bounds_of (Alternate' shape parts b) = b
 abbrev pub part_pattern : Library → List Condition → Members → Content → Expr
 part_pattern library conditions members Empty = expr.Empty
 part_pattern library conditions members Text = expr.Text
-part_pattern library conditions members (Value item) = expr.NotAllowed
-part_pattern library conditions members (Vals list) = expr.NotAllowed
+part_pattern library conditions members (Value item) = item_pattern item
+part_pattern library conditions members (Vals list) = list_pattern list
 part_pattern library conditions members (Element key b) = element_pattern library key
 part_pattern library conditions members (Class key p b) = members_pattern key p (members key)
 part_pattern library conditions members (Macro key b) = macro_pattern library key

@@ -3,10 +3,12 @@ ghost use Rattle.odd_forms.specs.Sorted.{AreRising};
 ghost use Rattle.odd_content.specs.ConditionOrder.{condition_cmp};
 ghost use Rattle.compile_contents.specs.Contents.{class_name as the_class_name, condition_name as the_condition_name, condition_pattern as the_condition_pattern, content_pattern as the_content_pattern, define_name as the_define_name, element_pattern as the_element_pattern, holds_element as the_holds_element, holds_macro as the_holds_macro, listed_in, macro_name as the_macro_name, macro_pattern as the_macro_pattern, members_pattern as the_members_pattern, number_of as the_number_of, reference, references_pattern as the_references_pattern};
 ghost use Rattle.compile_contents.specs.Budget.{IsMadeWithin, joined_elements, pattern_elements};
+ghost use Rattle.compile_contents.specs.Data.{datatype_name as the_datatype_name};
 ghost use Rattle.compile_contents.specs.Parts.{bounds_of as the_bounds_of, is_never as the_is_never, part_pattern as the_part_pattern};
 
 use crate::budget::{Budget, MakeRefusal};
 use crate::conditions::Conditions;
+use crate::data::{item_pattern, list_pattern};
 use crate::repeating::{choice_pattern, group_pattern, repeated};
 use crate::words::picked;
 use itoa::Buffer;
@@ -64,9 +66,9 @@ fn bounds_of(content: &Content) -> Bounds
     }
 }
 
-// Whether a part stands at no time, so that its pattern is `empty` whatever it is. None is made of it then, as it may be
-// larger than any schema.
-fn is_never(bounds: Bounds) -> bool
+/// Whether a part stands at no time, so that its pattern is `empty` whatever it is. None is made of it then, as it may be
+/// larger than any schema.
+pub fn is_never(bounds: Bounds) -> bool
     ensures { result ≡ the_is_never bounds }
 {
     matches!((bounds.min, bounds.max), (0, Some(0)))
@@ -97,7 +99,8 @@ fn part_pattern(
     match content {
         Content::Empty => single(Expr::Empty, budget),
         Content::Text => single(Expr::Text, budget),
-        Content::Value(_) | Content::Vals(_) => single(Expr::NotAllowed, budget),
+        Content::Value(item) => item_pattern(alloc, item, budget),
+        Content::Vals(list) => list_pattern(alloc, list, budget),
         Content::Element { key, .. } => element_pattern(alloc, library, key, budget),
         Content::Class { key, pick, .. } => members_pattern(alloc, members, key, pick, budget),
         Content::Macro { key, .. } => macro_pattern(alloc, library, key, budget),
@@ -267,6 +270,13 @@ pub fn macro_name(alloc: Global, ident: &Text) -> Result<Text, NoMemory>
     ensures { IfOk result (λ name. name ≡ the_macro_name ident.now) }
 {
     prefixed(alloc, "m.", ident)
+}
+
+/// The name of the define of a datatype. The only error is NoMemory, for want of memory.
+pub fn datatype_name(alloc: Global, ident: &Text) -> Result<Text, NoMemory>
+    ensures { IfOk result (λ name. name ≡ the_datatype_name ident.now) }
+{
+    prefixed(alloc, "d.", ident)
 }
 
 // An ident after a prefix.

@@ -1,8 +1,9 @@
+pub mod AllOffers
 pub mod Blocks
-pub mod Closed
 pub mod MembersExist
 pub mod OneGrammarOf
 pub mod Plain
+pub mod PlainClass
 pub mod PlainParts
 pub mod Rising
 pub mod SchemaText

@@ -1,7 +1,8 @@
 -- A library and a list of start words have one grammar, whose defines rise, or a least word that is missing.
 use Rattle.std.proofs.Common.{◌≡◌, ℕ, List, [], ◌∷◌, ◌++◌, Option, Some, None, cond, inl, inr, refl, sym, subst, ap, ◌∙◌, true, false, map}
 use Rattle.std.proofs.lemmas.Bool.{and_from}
-use Rattle.std.proofs.lemmas.Cmp.{nat_list_cmp_total}
+use Rattle.std.proofs.lemmas.Cmp.{nat_list_cmp_total, on_total}
+use Rattle.std.specs.Cmp.{IsTotalOrder}
 use Rattle.std.specs.Borrow.{Bor}
 use Rattle.std.specs.Option.{option_copied}
 use Rattle.std.specs.FinMap.{is_sorted}
@@ -9,10 +10,12 @@ use Rattle.std.specs.FinMap.Entries.{below_all}
 use Rattle.std.specs.Ordering.{is_lt}
 use Rattle.std.specs.Prelude.{IsTrue}
 use Rattle.std.specs.declared.cmp.Ordering.TheVariants.{Less, Equal, Greater}
+use Rattle.odd_attributes.specs.declared.att_def.AttDef.{AttDef}
 use Rattle.odd_content.specs.ConditionOrder.{condition_cmp, condition_total}
 use Rattle.compile_contents.specs.Conditions.{IsConditionOf}
 use Rattle.compile_defines.proofs.NamedDefines.{define_total}
-use Rattle.compile_defines.specs.Compiled.{IsMissing, IsDefineOf, IsGrammarOf, define_cmp}
+use Rattle.compile_defines.specs.Compiled.{AllOffers, AreAllOffers, IsMissing, IsDefineOf, IsGrammarOf, define_cmp}
+use Rattle.odd_meaning.specs.Offering.{OffersOne, offer_cmp}
 use Rattle.odd_forms.proofs.SetOf.{not_below, one_set, rest_rising}
 use Rattle.odd_forms.specs.Sorted.{IsSet, AreRising}
 use Rattle.odd_library.specs.declared.library.Library.{Library}
@@ -96,14 +99,23 @@ one_listed library class (Some idents) (Some others) p q =
 pub one_members : (library : Library) (some other : Members) → AreMembers library some → AreMembers library other → some ≡ other
 one_members library some other p q = λ i class. one_listed library class (some class) (other class) (p class) (q class) i
 
+-- what is offered is ordered by ident
+pub offer_total : IsTotalOrder offer_cmp
+offer_total = on_total (λ (o : List ℕ × AttDef). o.0) nat_list_cmp_total
+
+-- so are the attributes that elements offer
+pub one_offers : (library : Library) (some other : AllOffers) → AreAllOffers library some → AreAllOffers library other → some ≡ other
+one_offers library some other p q = λ i element. one_set offer_cmp offer_total (OffersOne library element) (some element) (other element) (p element) (q element) i
+
 -- and the defines, and the whole grammar
 pub one_grammar_of : (library : Library) (start : List (List ℕ)) (g h : Grammar) → IsGrammarOf library start g → IsGrammarOf library start h → g ≡ h
 one_grammar_of library start g h p q =
     let conditions : p.conditions ≡ q.conditions = one_set condition_cmp condition_total (IsConditionOf library) p.conditions q.conditions p.are_conditions q.are_conditions in
     let members : p.members ≡ q.members = one_members library p.members q.members p.are_members q.are_members in
-    let same : IsDefineOf library p.conditions p.members ≡ IsDefineOf library q.conditions q.members = λ i. IsDefineOf library (conditions i) (members i) in
-    let set : IsSet define_cmp (IsDefineOf library q.conditions q.members) g.defines = subst (λ (Is : Define → Type 0). IsSet define_cmp Is g.defines) same p.are_defines in
-    let defines : g.defines ≡ h.defines = one_set define_cmp define_total (IsDefineOf library q.conditions q.members) g.defines h.defines set q.are_defines in
+    let offers : p.offers ≡ q.offers = one_offers library p.offers q.offers p.are_offers q.are_offers in
+    let same : IsDefineOf library p.conditions p.members p.offers ≡ IsDefineOf library q.conditions q.members q.offers = λ i. IsDefineOf library (conditions i) (members i) (offers i) in
+    let set : IsSet define_cmp (IsDefineOf library q.conditions q.members q.offers) g.defines = subst (λ (Is : Define → Type 0). IsSet define_cmp Is g.defines) same p.are_defines in
+    let defines : g.defines ≡ h.defines = one_set define_cmp define_total (IsDefineOf library q.conditions q.members q.offers) g.defines h.defines set q.are_defines in
     let begin : g.start ≡ h.start = p.start_is ∙ sym q.start_is in
     λ i. record { start = begin i; defines = defines i }
 

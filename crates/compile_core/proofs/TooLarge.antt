@@ -13,8 +13,8 @@ use Rattle.compile_contents.specs.declared.budget.MakeRefusal.{MakeRefusal}
 use Rattle.compile_contents.specs.declared.budget.MakeRefusal.TheVariants as refusal
 use Rattle.compile_contents.specs.Contents.{references_pattern}
 use Rattle.compile_defines.proofs.NamedDefines.{defines_exist}
-use Rattle.compile_defines.specs.Blocks.{IsConditionDefine, class_at, class_defines, component_defines, element_defines, grammar_with, listed_defines, macro_defines}
-use Rattle.compile_defines.specs.Compiled.{HoldsStart, IsGrammarOf, define_cmp}
+use Rattle.compile_defines.specs.Blocks.{IsConditionDefine, class_at, class_defines, component_defines, datatype_defines, element_defines, grammar_with, listed_defines, macro_defines}
+use Rattle.compile_defines.specs.Compiled.{AllOffers, AreAllOffers, HoldsStart, IsGrammarOf, define_cmp}
 use Rattle.compile_defines.specs.Elements.{define_elements}
 use Rattle.compile_laws.proofs.MacroLaw.{BreaksNone}
 use Rattle.odd_content.specs.ConditionOrder.{condition_cmp}
@@ -53,23 +53,23 @@ text_parts start before after =
 module _ (library : Library) (start : List (List ℕ)) (conditions : List Condition) (up : IsTrue (is_sorted key_cmp library.parts)) (holds : HoldsStart library start)
     (are_conditions : IsSet condition_cmp (IsConditionOf library) conditions) where
   -- a text of more elements than a schema may have
-  pub large_text : (members : Members) (before : List Define) → AreMembers library members → IsSet define_cmp (IsConditionDefine conditions) before
-      → 1000000 < pattern_elements (references_pattern start) + 2 + (sum_by define_elements before + sum_by define_elements (component_defines library conditions members))
+  pub large_text : (members : Members) (offers : AllOffers) (before : List Define) → AreMembers library members → AreAllOffers library offers → IsSet define_cmp (IsConditionDefine conditions) before
+      → 1000000 < pattern_elements (references_pattern start) + 2 + (sum_by define_elements before + sum_by define_elements (component_defines library conditions members offers))
       → HasLargeSchema library start
-  large_text members before are_members are_before over = record {
+  large_text members offers before are_members are_offers are_before over = record {
     holds_start = holds;
-    grammar = grammar_with library start conditions members before;
-    is_grammar = made library conditions members before up are_before are_members start are_conditions;
-    too_large = let text = text_parts (references_pattern start) before (component_defines library conditions members) in inl (omega arith);
+    grammar = grammar_with library start conditions members offers before;
+    is_grammar = made library conditions members offers before up are_before are_members are_offers start are_conditions;
+    too_large = let text = text_parts (references_pattern start) before (component_defines library conditions members offers) in inl (omega arith);
   }
 
 -- a library that breaks no rule has a grammar, for any start words
-pub grammar_exists : (library : Library) (start : List (List ℕ)) (conditions : List Condition) → IsTrue (is_sorted key_cmp library.parts) → BreaksNone library
-    → IsSet condition_cmp (IsConditionOf library) conditions → length conditions + 1 < 2 ^ 64 → (g : Grammar) × IsGrammarOf library start g
-grammar_exists library start conditions up none are_conditions small =
+pub grammar_exists : (library : Library) (start : List (List ℕ)) (conditions : List Condition) (offers : AllOffers) → IsTrue (is_sorted key_cmp library.parts) → BreaksNone library
+    → IsSet condition_cmp (IsConditionOf library) conditions → AreAllOffers library offers → length conditions + 1 < 2 ^ 64 → (g : Grammar) × IsGrammarOf library start g
+grammar_exists library start conditions offers up none are_conditions are_offers small =
     let before = defines_exist conditions are_conditions.rising small in
     let exist = members_exist library none in
-    (grammar_with library start conditions exist.0 before.0, made library conditions exist.0 before.0 up before.1 exist.1 start are_conditions)
+    (grammar_with library start conditions exist.0 offers before.0, made library conditions exist.0 offers before.0 up before.1 exist.1 are_offers start are_conditions)
 
 -- a schema of more nodes after linking
 pub nodes_pass : (g : Grammar) (count : ℕ) → count ≡ counted (linked_nodes g) → 4000000 < count → IsTooLarge g
@@ -84,7 +84,7 @@ listed_many : (ident : List ℕ) (listed : Option (List (List ℕ))) → listed_
 listed_many ident None = omega arith
 listed_many ident (Some idents) = let many = references_elements idents in omega arith
 
-module _ (library : Library) (conditions : List Condition) (members : Members) where
+module _ (library : Library) (conditions : List Condition) (members : Members) (offers : AllOffers) where
   class_many : (key : Key) (k : Kind) → count_at members k key.ident ≤ sum_by define_elements (class_at members k key.ident)
   class_many key kind.Element = omega arith
   class_many key kind.Class = listed_many key.ident (members key.ident)
@@ -96,12 +96,15 @@ module _ (library : Library) (conditions : List Condition) (members : Members) w
   entry_many (key, part) = class_many key key.kind
 
   -- so those of the components have one for each member of each class
-  components_many : members_count members library ≤ sum_by define_elements (component_defines library conditions members)
+  components_many : members_count members library ≤ sum_by define_elements (component_defines library conditions members offers)
   components_many =
       let each = sum_by-le-sum_by (class_count members) (λ entry. sum_by define_elements (class_defines members entry)) library.parts entry_many in
       let classes = flat_elements (class_defines members) library.parts in
-      let first = sum_by-append define_elements (flat_map (class_defines members) library.parts ++ flat_map (element_defines library conditions members) library.parts) (flat_map (macro_defines library conditions members) library.parts) in
-      let second = sum_by-append define_elements (flat_map (class_defines members) library.parts) (flat_map (element_defines library conditions members) library.parts) in
+      let two = flat_map (class_defines members) library.parts ++ flat_map datatype_defines library.parts in
+      let three = two ++ flat_map (element_defines library conditions members offers) library.parts in
+      let first = sum_by-append define_elements three (flat_map (macro_defines library conditions members) library.parts) in
+      let second = sum_by-append define_elements two (flat_map (element_defines library conditions members offers) library.parts) in
+      let third = sum_by-append define_elements (flat_map (class_defines members) library.parts) (flat_map datatype_defines library.parts) in
       omega arith
     where
       flat_elements : (f : Key × Component → List Define) (xs : List (Key × Component)) → sum_by define_elements (flat_map f xs) ≡ sum_by (λ x. sum_by define_elements (f x)) xs
@@ -110,11 +113,11 @@ module _ (library : Library) (conditions : List Condition) (members : Members) w
           sum_by-append define_elements (f x) (flat_map f xs) ∙ ap (λ n. sum_by define_elements (f x) + n) (flat_elements f xs) ∙ sym (sum_by-cons (λ y. sum_by define_elements (f y)) x xs)
 
 -- where the members of the classes are more than a schema may have elements, it is too large
-pub too_many : (library : Library) (start : List (List ℕ)) (conditions : List Condition) (before : List Define) → IsTrue (is_sorted key_cmp library.parts) → BreaksNone library
-    → IsSet condition_cmp (IsConditionOf library) conditions → IsSet define_cmp (IsConditionDefine conditions) before → HoldsStart library start
+pub too_many : (library : Library) (start : List (List ℕ)) (conditions : List Condition) (offers : AllOffers) (before : List Define) → IsTrue (is_sorted key_cmp library.parts) → BreaksNone library
+    → IsSet condition_cmp (IsConditionOf library) conditions → AreAllOffers library offers → IsSet define_cmp (IsConditionDefine conditions) before → HoldsStart library start
     → ((members : Members) → AreMembers library members → 1000000 < members_count members library) → HasLargeSchema library start
-too_many library start conditions before up none are_conditions are_before holds more =
+too_many library start conditions offers before up none are_conditions are_offers are_before holds more =
     let exist = members_exist library none in
     let over = more exist.0 exist.1 in
-    let many = components_many library conditions exist.0 in
-    large_text library start conditions up holds are_conditions exist.0 before exist.1 are_before (omega arith)
+    let many = components_many library conditions exist.0 offers in
+    large_text library start conditions up holds are_conditions exist.0 offers before exist.1 are_offers are_before (omega arith)

@@ -7,7 +7,9 @@ use Rattle.odd_text.specs.Text.{text_cmp}
 use Rattle.odd_text.specs.declared.name.Name.{Name}
 use Rattle.odd_tokens.specs.Same.{is_same}
 use Rattle.odd_tree.specs.Elements.{StandsIn}
-use Rattle.odd_tree.specs.Markup.{Markup, element, file_printed, line}
+use Rattle.odd_tree.specs.Markup.{Markup, element, file_printed, line, none}
+use Rattle.odd_attributes.specs.declared.att_def.AttDef.{AttDef}
+use Rattle.odd_attributes.specs.declared.att_def.Datatype.{Datatype}
 use Rattle.odd_forms.specs.Sorted.{IsSet}
 use Rattle.odd_content.specs.ConditionOrder.{condition_cmp}
 use Rattle.odd_content.specs.Picking.{is_picked}
@@ -21,13 +23,21 @@ use Rattle.odd_library.specs.declared.library.ElementPart.{ElementPart}
 use Rattle.odd_library.specs.declared.library.Library.{Library}
 use Rattle.odd_library.specs.declared.library.OtherPart.{OtherPart}
 use Rattle.odd_meaning.specs.Classes.{AreMembers, Members}
-use Rattle.odd_meaning.specs.Links.{macro_key}
-use Rattle.rng_emit.specs.Grammar.{all_of, named, plain}
+use Rattle.odd_meaning.specs.Links.{datatype_key, macro_key}
+use Rattle.odd_meaning.specs.Naming.{attribute_name, element_name}
+use Rattle.odd_meaning.specs.Values.{bounds_of}
+use Rattle.rng_emit.specs.Grammar.{all_of, named, param_markup, plain, type_name}
 use Rattle.rng_patterns.specs.Names.{datatype_library, relax_ng_namespace}
 use Rattle.rng_types.specs.declared.bounds.Bounds.{Bounds}
+use Rattle.rng_types.specs.declared.item.Item.{Item}
+use Rattle.rng_types.specs.declared.item.Item.TheVariants as item
+use Rattle.rng_types.specs.declared.val_list.ListKind.{ListKind}
+use Rattle.rng_types.specs.declared.val_list.ListKind.TheVariants as listing
+use Rattle.rng_types.specs.declared.val_list.ValList.{ValList}
 use Rattle.compile_contents.specs.Conditions.{IsConditionOf}
 use Rattle.compile_contents.specs.Contents.{class_name, condition_name, define_name, holds_element, holds_macro, macro_name}
-use Rattle.compile_defines.specs.Compiled.{spaces_left}
+use Rattle.compile_defines.specs.Compiled.{AllOffers, AreAllOffers, spaces_left}
+use Rattle.compile_contents.specs.Data.{datatype_name}
 
 -- nothing, and what stands nowhere
 abbrev empty : Markup
@@ -74,13 +84,67 @@ members_markup key pick.All (Some idents) = ref (class_name key)
 members_markup key (pick.Include words) (Some idents) = refs (filter (is_picked (pick.Include words)) idents)
 members_markup key (pick.Except words) (Some idents) = refs (filter (is_picked (pick.Except words)) idents)
 
+-- a datatype with its facets, or the define of a datatype
+abbrev pub item_markup : Item → Markup
+item_markup (item.Typed k facets) = element (codes "data") ((codes "type", type_name k) ∷ []) (all_of (map param_markup facets))
+item_markup (item.Key key) = ref (datatype_name key)
+
+-- the values of a closed list; one that is not closed restricts nothing
+abbrev pub listed_markup : ListKind → List (List ℕ) → Markup → Markup
+listed_markup listing.Closed values other = choice (map (line (codes "value") []) values)
+listed_markup k values other = other
+
+abbrev pub list_markup : ValList → Markup
+list_markup list = listed_markup list.kind list.values (element (codes "data") ((codes "type", codes "string") ∷ []) none)
+
+-- what tests a piece of an attribute's value: a closed list in the place of the datatype
+abbrev pub datatype_markup : Option Datatype → Markup
+datatype_markup None = plain (codes "text") []
+datatype_markup (Some datatype) = item_markup datatype.item
+
+abbrev pub piece_markup : Option Datatype → Option ValList → Markup
+piece_markup datatype None = datatype_markup datatype
+piece_markup datatype (Some list) = listed_markup list.kind list.values (datatype_markup datatype)
+
+-- once it tests the whole value, and else the words of a list
+abbrev pub pieces_markup : Markup → ℕ → Option ℕ → Markup
+pieces_markup m (suc zero) (Some (suc zero)) = m
+pieces_markup m min max = plain (codes "list") (often_within m min max ∷ [])
+
+-- an attribute with its name in documents, and with its namespace where it has one; one that is not needed is optional
+abbrev pub attribute_markup : List ℕ × AttDef → Markup
+attribute_markup (ident, def) = element (codes "attribute")
+    ((codes "name", (attribute_name ident def).local) ∷ (if is_same (attribute_name ident def).ns [] then [] else (codes "ns", (attribute_name ident def).ns) ∷ []))
+    (all_of (pieces_markup (piece_markup def.datatype def.vals) (bounds_of def.datatype).min (bounds_of def.datatype).max ∷ []))
+
+abbrev pub offer_markup : List ℕ × AttDef → Markup
+offer_markup offer = if offer.1.needed then attribute_markup offer else plain (codes "optional") (attribute_markup offer ∷ [])
+
+-- the content of a datatype: an item, a list of values, or an alternation of such; no other content allows a value
+abbrev mutual
+  pub data_markup : Content → Markup
+  data_markup (Value i) = item_markup i
+  data_markup (Vals list) = list_markup list
+  data_markup (Alternate' shape parts b) = choice (data_parts_markup parts)
+  data_markup Empty = not_allowed
+  data_markup Text = not_allowed
+  data_markup (Element key b) = not_allowed
+  data_markup (Class key p b) = not_allowed
+  data_markup (Macro key b) = not_allowed
+  data_markup (Any c b) = not_allowed
+  data_markup (Sequence' shape parts b) = not_allowed
+
+  pub data_parts_markup : {n : _} → Row_of-Content n → List Markup
+  data_parts_markup end_of-Content = []
+  data_parts_markup (more_of-Content part parts) = data_markup part ∷ data_parts_markup parts
+
 module _ (library : Library) (conditions : List Condition) (members : Members) where
   abbrev mutual
     pub content_markup : Content → Markup
     content_markup Empty = empty
     content_markup Text = plain (codes "text") []
-    content_markup (Value item) = not_allowed
-    content_markup (Vals list) = not_allowed
+    content_markup (Value i) = item_markup i
+    content_markup (Vals list) = list_markup list
     content_markup (Element key b) = often (if holds_element library key then ref (define_name key) else not_allowed) b
     content_markup (Class key p b) = often (members_markup key p (members key)) b
     content_markup (Macro key b) = often (if holds_macro library key then ref (macro_name key) else not_allowed) b
@@ -128,15 +192,22 @@ condition_markup name c (space ∷ spaces) = within_spaces name (map (required_m
 abbrev pub Held : Type 0
 Held = List ℕ × Markup
 
--- the define of one of the conditions, of a class of type `model`, an element or a macro that is held
-pub data Defines (library : Library) (conditions : List Condition) (members : Members) (d : Held) : Type 0 where
-  of_condition : (c : Condition) → StandsIn conditions c → d ≡ (condition_name conditions c, condition_markup (condition_name conditions c) c c.require) → Defines library conditions members d
-  of_class : (ident : List ℕ) (idents : List (List ℕ)) → members ident ≡ Some idents → d ≡ (class_name ident, refs idents) → Defines library conditions members d
+-- an element with its name in documents, the attributes that it offers, and its content
+abbrev pub element_markup : Library → List Condition → Members → List (List ℕ × AttDef) → List ℕ → ElementPart → Markup
+element_markup library conditions members offers ident part = element (codes "element")
+    ((codes "name", (element_name ident part).local) ∷ (codes "ns", part.ns) ∷ []) (all_of (map offer_markup offers ++ content_markup library conditions members part.content ∷ []))
+
+-- the define of one of the conditions, of a class of type `model`, a datatype, an element or a macro that is held
+pub data Defines (library : Library) (conditions : List Condition) (members : Members) (offers : AllOffers) (d : Held) : Type 0 where
+  of_condition : (c : Condition) → StandsIn conditions c → d ≡ (condition_name conditions c, condition_markup (condition_name conditions c) c c.require)
+      → Defines library conditions members offers d
+  of_class : (ident : List ℕ) (idents : List (List ℕ)) → members ident ≡ Some idents → d ≡ (class_name ident, refs idents) → Defines library conditions members offers d
+  of_datatype : (ident : List ℕ) (part : OtherPart) → find key_cmp (datatype_key ident) library.parts ≡ Some (component.Datatype part)
+      → d ≡ (datatype_name ident, data_markup part.content) → Defines library conditions members offers d
   of_element : (ident : List ℕ) (part : ElementPart) → find key_cmp (element_key ident) library.parts ≡ Some (component.Element part)
-      → d ≡ (define_name ident, element (codes "element") ((codes "name", ident) ∷ (codes "ns", part.ns) ∷ []) (all_of (content_markup library conditions members part.content ∷ [])))
-      → Defines library conditions members d
+      → d ≡ (define_name ident, element_markup library conditions members (offers ident) ident part) → Defines library conditions members offers d
   of_macro : (ident : List ℕ) (part : OtherPart) → find key_cmp (macro_key ident) library.parts ≡ Some (component.Macro part)
-      → d ≡ (macro_name ident, content_markup library conditions members part.content) → Defines library conditions members d
+      → d ≡ (macro_name ident, content_markup library conditions members part.content) → Defines library conditions members offers d
 
 -- in order of name
 abbrev pub held_cmp : Held → Held → Ordering
@@ -153,6 +224,8 @@ pub record IsSchemaText (library : Library) (start : List (List ℕ)) (text : Li
   pub are_conditions : IsSet condition_cmp (IsConditionOf library) conditions
   pub members : Members
   pub are_members : AreMembers library members
+  pub offers : AllOffers
+  pub are_offers : AreAllOffers library offers
   pub defines : List Held
-  pub are_defines : IsSet held_cmp (Defines library conditions members) defines
+  pub are_defines : IsSet held_cmp (Defines library conditions members offers) defines
   pub text_is : text ≡ file_printed (schema_markup (refs start) defines)

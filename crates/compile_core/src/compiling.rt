@@ -17,7 +17,7 @@ ghost use Rattle.compile_core.specs.Schema.{HasLargeSchema, IsLeast, IsStartOffe
 
 use compile_contents::{Budget, MakeRefusal, conditions_of, holds_element, references_pattern};
 use compile_defines::{condition_defines, library_defines};
-use odd_classes::{MemberTable, TableRefusal, member_table};
+use odd_classes::{MemberTable, TableRefusal, member_table, offer_table};
 use odd_library::Library;
 use odd_text::{NoMemory, Offence, Text, TryCopy, Who, Words, lesser};
 use rng_patterns::{Grammar, linked_nodes};
@@ -66,9 +66,10 @@ const MOST_ELEMENTS: u64 = 1_000_000;
 const MOST_NODES: u64 = 4_000_000;
 
 /// The grammar of a library and a list of start words: a define for each condition of `anyElement` by its number, one for
-/// each class of type `model`, one for each element and one for each macro by its ident, and a start that refers to the start
-/// words (docs/schema.md). That of a formed library, as files give it, accepts the documents that the library admits, and no
-/// other (docs/admission.md; ISO/IEC 19757-2, section 9). The library must break none of the rules on classes and macros.
+/// each class of type `model`, one for each datatype, element and macro by its ident, and a start that refers to the start
+/// words (docs/schema.md). An element has the attributes that it offers. The grammar of a formed library, as files give it, accepts
+/// the documents that the library admits, and no other (docs/admission.md; ISO/IEC 19757-2, section 9). The library must break
+/// none of the rules on a whole library.
 ///
 /// Offence comes where a start word is no held element, and only there. It names the least of these words in the order
 /// of bytes, and its file is 0. TooLarge comes where each is one and the schema's text has more than 1,000,000 elements or
@@ -106,6 +107,7 @@ fn grammar_within(alloc: Global, library: &Library, start: &Words) -> Result<Gra
     ensures within { IfOk result (λ grammar. text_nodes grammar ≤ 1000000) }
     ensures too_large { result ≡ Err refused.TooLarge → HoldsStart library.now start.now → HasLargeSchema library.now start.now }
 {
+    let offers = offer_table(alloc, library)?;
     let mut budget = Budget {
         left: MOST_ELEMENTS,
     };
@@ -114,7 +116,15 @@ fn grammar_within(alloc: Global, library: &Library, start: &Words) -> Result<Gra
     let before = condition_defines(alloc, &conditions, &mut budget)?;
     let members = listed_members(alloc, library)?;
     let start = references_pattern(alloc, start, &mut budget)?;
-    let defines = library_defines(alloc, before, library, &conditions, &members, &mut budget)?;
+    let defines = library_defines(
+        alloc,
+        before,
+        library,
+        &conditions,
+        &members,
+        &offers,
+        &mut budget,
+    )?;
     Ok(Grammar { start, defines })
 }
 

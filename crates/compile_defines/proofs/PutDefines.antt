@@ -1,11 +1,13 @@
 -- Defines that are put at the end of others under a budget, and what is refused of them.
 use Rattle.std.proofs.Common.{◌≡◌, ◌∙◌, ◌<◌, ℕ, ◌+◌, List, [], ◌∷◌, ◌++◌, length, get_or, take, Err, refl, sym, subst, ap, arith}
+use Rattle.std.proofs.lemmas.List.{flat_map_more}
 use Rattle.std.proofs.lemmas.List.Sums.{sum_by-append, sum_by-cons, sum_by_more_le}
 use Rattle.std.proofs.lemmas.Result.{err_from_is_err_and}
 use Rattle.std.specs.Prelude.{flat_map, sum_by}
 use Rattle.std.specs.Result.{IsErrAnd}
 use Rattle.std.specs.declared.result.Result.{Result}
 use Rattle.odd_forms.specs.Sorted.{IsSet}
+use Rattle.odd_tree.proofs.InList.{ends}
 use Rattle.compile_contents.proofs.Taking.{Refuses, taking_refused}
 use Rattle.compile_contents.specs.Budget.{HasTaken}
 use Rattle.compile_contents.specs.declared.budget.Budget.{Budget}
@@ -20,6 +22,13 @@ sum_by-flat_map : {A B : Type 0} (f : B → ℕ) (g : A → List B) (xs : List A
 sum_by-flat_map f g [] = refl
 sum_by-flat_map f g (x ∷ xs) =
     sum_by-append f (g x) (flat_map g xs) ∙ ap (λ n. sum_by f (g x) + n) (sum_by-flat_map f g xs) ∙ sym (sum_by-cons (λ y. sum_by f (g y)) x xs)
+
+-- those of the next item, put after those of the items before it
+pub put_more : {X : Type 0} (defines_of : X → List Define) (xs items : List X) (i : ℕ) (x : X) (old made next : List Define) → items ≡ xs → i < length items → x ≡ get_or items i x
+    → made ≡ old ++ flat_map defines_of (take i xs) → next ≡ made ++ defines_of x → next ≡ old ++ flat_map defines_of (take (i + 1) xs)
+put_more defines_of xs items i x old made next same within is put more =
+    let one = ap (take (i + 1)) (sym same) ∙ ends items i x within is ∙ ap (λ ys. take i ys ++ x ∷ []) same in
+    more ∙ ap (λ ds. ds ++ defines_of x) put ∙ flat_map_more defines_of old (take i xs) x ∙ ap (λ ys. old ++ flat_map defines_of ys) (sym one)
 
 -- what is refused of the define of an item is refused of those of all
 module _ {X : Type 0} (defines_of : X → List Define) (xs items : List X) (i : ℕ) (x : X) (old made : List Define) (same : items ≡ xs) (within : i < length items) (is : x ≡ get_or items i x)

@@ -11,7 +11,7 @@ use Rattle.odd_library.specs.declared.library.Library.{Library}
 use Rattle.odd_meaning.specs.Classes.{Members}
 use Rattle.rng_patterns.specs.declared.grammar.Define.{Define}
 use Rattle.rng_patterns.specs.declared.grammar.Grammar.{Grammar}
-use Rattle.compile_defines.specs.Compiled.{class_define, condition_define, element_define, macro_define}
+use Rattle.compile_defines.specs.Compiled.{AllOffers, class_define, condition_define, datatype_define, element_define, macro_define}
 use Rattle.compile_contents.specs.Contents.{references_pattern}
 
 -- the define of one of the conditions
@@ -27,34 +27,42 @@ abbrev pub class_at : Members → Kind → List ℕ → List Define
 class_at members kind.Class ident = listed_defines ident (members ident)
 class_at members k ident = []
 
-abbrev element_at : Library → List Condition → Members → Kind → List ℕ → Component → List Define
-element_at library conditions members kind.Element ident (component.Element part) = element_define library conditions members ident part ∷ []
-element_at library conditions members k ident part = []
+abbrev datatype_at : Kind → List ℕ → Component → List Define
+datatype_at kind.Datatype ident (component.Datatype part) = datatype_define ident part ∷ []
+datatype_at k ident part = []
+
+abbrev element_at : Library → List Condition → Members → AllOffers → Kind → List ℕ → Component → List Define
+element_at library conditions members offers kind.Element ident (component.Element part) = element_define library conditions members (offers ident) ident part ∷ []
+element_at library conditions members offers k ident part = []
 
 abbrev macro_at : Library → List Condition → Members → Kind → List ℕ → Component → List Define
 macro_at library conditions members kind.Macro ident (component.Macro part) = macro_define library conditions members ident part ∷ []
 macro_at library conditions members k ident part = []
 
--- the define of an entry that is a class, an element or a macro
+-- the define of an entry that is a class, a datatype, an element or a macro
 abbrev pub class_defines : Members → Key × Component → List Define
 class_defines members (key, part) = class_at members key.kind key.ident
 
-abbrev pub element_defines : Library → List Condition → Members → Key × Component → List Define
-element_defines library conditions members (key, part) = element_at library conditions members key.kind key.ident part
+abbrev pub datatype_defines : Key × Component → List Define
+datatype_defines (key, part) = datatype_at key.kind key.ident part
+
+abbrev pub element_defines : Library → List Condition → Members → AllOffers → Key × Component → List Define
+element_defines library conditions members offers (key, part) = element_at library conditions members offers key.kind key.ident part
 
 abbrev pub macro_defines : Library → List Condition → Members → Key × Component → List Define
 macro_defines library conditions members (key, part) = macro_at library conditions members key.kind key.ident part
 
 -- that of an entry, whatever it is
-abbrev pub entry_defines : Library → List Condition → Members → Key × Component → List Define
-entry_defines library conditions members entry =
-    class_defines members entry ++ element_defines library conditions members entry ++ macro_defines library conditions members entry
+abbrev pub entry_defines : Library → List Condition → Members → AllOffers → Key × Component → List Define
+entry_defines library conditions members offers entry =
+    class_defines members entry ++ datatype_defines entry ++ element_defines library conditions members offers entry ++ macro_defines library conditions members entry
 
 -- those of all entries
-abbrev pub component_defines : Library → List Condition → Members → List Define
-component_defines library conditions members =
-    flat_map (class_defines members) library.parts ++ flat_map (element_defines library conditions members) library.parts ++ flat_map (macro_defines library conditions members) library.parts
+abbrev pub component_defines : Library → List Condition → Members → AllOffers → List Define
+component_defines library conditions members offers =
+    flat_map (class_defines members) library.parts ++ flat_map datatype_defines library.parts
+    ++ flat_map (element_defines library conditions members offers) library.parts ++ flat_map (macro_defines library conditions members) library.parts
 
 -- the grammar of these start words with them, after the defines of the conditions
-abbrev pub grammar_with : Library → List (List ℕ) → List Condition → Members → List Define → Grammar
-grammar_with library start conditions members before = record { start = references_pattern start; defines = before ++ component_defines library conditions members }
+abbrev pub grammar_with : Library → List (List ℕ) → List Condition → Members → AllOffers → List Define → Grammar
+grammar_with library start conditions members offers before = record { start = references_pattern start; defines = before ++ component_defines library conditions members offers }

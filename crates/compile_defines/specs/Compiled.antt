@@ -1,5 +1,5 @@
--- The grammar of a library and a list of start words: a define for each condition, class of type `model`, element and macro, in order of name.
-use Rattle.std.specs.Prelude.{◌≡◌, ℕ, false, not, List, [], ◌∷◌, Some, map, filter}
+-- The grammar of a library and a list of start words: a define for each condition, class of type `model`, datatype, element and macro, in order of name.
+use Rattle.std.specs.Prelude.{◌≡◌, ℕ, false, not, List, [], ◌∷◌, Some, map, filter, unwrap_or}
 use Rattle.std.specs.FinMap.{find}
 use Rattle.std.specs.List.{list_any}
 use Rattle.odd_text.specs.Key.{key_cmp}
@@ -8,14 +8,19 @@ use Rattle.odd_tokens.specs.Same.{is_same}
 use Rattle.odd_tree.specs.Elements.{StandsIn}
 use Rattle.odd_forms.specs.Sorted.{IsSet}
 use Rattle.odd_content.specs.declared.content.Condition.{Condition}
+use Rattle.odd_attributes.specs.declared.att_def.AttDef.{AttDef}
 use Rattle.odd_library.specs.Odd.{element_key}
 use Rattle.odd_library.specs.declared.library.Component.TheVariants as component
 use Rattle.odd_library.specs.declared.library.ElementPart.{ElementPart}
 use Rattle.odd_library.specs.declared.library.Library.{Library}
 use Rattle.odd_library.specs.declared.library.OtherPart.{OtherPart}
 use Rattle.odd_meaning.specs.Classes.{AreMembers, Members}
-use Rattle.odd_meaning.specs.Links.{macro_key}
+use Rattle.odd_offers.specs.declared.given.Given.{Given}
+use Rattle.odd_meaning.specs.Links.{datatype_key, macro_key}
+use Rattle.odd_meaning.specs.Naming.{attribute_name, element_name}
+use Rattle.odd_meaning.specs.Offering.{OffersOne, offer_cmp}
 use Rattle.rng_patterns.specs.declared.grammar.AttrPart.TheVariants as attributes
+use Rattle.rng_patterns.specs.declared.grammar.AttrRule.{AttrRule}
 use Rattle.rng_patterns.specs.declared.grammar.Body.{Body}
 use Rattle.rng_patterns.specs.declared.grammar.Body.TheVariants as body
 use Rattle.rng_patterns.specs.declared.grammar.Define.{Define}
@@ -27,19 +32,42 @@ use Rattle.rng_patterns.specs.declared.grammar.NsPart.{NsPart}
 use Rattle.std.specs.declared.cmp.Ordering.{Ordering}
 use Rattle.odd_content.specs.ConditionOrder.{condition_cmp}
 use Rattle.compile_contents.specs.Conditions.{IsConditionOf}
+use Rattle.compile_contents.specs.Data.{data_pattern, datatype_name, value_pattern}
 use Rattle.compile_contents.specs.Contents.{class_name, condition_name, content_pattern, define_name, holds_element, macro_name, references_pattern}
 
--- no attribute is offered so far
-abbrev pub element_body : Library → List Condition → Members → List ℕ → ElementPart → Body
-element_body library conditions members ident part =
-    body.Element (class.One (record { ns = part.ns; local = ident })) (attributes.Listed []) (content_pattern library conditions members part.content)
+-- the attributes that elements offer: by ident, each with its definition
+abbrev pub AllOffers : Type 0
+AllOffers = List ℕ → List (List ℕ × AttDef)
 
-abbrev pub element_define : Library → List Condition → Members → List ℕ → ElementPart → Define
-element_define library conditions members ident part = record { name = define_name ident; body = element_body library conditions members ident part }
+-- of each element just what it offers
+abbrev pub AreAllOffers : Library → AllOffers → Type 0
+AreAllOffers library offers = (element : List ℕ) → IsSet offer_cmp (OffersOne library element) (offers element)
+
+-- what is given, and what a table lists
+abbrev pub offers_of : List (List ℕ × Given) → List (List ℕ × AttDef)
+offers_of givens = map (λ e. (e.0, e.1.def)) givens
+
+abbrev pub offers_in : List (List ℕ × List (List ℕ × Given)) → AllOffers
+offers_in table element = offers_of (unwrap_or (find text_cmp element table) [])
+
+-- the rule of an attribute
+abbrev pub rule_of : List ℕ × AttDef → AttrRule
+rule_of (ident, def) = record { name = attribute_name ident def; needed = def.needed; value = value_pattern def }
+
+abbrev pub element_body : Library → List Condition → Members → List (List ℕ × AttDef) → List ℕ → ElementPart → Body
+element_body library conditions members offers ident part =
+    body.Element (class.One (element_name ident part)) (attributes.Listed (map rule_of offers)) (content_pattern library conditions members part.content)
+
+abbrev pub element_define : Library → List Condition → Members → List (List ℕ × AttDef) → List ℕ → ElementPart → Define
+element_define library conditions members offers ident part = record { name = define_name ident; body = element_body library conditions members offers ident part }
 
 -- references to the members of a class
 abbrev pub class_define : List ℕ → List (List ℕ) → Define
 class_define ident idents = record { name = class_name ident; body = body.Part (references_pattern idents) }
+
+-- what the content of a datatype says
+abbrev pub datatype_define : List ℕ → OtherPart → Define
+datatype_define ident part = record { name = datatype_name ident; body = body.Part (data_pattern part.content) }
 
 -- what the content of a macro says
 abbrev pub macro_define : Library → List Condition → Members → List ℕ → OtherPart → Define
@@ -75,22 +103,26 @@ condition_define conditions c = record { name = condition_name conditions c; bod
 abbrev pub define_cmp : Define → Define → Ordering
 define_cmp d e = text_cmp d.name e.name
 
--- the define is that of one of the conditions, or of a class of type `model`, an element or a macro that is held
-pub data IsDefineOf (library : Library) (conditions : List Condition) (members : Members) (d : Define) : Type 0 where
-  of_condition : (c : Condition) → StandsIn conditions c → d ≡ condition_define conditions c → IsDefineOf library conditions members d
-  of_class : (ident : List ℕ) (idents : List (List ℕ)) → members ident ≡ Some idents → d ≡ class_define ident idents → IsDefineOf library conditions members d
+-- the define is that of one of the conditions, or of a class of type `model`, a datatype, an element or a macro that is held
+pub data IsDefineOf (library : Library) (conditions : List Condition) (members : Members) (offers : AllOffers) (d : Define) : Type 0 where
+  of_condition : (c : Condition) → StandsIn conditions c → d ≡ condition_define conditions c → IsDefineOf library conditions members offers d
+  of_class : (ident : List ℕ) (idents : List (List ℕ)) → members ident ≡ Some idents → d ≡ class_define ident idents → IsDefineOf library conditions members offers d
+  of_datatype : (ident : List ℕ) (part : OtherPart) → find key_cmp (datatype_key ident) library.parts ≡ Some (component.Datatype part)
+      → d ≡ datatype_define ident part → IsDefineOf library conditions members offers d
   of_element : (ident : List ℕ) (part : ElementPart) → find key_cmp (element_key ident) library.parts ≡ Some (component.Element part)
-      → d ≡ element_define library conditions members ident part → IsDefineOf library conditions members d
+      → d ≡ element_define library conditions members (offers ident) ident part → IsDefineOf library conditions members offers d
   of_macro : (ident : List ℕ) (part : OtherPart) → find key_cmp (macro_key ident) library.parts ≡ Some (component.Macro part)
-      → d ≡ macro_define library conditions members ident part → IsDefineOf library conditions members d
+      → d ≡ macro_define library conditions members ident part → IsDefineOf library conditions members offers d
 
 pub record IsGrammarOf (library : Library) (start : List (List ℕ)) (g : Grammar) : Type 0 where
   pub conditions : List Condition
   pub are_conditions : IsSet condition_cmp (IsConditionOf library) conditions
   pub members : Members
   pub are_members : AreMembers library members
+  pub offers : AllOffers
+  pub are_offers : AreAllOffers library offers
   pub start_is : g.start ≡ references_pattern start
-  pub are_defines : IsSet define_cmp (IsDefineOf library conditions members) g.defines
+  pub are_defines : IsSet define_cmp (IsDefineOf library conditions members offers) g.defines
 
 -- the start word is no held element
 abbrev pub IsMissing : Library → List ℕ → Type 0

@@ -1,8 +1,9 @@
 -- How many elements of the schema's text defines are, and what they take of a budget.
 use Rattle.std.specs.Prelude.{◌≡◌, ℕ, zero, suc, ◌+◌, ◌<◌, List, Result, Ok, Err, sum_by}
 use Rattle.odd_forms.specs.Sorted.{IsSet}
-use Rattle.rng_emit.specs.Grammar.{body_markup, class_markup, define_markup, part_markup}
+use Rattle.rng_emit.specs.Grammar.{body_markup, class_markup, define_markup, part_markup, rule_markup}
 use Rattle.rng_emit.specs.Nodes.{elements_in}
+use Rattle.rng_patterns.specs.declared.grammar.AttrRule.{AttrRule}
 use Rattle.rng_patterns.specs.declared.grammar.Body.{Body}
 use Rattle.rng_patterns.specs.declared.grammar.Define.{Define}
 use Rattle.rng_patterns.specs.declared.grammar.NameClass.{NameClass}
@@ -17,6 +18,13 @@ define_elements d = elements_in (define_markup d)
 
 abbrev pub body_elements : Body → ℕ
 body_elements b = elements_in (body_markup b)
+
+-- those of the rule of an attribute, and of several
+abbrev pub rule_elements : AttrRule → ℕ
+rule_elements rule = elements_in (rule_markup rule)
+
+abbrev pub rules_elements : List AttrRule → ℕ
+rules_elements rules = sum_by rule_elements rules
 
 -- those of a name class, and of one of its namespaces
 abbrev pub class_elements : NameClass → ℕ

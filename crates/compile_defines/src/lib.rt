@@ -3,6 +3,7 @@
 
 mod conditions;
 mod defines;
+mod rules;
 
 pub use conditions::condition_defines;
 pub use defines::library_defines;

@@ -14,7 +14,8 @@ use Rattle.odd_tree.specs.Significant.{Marking, depth}
 use Rattle.odd_tree.specs.declared.tree.Node.{Node, Element}
 use Rattle.odd_tree.specs.declared.tree.Tree.{Tree, out-Tree}
 use Rattle.rng_patterns.proofs.OnePattern.{choice_shown, ref_shown, text_shown, told, zero_or_more_shown}
-use Rattle.rng_patterns.specs.Acceptance.{IsAcceptedWithin, IsInClass}
+use Rattle.rng_patterns.specs.Acceptance as acceptance
+use Rattle.rng_patterns.specs.Acceptance.{HasContent, IsAcceptedWithin, IsInClass}
 use Rattle.rng_patterns.specs.Patterns as patterns
 use Rattle.rng_patterns.specs.Patterns.{DefinesElement, IsDefined, IsMatched, IsRepeated}
 use Rattle.rng_patterns.specs.declared.grammar.AttrPart.TheVariants as attributes
@@ -45,8 +46,8 @@ module _ (g : Grammar) (counts : Marking (List ℕ)) (name : List ℕ) where
   piece_matched d n each = elim (kind_of n) as (λ m k. EachCounts (m ∷ []) → IsMatched g counts (expr.Choice kinds) (m ∷ [])) [
     | element t ↦ λ h.
         patterns.choice refl (stands_later expr.Text (expr.Ref name) (expr.Ref name ∷ []) (stands_first (expr.Ref name) []))
-        (patterns.element d refl (h t (stands_first (Element t) [])))
-    | text x ↦ λ h. patterns.choice refl (stands_first expr.Text (expr.Ref name ∷ [])) (patterns.text (or_from _ _ (text_is_none x) refl))
+        (patterns.leaf (patterns.element d refl (h t (stands_first (Element t) []))))
+    | text x ↦ λ h. patterns.choice refl (stands_first expr.Text (expr.Ref name ∷ [])) (patterns.leaf (patterns.text (or_from _ _ (text_is_none x) refl)))
   ] each
 
   -- so a list of children is so many of them
@@ -140,12 +141,10 @@ module _ (library : Library) (start : List (List ℕ)) (g : Grammar) (is : IsGra
             defined = body_defined b;
             named = (b.class_of (out-Tree t).name).1 (m t itself);
             attributed = tt;
-            children = kept.0;
-            significant = kept.1;
-            matched = throughout_matched g (IsAcceptedWithin levels g) own (defines b) kept.0 (λ u k.
+            holds = acceptance.children kept.0 kept.1 (throughout_matched g (IsAcceptedWithin levels g) own (defines b) kept.0 (λ u k.
                 let child : StandsIn (out-Tree t).children (Element u) = kept_stands (out-Tree t).children kept.0 (Element u) kept.1 k in
                 let less : depth u < depth t = child_less t u child in
-                (met_accepted levels u (omega arith) (λ v w. m v (inside u (stands_element (out-Tree t).children u child) w))).1);
+                (met_accepted levels u (omega arith) (λ v w. m v (inside u (stands_element (out-Tree t).children u child) w))).1));
           },
         )
 
@@ -153,6 +152,13 @@ module _ (library : Library) (start : List (List ℕ)) (g : Grammar) (is : IsGra
     record IsToldOf (levels : ℕ) (t : Tree) : Type 0 where
       met : IsMetBy c (out-Tree t).name
       children : (u : Tree) → StandsIn (children_of t) u → IsAcceptedWithin levels g u own
+
+    -- of children that its content matches each element is accepted
+    each_accepted : (levels : ℕ) (t : Tree) → HasContent (IsAcceptedWithin levels g) g (content_throughout own) t → (u : Tree) → StandsIn (children_of t) u → IsAcceptedWithin levels g u own
+    each_accepted levels t (acceptance.children nodes kept m) u among =
+        throughout_counted g (IsAcceptedWithin levels g) own (condition_part c s) nodes m u
+        (stands_kept (out-Tree t).children nodes u kept (element_stands (out-Tree t).children u among))
+    each_accepted levels t (acceptance.value none allowed) u among = absurd (no_element (out-Tree t).children u none (element_stands (out-Tree t).children u among))
 
     -- since it is the body of that define that accepts it
     told_accepted : (levels : ℕ) (t : Tree) → IsAcceptedWithin (suc levels) g t own → IsToldOf levels t
@@ -163,13 +169,9 @@ module _ (library : Library) (start : List (List ℕ)) (g : Grammar) (is : IsGra
         let f : body.Element a.names a.attrs a.content ≡ body.Element h.names attributes.AnyAttributes (content_throughout own) = e ∙ h.is in
         let names : a.names ≡ h.names = cc in
         let content : a.content ≡ content_throughout own = cc in
-        let matched : IsMatched g (IsAcceptedWithin levels g) (content_throughout own) a.children =
-        subst (λ p. IsMatched g (IsAcceptedWithin levels g) p a.children) content a.matched in
         record {
           met = (h.class_of (out-Tree t).name).0 (subst (λ n. IsInClass n (out-Tree t).name) names a.named);
-          children = λ u among.
-              throughout_counted g (IsAcceptedWithin levels g) own (condition_part c s) a.children matched u
-              (stands_kept (out-Tree t).children a.children u a.significant (element_stands (out-Tree t).children u among));
+          children = each_accepted levels t (subst (λ p. HasContent (IsAcceptedWithin levels g) g p t) content a.holds);
         })
         (body_kind own c)
 

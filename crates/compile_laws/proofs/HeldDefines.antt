@@ -7,7 +7,8 @@ use Rattle.compile_contents.proofs.Standing.{IsElementAt, IsMacroAt, filter_pass
 use Rattle.compile_contents.specs.Contents.{define_name, reference, references_pattern, class_name, condition_name, content_pattern, macro_name, members_pattern}
 use Rattle.compile_defines.proofs.NamedDefines.{element_of}
 use Rattle.compile_defines.specs.Compiled as compiled
-use Rattle.compile_defines.specs.Compiled.{IsDefineOf, IsGrammarOf, class_define, element_body, element_define, macro_define}
+use Rattle.compile_contents.specs.Data.{datatype_name}
+use Rattle.compile_defines.specs.Compiled.{AllOffers, IsDefineOf, IsGrammarOf, class_define, element_body, element_define, macro_define}
 use Rattle.odd_classes.proofs.Linked.{held}
 use Rattle.odd_content.specs.Picking.{is_picked}
 use Rattle.odd_content.specs.declared.content.Condition.{Condition}
@@ -45,7 +46,8 @@ use Rattle.rng_patterns.specs.declared.grammar.Expr.TheOpen as shape
 use Rattle.rng_patterns.specs.declared.grammar.Expr.TheVariants as expr
 use Rattle.rng_patterns.specs.declared.grammar.Grammar.{Grammar}
 use Rattle.compile_laws.proofs.ConditionClass.{one_body}
-use Rattle.compile_laws.proofs.Pieces.{references_law, none_matched, Same}
+use Rattle.compile_laws.proofs.ChildLaws.{references_law, none_matched}
+use Rattle.compile_laws.proofs.Pieces.{Same}
 
 -- equal nodes hold equal elements
 same_element : (t u : Tree) → Element t ∷ [] ≡ Element u ∷ [] → t ≡ u
@@ -76,7 +78,7 @@ module _ (g : Grammar) (hold : HoldElements g) (counts : Marking (List ℕ)) whe
       | inl one ↦ record { tree = one.0; alone = one.2; is_of = (one.1, one.3) }
       | inr part ↦ absurd (hold word part.0 part.1)
     ],
-    λ o. patterns.element o.is_of.0 o.alone o.is_of.1,
+    λ o. patterns.leaf (patterns.element o.is_of.0 o.alone o.is_of.1),
   )
 
   -- so of one element it tells that
@@ -91,7 +93,7 @@ module _ (g : Grammar) (hold : HoldElements g) (counts : Marking (List ℕ)) whe
   pub start_law : (start : List (List ℕ)) (t : Tree) → IsMatched g counts (references_pattern start) (Element t ∷ []) ↔ Starts start t
   start_law start t = (
     λ m. let h = (references_law g counts start (Element t ∷ [])).0 m in let o = reference_one h.0 t h.2 in (h.0, h.1, o.0, o.1),
-    λ s. (references_law g counts start (Element t ∷ [])).1 (s.0, s.1, patterns.element s.2 refl s.3),
+    λ s. (references_law g counts start (Element t ∷ [])).1 (s.0, s.1, patterns.leaf (patterns.element s.2 refl s.3)),
   )
 
 -- defines of two elements have two names
@@ -103,33 +105,34 @@ other_name : (name ident : List ℕ) → is_same (take 1 name) (codes "e") ≡ f
 other_name name ident other e = false≢true (sym other ∙ ap (λ n. is_same (take 1 n) (codes "e")) (sym e))
 
 -- the body of a held element's define
-pub record IsBodyOf (library : Library) (conditions : List Condition) (members : Members) (ident : List ℕ) (b : Body) : Type 0 where
+pub record IsBodyOf (library : Library) (conditions : List Condition) (members : Members) (offers : AllOffers) (ident : List ℕ) (b : Body) : Type 0 where
   pub part : ElementPart
   pub held : IsElementAt library ident part
-  pub is : b ≡ element_body library conditions members ident part
+  pub is : b ≡ element_body library conditions members (offers ident) ident part
 
 -- what a define of the name of an element's is
-element_bodied : (library : Library) (conditions : List Condition) (members : Members) (ident : List ℕ) (b : Body)
-    → IsDefineOf library conditions members (record { name = define_name ident; body = b }) → IsBodyOf library conditions members ident b
-element_bodied library conditions members ident b (compiled.of_condition c s e) = absurd (other_name (condition_name conditions c) ident refl (ap (λ (d : Define). d.name) e))
-element_bodied library conditions members ident b (compiled.of_class class idents s e) = absurd (other_name (class_name class) ident refl (ap (λ (d : Define). d.name) e))
-element_bodied library conditions members ident b (compiled.of_macro key part s e) = absurd (other_name (macro_name key) ident refl (ap (λ (d : Define). d.name) e))
-element_bodied library conditions members ident b (compiled.of_element key part held e) =
+element_bodied : (library : Library) (conditions : List Condition) (members : Members) (offers : AllOffers) (ident : List ℕ) (b : Body)
+    → IsDefineOf library conditions members offers (record { name = define_name ident; body = b }) → IsBodyOf library conditions members offers ident b
+element_bodied library conditions members offers ident b (compiled.of_condition c s e) = absurd (other_name (condition_name conditions c) ident refl (ap (λ (d : Define). d.name) e))
+element_bodied library conditions members offers ident b (compiled.of_class class idents s e) = absurd (other_name (class_name class) ident refl (ap (λ (d : Define). d.name) e))
+element_bodied library conditions members offers ident b (compiled.of_datatype key part s e) = absurd (other_name (datatype_name key) ident refl (ap (λ (d : Define). d.name) e))
+element_bodied library conditions members offers ident b (compiled.of_macro key part s e) = absurd (other_name (macro_name key) ident refl (ap (λ (d : Define). d.name) e))
+element_bodied library conditions members offers ident b (compiled.of_element key part held e) =
     let same : key ≡ ident = sym (one_name ident key (ap (λ (d : Define). d.name) e)) in
     record {
       part = part;
       held = subst (λ x. IsElementAt library x part) same held;
-      is = subst (λ x. b ≡ element_body library conditions members x part) same (ap (λ (d : Define). d.body) e);
+      is = subst (λ x. b ≡ element_body library conditions members (offers x) x part) same (ap (λ (d : Define). d.body) e);
     }
 
 module _ (library : Library) (start : List (List ℕ)) (g : Grammar) (is : IsGrammarOf library start g) where
   -- each held element has its define
-  pub held_defined : (ident : List ℕ) (part : ElementPart) → IsElementAt library ident part → IsDefined g (define_name ident) (element_body library is.conditions is.members ident part)
-  held_defined ident part held = is.are_defines.each (element_define library is.conditions is.members ident part) (compiled.of_element ident part held refl)
+  pub held_defined : (ident : List ℕ) (part : ElementPart) → IsElementAt library ident part → IsDefined g (define_name ident) (element_body library is.conditions is.members (is.offers ident) ident part)
+  held_defined ident part held = is.are_defines.each (element_define library is.conditions is.members (is.offers ident) ident part) (compiled.of_element ident part held refl)
 
   -- what is defined by the name of an element's define is the body of that define
-  pub defined_held : (ident : List ℕ) (b : Body) → IsDefined g (define_name ident) b → IsBodyOf library is.conditions is.members ident b
-  defined_held ident b s = element_bodied library is.conditions is.members ident b (is.are_defines.none_else (record { name = define_name ident; body = b }) s)
+  pub defined_held : (ident : List ℕ) (b : Body) → IsDefined g (define_name ident) b → IsBodyOf library is.conditions is.members is.offers ident b
+  defined_held ident b s = element_bodied library is.conditions is.members is.offers ident b (is.are_defines.none_else (record { name = define_name ident; body = b }) s)
 
   -- so it is an `element`
   pub hold_elements : HoldElements g

@@ -1,62 +1,53 @@
 -- The joining induction: an element is valid for a held element where the define of that element accepts it.
-use Rattle.std.proofs.Common.{◌≡◌, ◌↔◌, ℕ, List, [], ◌∷◌, refl, subst, sym, ◌≤◌, zero, suc, Bool, true, false, cond, inl, inr, ◌∙◌, ◌<◌, arith}
+use Rattle.std.proofs.Common.{◌≡◌, ◌↔◌, ℕ, List, [], ◌∷◌, refl, subst, sym, ◌≤◌, zero, suc, Bool, true, false, cond, inl, inr, ⊎_elim, map, ◌∙◌, ◌<◌, arith}
 use Rattle.std.proofs.lemmas.Bool.{false≢true}
-use Rattle.std.proofs.lemmas.List.Elements.{All-nil, All-head}
 use Rattle.std.specs.Prelude.{All}
 use Rattle.compile_contents.proofs.Standing.{element_held, IsElementAt, stands_left}
 use Rattle.compile_contents.specs.Contents.{condition_name, condition_pattern, define_name, element_pattern, holds_element, reference, content_pattern}
-use Rattle.compile_defines.specs.Compiled.{IsGrammarOf, element_body}
+use Rattle.compile_defines.specs.Compiled.{IsGrammarOf, element_body, rule_of}
 use Rattle.odd_content.specs.declared.content.Condition.{Condition}
 use Rattle.odd_library.specs.Formed.{IsFormedLibrary}
 use Rattle.odd_library.specs.Odd.{element_key}
 use Rattle.odd_library.specs.declared.library.Component.TheVariants as component
 use Rattle.odd_library.specs.declared.library.ElementPart.{ElementPart}
 use Rattle.odd_library.specs.declared.library.Library.{Library}
-use Rattle.odd_meaning.specs.Admission.{offers_of, IsValidWithin, counting, IsValidBy, name_in_documents}
+use Rattle.odd_meaning.specs.Admission as admission
+use Rattle.odd_meaning.specs.Admission.{AreAdmitted, IsValidWithin, counting, IsValidBy}
+use Rattle.odd_meaning.specs.Naming.{element_name}
+use Rattle.odd_meaning.specs.Values.{IsDataValue}
 use Rattle.odd_meaning.specs.Contents.{IsOne, Admits, IsOfMacro}
 use Rattle.odd_meaning.specs.Labels.{Label, condition, element}
 use Rattle.odd_meaning.specs.Links.{named_by_edits, named_in}
-use Rattle.odd_meaning.specs.Offers.{AreOffered, IsOffered}
-use Rattle.odd_tree.proofs.InList.{nothing_stands}
 use Rattle.odd_tree.specs.Elements.{StandsIn}
 use Rattle.odd_tree.specs.Significant.{Marking, depth, IsSignificant}
-use Rattle.odd_tree.specs.declared.tree.Attr.{Attr}
 use Rattle.odd_tree.specs.declared.tree.Node.{Node, Element}
 use Rattle.odd_tree.specs.declared.tree.Tree.{Tree, out-Tree}
 use Rattle.rng_patterns.proofs.OnePattern.{ref_shown, told}
-use Rattle.rng_patterns.specs.Acceptance.{AreRuled, HasRule, IsAcceptedWithin, AreMatched, IsAcceptedBy, IsInClass}
+use Rattle.rng_patterns.proofs.SortLaws.{no_value}
+use Rattle.rng_patterns.specs.Acceptance as acceptance
+use Rattle.rng_patterns.specs.Acceptance.{HasContent, IsAcceptedWithin, AreMatched, IsAcceptedBy, IsInClass}
 use Rattle.rng_patterns.specs.Patterns as patterns
-use Rattle.rng_patterns.specs.Patterns.{DefinesElement, IsMatched}
+use Rattle.rng_patterns.specs.Patterns.{DefinesElement, IsAllowed, IsMatched}
 use Rattle.rng_patterns.specs.declared.grammar.AttrPart.TheVariants as attributes
 use Rattle.rng_patterns.specs.declared.grammar.Body.TheVariants as body
 use Rattle.rng_patterns.specs.declared.grammar.Expr.TheOpen as shape
 use Rattle.rng_patterns.specs.declared.grammar.Expr.TheVariants as expr
 use Rattle.rng_patterns.specs.declared.grammar.Grammar.{Grammar}
 use Rattle.rng_patterns.specs.declared.grammar.NameClass.TheVariants as class
+use Rattle.compile_laws.proofs.ConditionClass.{one_body}
 use Rattle.compile_laws.proofs.ConditionLaw.{condition_law, condition_part}
 use Rattle.compile_laws.proofs.ContentLaw.{AreLeavesKept, content_law}
 use Rattle.compile_laws.proofs.HeldDefines.{class_kept, hold_elements, reference_law, defined_held, held_defined}
 use Rattle.compile_laws.proofs.Levels.{all_kept, child_less}
 use Rattle.compile_laws.proofs.MacroLaw.{BreaksNone, names_kept, macro_kept}
-use Rattle.compile_laws.proofs.Pieces.{none_matched, Same}
+use Rattle.compile_laws.proofs.ChildLaws.{none_matched}
+use Rattle.compile_laws.proofs.Pieces.{Same}
 use Rattle.compile_laws.proofs.SameMarkings.{alone_is}
-
--- without offers no attribute is there
-none_offered : (attrs : List Attr) → AreOffered [] attrs → attrs ≡ []
-none_offered [] o = refl
-none_offered (a ∷ rest) o = let h = All-head (IsOffered []) a rest o.offered in absurd (nothing_stands h.0 h.1)
-
--- nor is one without rules
-none_ruled : (attrs : List Attr) → AreRuled [] attrs → attrs ≡ []
-none_ruled [] m = refl
-none_ruled (a ∷ rest) m = let h = All-head (HasRule []) a rest m.ruled in absurd (nothing_stands h.0 h.1)
-
--- so both are no attribute
-pub attribute_law : (library : Library) (ident : List ℕ) (attrs : List Attr) → AreOffered (offers_of library ident) attrs ↔ AreRuled [] attrs
-attribute_law library ident attrs = (
-  λ o. subst (AreRuled []) (sym (none_offered attrs o)) (record { ruled = All-nil _; complete = All-nil _ }),
-  λ m. subst (AreOffered []) (sym (none_ruled attrs m)) (record { offered = All-nil _; complete = All-nil _ }),
-)
+use Rattle.compile_laws.proofs.Sorted.{free_sort}
+use Rattle.compile_laws.proofs.DataOrChildren.{data_or_none}
+use Rattle.compile_laws.proofs.DataReached.{value_reached}
+use Rattle.compile_laws.proofs.MacroValueLaw.{data_law}
+use Rattle.compile_laws.proofs.OfferedLaw.{attributes_law}
 
 -- an accepted element is of a define that holds an `element`
 pub accepted_defined : (levels : ℕ) (g : Grammar) (t : Tree) (name : List ℕ) → IsAcceptedWithin levels g t name → DefinesElement g name
@@ -107,7 +98,7 @@ module _ (library : Library) (start : List (List ℕ)) (g : Grammar) (is : IsGra
   condition_kept c s children q = (
     λ o.
         let h = (condition_law library start g is c s levels o.tree (alone_under o.tree children o.alone q)).0 o.counted in
-        patterns.element h.0 o.alone h.1,
+        patterns.leaf (patterns.element h.0 o.alone h.1),
     λ m. elim (told g marks (condition_pattern is.conditions c) (shape.Ref (condition_name is.conditions c)) children (ref_shown (condition_name is.conditions c)) m) [
       | inl one ↦ record {
         tree = one.0;
@@ -139,38 +130,58 @@ module _ (library : Library) (start : List (List ℕ)) (g : Grammar) (is : IsGra
         let formed = (f.formed key (component.Element part) held).1.content in
         let macros = macro_kept library start g is f none counts marks Q kept in
         let named = names_kept library start g is f none counts marks Q (IsOfMacro library counts) key (component.Element part) held (named_in part.content) (λ k s. stands_left (named_in part.content) (named_by_edits part.atts) k s) (λ other among. macros other) in
-        content_law library is.conditions is.members g counts marks Q kept (IsOfMacro library counts) 60 part.content formed named children (all_kept t children s)
+        content_law library is.conditions is.members g counts marks Q (one_body library start g is) kept (IsOfMacro library counts) 60 part.content formed named children (all_kept t children s)
+
+    -- where no element stands among the children, it admits their text as one value where its pattern allows it
+    value_law : (part : ElementPart) → IsElementAt library ident part → (cs : List ℕ)
+        → IsDataValue library part.content cs ↔ IsAllowed g (content_pattern library is.conditions is.members part.content) cs
+    value_law part held cs =
+        let key = element_key ident in
+        let whole = component.Element part in
+        ⊎_elim
+        (λ free. (λ v. absurd (free (value_reached library part.content cs v)), λ m. absurd (no_value g (one_body library start g is) _ (free_sort library start g is f none key whole part.content held refl free) cs m)))
+        (λ d. data_law library start g is f none key whole held part.content (λ k s. stands_left (named_in part.content) (named_by_edits part.atts) k s) (f.formed key whole held).1.content d cs)
+        (data_or_none library f none key whole part.content held refl)
+
+    -- so an element has the content
+    content_kept : (part : ElementPart) → IsElementAt library ident part
+        → AreAdmitted counts library part.content t ↔ HasContent marks g (content_pattern library is.conditions is.members part.content) t
+    content_kept part held = (λ a. has a, λ h. admits h)
+      where
+        has : AreAdmitted counts library part.content t → HasContent marks g (content_pattern library is.conditions is.members part.content) t
+        has (admission.children nodes kept a) = acceptance.children nodes kept ((held_law part held nodes kept).0 a)
+        has (admission.value no_element v) = acceptance.value no_element ((value_law part held _).0 v)
+
+        admits : HasContent marks g (content_pattern library is.conditions is.members part.content) t → AreAdmitted counts library part.content t
+        admits (acceptance.children nodes kept m) = admission.children nodes kept ((held_law part held nodes kept).1 m)
+        admits (acceptance.value no_element m) = admission.value no_element ((value_law part held _).1 m)
 
     -- a valid element is accepted by the define of the held element
     valid_accepted : IsValidBy counts library t ident → IsAcceptedBy marks g t (define_name ident)
     valid_accepted v = record {
-      names = class.One (name_in_documents ident v.part);
-      attrs = attributes.Listed [];
+      names = class.One (element_name ident v.part);
+      attrs = attributes.Listed (map rule_of (is.offers ident));
       content = content_pattern library is.conditions is.members v.part.content;
       defined = held_defined library start g is ident v.part v.held;
       named = v.named;
-      attributed = (attribute_law library ident (out-Tree t).attrs).0 v.attributed;
-      children = v.children;
-      significant = v.significant;
-      matched = (held_law v.part v.held v.children v.significant).0 v.admitted;
+      attributed = (attributes_law library start g is f none ident (out-Tree t).attrs).0 v.attributed;
+      holds = (content_kept v.part v.held).0 v.admitted;
     }
 
     -- and the other way round
     accepted_valid : IsAcceptedBy marks g t (define_name ident) → IsValidBy counts library t ident
     accepted_valid a =
         let h = defined_held library start g is ident (body.Element a.names a.attrs a.content) a.defined in
-        let bodies : body.Element a.names a.attrs a.content ≡ element_body library is.conditions is.members ident h.part = h.is in
-        let names : a.names ≡ class.One (name_in_documents ident h.part) = cc in
-        let attrs : a.attrs ≡ attributes.Listed [] = cc in
+        let bodies : body.Element a.names a.attrs a.content ≡ element_body library is.conditions is.members (is.offers ident) ident h.part = h.is in
+        let names : a.names ≡ class.One (element_name ident h.part) = cc in
+        let attrs : a.attrs ≡ attributes.Listed (map rule_of (is.offers ident)) = cc in
         let content : a.content ≡ content_pattern library is.conditions is.members h.part.content = cc in
         record {
           part = h.part;
           held = h.held;
           named = subst (λ n. IsInClass n (out-Tree t).name) names a.named;
-          attributed = (attribute_law library ident (out-Tree t).attrs).1 (subst (λ r. AreMatched r (out-Tree t).attrs) attrs a.attributed);
-          children = a.children;
-          significant = a.significant;
-          admitted = (held_law h.part h.held a.children a.significant).1 (subst (λ p. IsMatched g marks p a.children) content a.matched);
+          attributed = (attributes_law library start g is f none ident (out-Tree t).attrs).1 (subst (λ r. AreMatched g r (out-Tree t).attrs) attrs a.attributed);
+          admitted = (content_kept h.part h.held).1 (subst (λ p. HasContent marks g p t) content a.holds);
         }
 
   -- so within each number of levels that is enough

@@ -7,11 +7,15 @@ use Rattle.odd_tree.specs.declared.tree.Tree.{Tree, out-Tree}
 use Rattle.odd_tree.specs.declared.tree.Tree as T
 use Rattle.odd_tree.specs.Elements.{StandsIn}
 use Rattle.odd_tree.specs.Significant.{IsSignificant, Marking, beside_elements, blank, depth, node_depth, tree_depth, whole}
+use Rattle.odd_content.specs.declared.content.Content.{Content}
 use Rattle.odd_library.specs.declared.library.Library.{Library}
-use Rattle.odd_meaning.specs.Admission.{IsValid, IsValidBy, IsValidWithin, counting}
+use Rattle.odd_meaning.specs.Admission as admission
+use Rattle.odd_meaning.specs.Admission.{AreAdmitted, IsValid, IsValidBy, IsValidWithin, counting}
 use Rattle.odd_meaning.specs.Labels.{Label, condition, element}
 use Rattle.odd_tree.proofs.InList.{first_or_later, map_stands, nothing_stands}
-use Rattle.rng_patterns.specs.Acceptance.{IsAcceptedWithin}
+use Rattle.rng_patterns.specs.Acceptance as acceptance
+use Rattle.rng_patterns.specs.Acceptance.{HasContent, IsAcceptedWithin}
+use Rattle.rng_patterns.specs.declared.grammar.Expr.{Expr}
 use Rattle.rng_patterns.specs.declared.grammar.Grammar.{Grammar}
 use Rattle.compile_laws.proofs.SameMarkings.{admits_into, matched_on}
 use Rattle.compile_contents.proofs.Standing.{each_stands, filter_stands}
@@ -57,6 +61,13 @@ kept_stands all kept n (whole h) s = s
 pub all_kept : (t : Tree) (kept : List Node) → IsSignificant (out-Tree t).children kept → All (StandsIn (out-Tree t).children) kept
 all_kept t kept h = each_stands (StandsIn (out-Tree t).children) kept (λ n s. kept_stands (out-Tree t).children kept n h s)
 
+-- a content that an element has by one marking it has by another by which its children count for no less
+content_on : (g : Grammar) (a b : Marking (List ℕ)) (content : Expr) (t : Tree) → ((u : Tree) (name : List ℕ) → StandsIn (out-Tree t).children (Element u) → a u name → b u name)
+    → HasContent a g content t → HasContent b g content t
+content_on g a b content t carry (acceptance.children nodes kept m) =
+    acceptance.children nodes kept (matched_on g a b content nodes (λ u name s. carry u name (kept_stands (out-Tree t).children nodes (Element u) kept s)) m)
+content_on g a b content t carry (acceptance.value none allowed) = acceptance.value none allowed
+
 -- within levels enough for a tree more of them change nothing
 accepted_more : (m n : ℕ) (g : Grammar) (t : Tree) (name : List ℕ) → depth t ≤ m → depth t ≤ n → IsAcceptedWithin m g t name → IsAcceptedWithin n g t name
 accepted_more zero n g t name h k a = absurd a
@@ -68,11 +79,9 @@ accepted_more (suc m) (suc n) g t name h k a = record {
   defined = a.defined;
   named = a.named;
   attributed = a.attributed;
-  children = a.children;
-  significant = a.significant;
-  matched = matched_on g (IsAcceptedWithin m g) (IsAcceptedWithin n g) a.content a.children (λ u word s x.
-      let less : depth u < depth t = child_less t u (kept_stands (out-Tree t).children a.children (Element u) a.significant s) in
-      accepted_more m n g u word (omega arith) (omega arith) x) a.matched;
+  holds = content_on g (IsAcceptedWithin m g) (IsAcceptedWithin n g) a.content t (λ u word s x.
+      let less : depth u < depth t = child_less t u s in
+      accepted_more m n g u word (omega arith) (omega arith) x) a.holds;
 }
 
 -- the depth is levels enough for acceptance
@@ -84,6 +93,13 @@ counting_into : (a b : Marking (List ℕ)) (t : Tree) → ((ident : List ℕ) �
 counting_into a b t h (element ident) = h ident
 counting_into a b t h (condition c) = λ m. m
 
+-- content that is admitted by one marking is admitted by another by which the children count for no less
+admitted_on : (a b : Marking Label) (library : Library) (c : Content) (t : Tree) → ((u : Tree) (l : Label) → StandsIn (out-Tree t).children (Element u) → a u l → b u l)
+    → AreAdmitted a library c t → AreAdmitted b library c t
+admitted_on a b library c t carry (admission.children nodes kept admits) =
+    admission.children nodes kept (admits_into (StandsIn (out-Tree t).children) library a b carry c nodes (all_kept t nodes kept) admits)
+admitted_on a b library c t carry (admission.value no_element is) = admission.value no_element is
+
 -- an element that is valid by one marking is valid by another by which its children count for no less
 valid_on : (a b : Marking Label) (library : Library) (t : Tree) (ident : List ℕ) → ((u : Tree) (l : Label) → StandsIn (out-Tree t).children (Element u) → a u l → b u l)
     → IsValidBy a library t ident → IsValidBy b library t ident
@@ -92,9 +108,7 @@ valid_on a b library t ident carry v = record {
   held = v.held;
   named = v.named;
   attributed = v.attributed;
-  children = v.children;
-  significant = v.significant;
-  admitted = admits_into (StandsIn (out-Tree t).children) library a b carry v.part.content v.children (all_kept t v.children v.significant) v.admitted;
+  admitted = admitted_on a b library v.part.content t carry v.admitted;
 }
 
 -- so within levels enough for a tree more of them change nothing here either

@@ -15,7 +15,7 @@ use Rattle.odd_meaning.specs.Labels.{Label, element, condition}
 use Rattle.odd_meaning.specs.Links.{macro_key, named_in, named_in_parts}
 use Rattle.odd_text.specs.declared.key.Key.{Key}
 use Rattle.rng_patterns.specs.Patterns as patterns
-use Rattle.rng_patterns.specs.Patterns.{AreMatched, IsMatched, IsRepeated}
+use Rattle.rng_patterns.specs.Patterns.{AreMatched, IsMatched, IsRepeated, TakesChildren}
 use Rattle.rng_patterns.specs.declared.grammar.Expr.{Expr}
 use Rattle.rng_patterns.specs.declared.grammar.Grammar.{Grammar}
 use Rattle.compile_laws.proofs.Pieces.{Into, counted_into, or_into, then_into}
@@ -90,13 +90,17 @@ module _ (g : Grammar) (a b : Marking (List ℕ)) where
   leads_right : (children left right : List Node) → children ≡ left ++ right → Leads children → Leads right
   leads_right children left right e more u name s = more u name (subst (λ ns. StandsIn ns (AnElement u)) (sym e) (stands_right left right (AnElement u) s))
 
+  -- what a pattern takes by itself
+  taken_on : (p : Expr) (children : List Node) → Leads children → TakesChildren g a p children → TakesChildren g b p children
+  taken_on p children more (patterns.text none) = patterns.text none
+  taken_on p children more (patterns.element {name = name} {t = t} d e m) =
+      patterns.element d e (more t name (subst (λ ns. StandsIn ns (AnElement t)) (sym e) (stands_first (AnElement t) [])) m)
+
   mutual
     -- a pattern
     pub matched_on : (p : Expr) (children : List Node) → Leads children → IsMatched g a p children → IsMatched g b p children
     matched_on p children more patterns.empty = patterns.empty
-    matched_on p children more (patterns.text none) = patterns.text none
-    matched_on p children more (patterns.element {name = name} {t = t} d e m) =
-        patterns.element d e (more t name (subst (λ ns. StandsIn ns (AnElement t)) (sym e) (stands_first (AnElement t) [])) m)
+    matched_on p children more (patterns.leaf taken) = patterns.leaf (taken_on p children more taken)
     matched_on p children more (patterns.part {p = inner} d m) = patterns.part d (matched_on inner children more m)
     matched_on p children more (patterns.group {parts = parts} e ms) = patterns.group e (all_on parts children more ms)
     matched_on p children more (patterns.choice {part = part} e s m) = patterns.choice e s (matched_on part children more m)

@@ -49,7 +49,7 @@ laid_formed (Some vals.Delete) list h k = tt
 laid_formed (Some (vals.Change l marks)) None h k = tt
 laid_formed (Some (vals.Change l marks)) (Some list) h k = list_formed l marks list h k
 
-def_formed : (fields : AttFields) (def : AttDef) → AreFormedFields fields → IsFormedDef def → IsFormedDef (def_changed fields def)
+pub def_formed : (fields : AttFields) (def : AttDef) → AreFormedFields fields → IsFormedDef def → IsFormedDef (def_changed fields def)
 def_formed fields def h k = record {
   alt = or_else_holds IsAttributeName fields.alt def.alt h.alt k.alt;
   ns = or_else_holds IsLegal fields.ns def.ns h.ns k.ns;

@@ -114,7 +114,7 @@ module _ {left first end : ℕ} {around : List Bind} {def : Tree} (unbroken : Is
       let inside = child_kept unbroken d s element.Datatype (is_kind element.AttDef element.Datatype (codes "datatype") d refl is) in
       by_child (codes "dataRef") d (λ o. IfSome (datatype_by d o) IsFormedDatatype) tt (λ ref r of.
       with_bounds _ _ (bounds_formed inside (stands_first _ _) (stands_later _ _ _ (stands_first _ _)) (stands_first _ _))
-      (data_formed (child_kept inside ref r element.AttDataRef (is_kind element.Datatype element.AttDataRef (codes "dataRef") ref refl of)) (stands_first _ _)
+      (data_formed (child_kept inside ref r element.AttDataRef (is_kind element.Datatype element.AttDataRef (codes "dataRef") ref refl of)) (child_formed (child_formed formed d s).2 ref r).2 (stands_first _ _)
       (stands_later _ _ _ (stands_later _ _ _ (stands_later _ _ _ (stands_later _ _ _ (stands_first _ _))))))))
 
   vals_formed : IfSome (val_edit_given def) IsFormedValEdit

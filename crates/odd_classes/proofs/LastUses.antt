@@ -1,5 +1,5 @@
 -- The last place in an order at which a node stands that has an arrow to another.
-use Rattle.std.proofs.Common.{◌≡◌, ◌<◌, ◌+◌, ◌⊎◌, inl, inr, ⊎_elim, ℕ, zero, suc, List, [], ◌∷◌, Some, length, get_or, set, slice_get, take, refl, sym, ap, subst, arith, ◌∙◌}
+use Rattle.std.proofs.Common.{◌≡◌, ◌<◌, ◌+◌, ◌⊎◌, inl, inr, ⊎_elim, ℕ, zero, suc, List, [], ◌∷◌, Some, length, get_or, set, slice_get, take, sym, ap, subst, arith, ◌∙◌}
 use Rattle.std.proofs.Math.ListN.{length-set}
 use Rattle.std.proofs.lemmas.Bool.{cases_lt}
 use Rattle.std.proofs.lemmas.Option.{same_Some, slice_get-get_or}
@@ -22,10 +22,6 @@ front_of_node [] i at n l h = cc
 front_of_node (x ∷ xs) zero at n l h = absurd (omega arith)
 front_of_node (x ∷ xs) (suc i) zero n l h = h
 front_of_node (x ∷ xs) (suc i) (suc at) n l h = front_of_node xs i at n (omega arith) h
-
--- before the first node nothing is kept
-pub none_used : (at : ℕ) (places : List ℕ) → IsUsedAt [] at places places
-none_used at places = record { same = refl; used = λ node c l. absurd (omega (arith, c.1)); each = λ node. inr refl }
 
 module _ (nodes : List ℕ) (i : ℕ) (within : i < length nodes) (at : ℕ) (old now : List ℕ) (so : IsUsedAt (take i nodes) at old now) where
   -- the place is kept for the next node

@@ -10,7 +10,9 @@ pub mod MacroFacts
 pub mod MacrosOrdered
 pub mod MixesData
 pub mod NamedKeys
+pub mod OfferTables
 pub mod OffersListed
+pub mod OffersSet
 pub mod OnCycles
 pub mod Places
 pub mod Scanning

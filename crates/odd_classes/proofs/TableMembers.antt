@@ -31,11 +31,11 @@ use Rattle.odd_classes.specs.Listing.{IsModelAt, IsTableOf, AreListed, AreListsO
 use Rattle.odd_classes.specs.Placing.{IsEntryAt}
 
 -- idents that tie are one
-one_ident : (a b : List ℕ) → eq_by_cmp text_cmp a b ≡ true → a ≡ b
+pub one_ident : (a b : List ℕ) → eq_by_cmp text_cmp a b ≡ true → a ≡ b
 one_ident = tells_apart (slice_cmp-IsAntisymmetric nat_cmp-IsAntisymmetric)
 
 -- what is left of a list from a place on begins with what stands there
-first_left : {A : Type 0} (xs ys : List A) (i : ℕ) (x d : A) → i ≤ length xs → drop i xs ≡ x ∷ ys → (i < length xs) × (get_or xs i d ≡ x) × (drop (i + 1) xs ≡ ys)
+pub first_left : {A : Type 0} (xs ys : List A) (i : ℕ) (x d : A) → i ≤ length xs → drop i xs ≡ x ∷ ys → (i < length xs) × (get_or xs i d ≡ x) × (drop (i + 1) xs ≡ ys)
 first_left xs ys i x d le is =
     let long : length xs - i ≡ suc (length ys) = sym (length-drop i xs) ∙ ap length is in
     let within : i < length xs = omega (arith, le, long) in

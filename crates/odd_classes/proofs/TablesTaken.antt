@@ -5,8 +5,7 @@ use Rattle.std.proofs.lemmas.Option.{same_Some, slice_get_within}
 use Rattle.std.specs.List.{Contains}
 use Rattle.odd_graph.proofs.OneMore.{contains_next}
 use Rattle.odd_offers.specs.Tables.{Table}
-use Rattle.odd_tree.proofs.InList.{nothing_stands, stands_push}
-use Rattle.odd_tree.specs.Elements.{StandsIn}
+use Rattle.odd_tree.proofs.InList.{stands_push}
 use Rattle.odd_classes.specs.Inheriting.{AreLeft, AreTablesAt, HasTable}
 
 -- the tables of some nodes were made, and those are gone alone that are of these and no longer needed
@@ -14,14 +13,6 @@ pub record TakenSoFar (last : List ℕ) (at : ℕ) (nodes : List ℕ) (old new :
   pub are : AreTablesAt old nodes made
   pub left : (node : ℕ) → (slice_get new node ≡ slice_get old node) ⊎ ((slice_get new node ≡ Some None) × (get_or last node 0 ≡ at) × Contains nodes node)
   pub same : length new ≡ length old
-
--- before the first node no table is made
-pub none_taken : (last : List ℕ) (at : ℕ) (tables : List (Option Table)) (made : List Table) → made ≡ [] → TakenSoFar last at [] tables tables made
-none_taken last at tables made none = record {
-  are = λ table. (λ s. absurd (nothing_stands table (subst (λ ts. StandsIn ts table) none s)), λ h. absurd (omega (arith, h.1.1)));
-  left = λ node. inl refl;
-  same = refl;
-}
 
 -- what stands at a place where something was put at one
 pub put_at : {X : Type 0} (xs : List X) (i : ℕ) (y : X) (at : ℕ) → i < length xs → ((i ≡ at) × (slice_get (set xs i y) at ≡ Some y)) ⊎ ((i ≢ at) × (slice_get (set xs i y) at ≡ slice_get xs at))

@@ -1,5 +1,5 @@
 -- What an element offers, as a list, and what is answered where it breaks a rule.
-use Rattle.std.specs.Prelude.{◌≡◌, ◌≤◌, ◌⊎◌, ℕ, List, Option, Some, None, map}
+use Rattle.std.specs.Prelude.{◌≡◌, ◌≤◌, ◌<◌, ◌↔◌, ◌⊎◌, ℕ, List, Option, Some, None, MatchOption, length, map, slice_get}
 use Rattle.std.specs.FinMap.{find}
 use Rattle.std.specs.declared.cmp.Ordering.{Ordering}
 use Rattle.odd_text.specs.Key.{key_cmp}
@@ -79,3 +79,24 @@ OnlySharesName library element = (Contradicts library element → ⊥) × Shares
 pub record Finds (library : Library) (Passed : ℕ → Type 0) (found : Found) : Type 0 where
   pub contradicts : IsFirstPlace Passed (IsSuchAt library (Contradicts library)) found.contradicts
   pub shares_name : IsFirstPlace Passed (IsSuchAt library (OnlySharesName library)) found.shares_name
+
+-- by ident, for each element that is held just what it offers
+abbrev pub AreOffersIn : Library → List (List ℕ × List (List ℕ × Given)) → Type 0
+AreOffersIn library table = (element : List ℕ) → MatchOption (find text_cmp element table) (find key_cmp (element_key element) library.parts ≡ None) (AreGivensOf library element)
+
+-- by ident, what is given
+abbrev pub Givens : Type 0
+Givens = List (List ℕ × Given)
+
+-- this is given at the place
+abbrev pub HasGivens : List (Option Givens) → ℕ → Givens → Type 0
+HasGivens places place givens = slice_get places place ≡ Some (Some givens)
+
+-- at no place but those of elements is anything given
+abbrev pub AreAtElements : List (Key × Component) → List (Option Givens) → Type 0
+AreAtElements entries places = (place : ℕ) (givens : Givens) → HasGivens places place givens → (element : List ℕ) × IsPlaceOf entries place (element_key element)
+
+-- by ident, what is given at the places of elements
+abbrev pub AreByIdent : List (Key × Component) → List (Option Givens) → List (List ℕ × Givens) → Type 0
+AreByIdent entries places table = (element : List ℕ) (givens : Givens)
+    → (find text_cmp element table ≡ Some givens) ↔ ((place : ℕ) × (place < length places) × (IsPlaceOf entries place (element_key element) × HasGivens places place givens))

@@ -1,4 +1,4 @@
-ghost use Rattle.std.specs.Prelude.{◌≡◌, ◌↔◌, ℕ, List, Err, IfOk, IsOk, IsTrue};
+ghost use Rattle.std.specs.Prelude.{◌≡◌, ◌↔◌, ℕ, Err, IfOk, IsOk, IsTrue};
 ghost use Rattle.odd_text.specs.declared.key.Key.{Key as AKey};
 ghost use Rattle.odd_meaning.specs.Rules.{Breaks, BreaksWithin, IsFirstBreak};
 ghost use Rattle.odd_content.specs.Formed.{once};

@@ -10,6 +10,7 @@ mod inheriting;
 mod links;
 mod macro_order;
 mod member_lists;
+mod offer_lists;
 mod offering;
 mod rules;
 
@@ -17,5 +18,6 @@ pub use class_members::members;
 pub use cycles::{CycleRefusal, check_cycles};
 pub use macro_order::in_macro_order;
 pub use member_lists::{MemberTable, TableRefusal, member_table};
+pub use offer_lists::{OfferTable, offer_table};
 pub use offering::{Offer, OfferRefusal, Offers, offered};
 pub use rules::{LibraryRefusal, check_library};

@@ -1,6 +1,6 @@
 ghost use Rattle.std.specs.Prelude.{◌≡◌, [], ◌∷◌, ◌++◌, IfOk, OnOk, filter, flat_map, map};
 ghost use Rattle.std.specs.Option.{option_copied};
-ghost use Rattle.odd_meaning.specs.Links.{class_key, classes_of, named_by as the_named_by, named_by_datatype, named_by_edits, named_by_item, named_in};
+ghost use Rattle.odd_meaning.specs.Links.{class_key, classes_of, named_by as the_named_by, named_by_edits, named_by_item, named_in};
 ghost use Rattle.odd_classes.specs.Placing.{datatype_in, keys_by, is_followed};
 
 use odd_attributes::{AttEdit, AttEdits, Datatype};

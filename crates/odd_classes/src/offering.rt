@@ -2,12 +2,10 @@ ghost use Rattle.std.specs.Prelude.{◌≡◌, ◌↔◌, ◌⊎◌, ◌<◌, �
 ghost use Rattle.std.specs.FinMap.{find, is_sorted};
 ghost use Rattle.std.specs.List.{Contains};
 ghost use Rattle.odd_text.specs.Key.{key_cmp};
-ghost use Rattle.odd_text.specs.Text.{text_cmp};
 ghost use Rattle.odd_text.specs.declared.key.Key.{Key as AKey};
 ghost use Rattle.odd_forms.specs.Sorted.{IsSet};
 ghost use Rattle.odd_library.specs.Odd.{element_key as the_element_key};
 ghost use Rattle.odd_meaning.specs.Rules.{Breaks, BreaksOffering, BreaksWithin, IsFirstBreak, IsLeastOffering};
-ghost use Rattle.odd_library.specs.declared.library.Library.{Library as ALibrary};
 ghost use Rattle.odd_classes.specs.Inheriting.{IsElementAt, IsInheritedAt};
 ghost use Rattle.odd_classes.specs.Offered.{Finds, IsAsked, IsEarlier, IsOfferOfOne, IsRightList, IsRightRule, ReachesLoop, offer_cmp, offers_of as the_offers_of};
 ghost use Rattle.odd_classes.specs.Placing.{IsPlaceOf};
@@ -183,16 +181,16 @@ fn refusal_at(
     Ok(LibraryRefusal::Rule { key, rule })
 }
 
-// What an element offers, or the rule that it breaks.
+/// What an element offers, or the rule that it breaks.
 #[derive(Drop)]
-enum Asked {
+pub enum Asked {
     Offers(Givens),
     Contradicts,
     SharesName,
 }
 
-// The same of an element with what it inherits.
-fn offered_by(alloc: Global, part: &Component, table: Table) -> Result<Asked, NoMemory>
+/// The same of an element with what it inherits. The only error is NoMemory, for want of memory.
+pub fn offered_by(alloc: Global, part: &Component, table: Table) -> Result<Asked, NoMemory>
     ensures { IfOk result (IsAsked part.now table) }
 {
     if clashes(part, &table) {
@@ -221,8 +219,7 @@ fn offers_at(alloc: Global, library: &Library, inherited: Inherited) -> Result<O
 
 // The offers by ident as a list.
 fn offers_of(alloc: Global, givens: Givens) -> Result<Offers, NoMemory>
-    ensures made { IfOk result (λ made. made ≡ the_offers_of givens) }
-    ensures rising { IsTrue (is_sorted text_cmp givens) }
+    ensures { IfOk result (λ made. made ≡ the_offers_of givens) }
 {
     let mut made = Offers::new(alloc);
     for (ident, given) in givens.into_entries() {

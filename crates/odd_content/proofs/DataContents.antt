@@ -149,7 +149,7 @@ mutual
   data_part : (left : ℕ) {around : List Bind} {t : Tree} {c : Content} → IsPart around t c → IsDataPart left around t → IsData left c
   data_part left {t = t} (IsPart.part kind.DataRef is are) (formed, apart, unbroken) =
       let u = unbroken kind.DataRef (ap (named_among data_parts) (child_named kind.Content kind.DataRef t is)) in
-      value_of_data left (item_given t) (data_formed u ([], _, refl) (_ ∷ _ ∷ _ ∷ _ ∷ _ ∷ _ ∷ [], _, refl)) (item_told u (_ ∷ _ ∷ [], _, refl) (_ ∷ _ ∷ _ ∷ _ ∷ _ ∷ _ ∷ [], _, refl))
+      value_of_data left (item_given t) (data_formed u formed.2 ([], _, refl) (_ ∷ _ ∷ _ ∷ _ ∷ _ ∷ _ ∷ [], _, refl)) (item_told u (_ ∷ _ ∷ [], _, refl) (_ ∷ _ ∷ _ ∷ _ ∷ _ ∷ _ ∷ [], _, refl))
   data_part left {t = t} (IsPart.part kind.ValList is are) (formed, apart, unbroken) =
       (values_formed t formed (unbroken kind.ValList (ap (named_among data_parts) (child_named kind.Content kind.ValList t is))), tt)
   data_part left {t = t} (IsPart.part {parts = parts} kind.Alternate is are) (formed, apart, unbroken) =

@@ -210,7 +210,7 @@ mutual
       let inner = parts_formed (left - 1) are (within_bound around t bound formed.2) (λ child s. (child_formed formed.2 child s, child_kept u child s)) in
       (omega arith, parts_listed (left - 1) parts inner, bounds_formed u ([], _, refl) (_ ∷ [], _, refl) ([], _, refl))
   part_formed left {t = t} (IsPart.part kind.DataRef is are) bound (formed, unbroken) =
-      value_formed left (item_given t) (data_formed (unbroken kind.DataRef is) ([], _, refl) (_ ∷ _ ∷ _ ∷ _ ∷ _ ∷ _ ∷ [], _, refl))
+      value_formed left (item_given t) (data_formed (unbroken kind.DataRef is) formed.2 ([], _, refl) (_ ∷ _ ∷ _ ∷ _ ∷ _ ∷ _ ∷ [], _, refl))
   part_formed left {t = t} (IsPart.part kind.ValList is are) bound (formed, unbroken) =
       values_formed t formed (unbroken kind.ValList is)
   part_formed left (IsPart.part other is are) bound formed = tt

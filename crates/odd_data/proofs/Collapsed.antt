@@ -78,3 +78,13 @@ collapsed_listed value legal filled =
       filled = λ e. some_bytes made (some_stay cs (ap (list_any no_space) (sym is) ∙ (any_word value (cs, (scalar, legal.1))).1 filled)) (sym text ∙ e);
       legal = (made, sym text, made_legal);
     }
+
+-- what is listed is collapsed
+pub listed_collapsed : (value : List ℕ) → IsListed value → collapsed (chars value) ≡ chars value
+listed_collapsed value h =
+    let cs = h.legal.0 in
+    let made = collapsing false false cs in
+    let is : chars value ≡ cs = ap chars (sym h.legal.1) ∙ chars-encodes cs (all_scalar cs h.legal.2) in
+    let same : collapsed (chars value) ≡ made = ap collapsed is ∙ sym (all_collapsed cs) in
+    let spelled : encode_utf8_all made ≡ value = ap encode_utf8_all (sym same) ∙ h.collapsed in
+    same ∙ sym (chars-encodes made (all_scalar made (still_legal false false cs h.legal.2))) ∙ ap chars spelled

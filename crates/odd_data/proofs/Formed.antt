@@ -1,5 +1,5 @@
 -- The item that a `dataRef` gives which breaks no rule is formed, and so are the list and the marks that a `valList` gives which breaks none.
-use Rattle.std.proofs.Common.{◌≡◌, ◌≢◌, ℕ, Bool, not, ◌&&◌, true, List, [], ◌∷◌, Option, Some, None, codes, fold, map, refl, subst, sym}
+use Rattle.std.proofs.Common.{◌≡◌, ◌≢◌, ℕ, Bool, not, ◌&&◌, true, List, [], ◌∷◌, Option, Some, None, All, codes, fold, map, refl, subst, sym}
 use Rattle.std.proofs.lemmas.Bool.{cond_both}
 use Rattle.std.proofs.lemmas.Cmp.{nat_list_cmp_total}
 use Rattle.std.proofs.lemmas.List.Elements.{All-nil}
@@ -20,8 +20,8 @@ use Rattle.rng_types.specs.declared.facet.FacetText.{FacetText}
 use Rattle.rng_types.specs.declared.item.Item.TheVariants as items
 use Rattle.rng_values.proofs.FormedItems.{made_whole}
 use Rattle.rng_values.specs.Formed.{IsFormedItem}
-use Rattle.rng_values.specs.Items.{ItemFault}
-use Rattle.rng_values.specs.Making.{in_order, item_of}
+use Rattle.rng_values.specs.Items.{IsItemOf, ItemFault}
+use Rattle.rng_values.specs.Making.{IsMadeOf, in_order, item_of}
 use Rattle.rng_values.specs.Names.{named, type_names}
 use Rattle.rng_values.specs.Treated.{collapsed_text}
 use Rattle.odd_forms.proofs.Colon.{name_decides}
@@ -35,30 +35,38 @@ use Rattle.odd_forms.specs.Table.{form_at, needed, optional}
 use Rattle.odd_forms.specs.Tags.{facets_given, tag_of, tags_in}
 use Rattle.odd_forms.specs.declared.element.Element.{Element}
 use Rattle.odd_overlay.proofs.Laid.{laid_keyed, laid_set, put_keyed}
-use Rattle.odd_data.specs.Formed.{AreValueMarks, IsFormedData, IsFormedList, IsListed}
+use Rattle.odd_data.specs.Formed.{AreValueMarks, IsFormedData, IsFormedList, IsListed, IsMadeItem}
 use Rattle.odd_data.specs.Items.{item_by, item_given}
 use Rattle.odd_data.specs.Values.{has_mode, list_given, marks_in, value_tagged, with_mark, with_value}
 use Rattle.odd_data.proofs.Collapsed.{collapsed_listed}
 use Rattle.odd_data.proofs.FormedTrees.{child_formed, tag_formed}
+use Rattle.odd_data.proofs.LegalFacets.{HasLegalValue, facets_legal, made_legal}
 use Rattle.odd_data.proofs.Unbroken.{IsUnbroken, attribute_kept, child_kept, decided, legal_given, suited}
 
+-- an item that a name and facets make which break nothing
+item_made : (text : List ℕ) (facets : List FacetText) (k : DataType) → ((rule : ℕ) → ItemFault text facets rule → ⊥) → All HasLegalValue facets → IsMadeOf text facets (Some (items.Typed k (in_order facets)))
+    → IsMadeItem k (in_order facets)
+item_made text facets k sound legal made =
+    let is = same_Some _ _ (sym made.is_made) in
+    record { name = text; texts = facets; sound = sound; said = subst (IsItemOf text facets) is made.said; formed = subst IsFormedItem is made.formed; legal = made_legal facets legal }
+
 -- a datatype whose name and facets break nothing
-named_formed : (text : List ℕ) (facets : List FacetText) → ((rule : ℕ) → ItemFault text facets rule → ⊥) → IfSome (item_of text facets) IsFormedData
-named_formed text facets sound = by (named type_names text) (λ k e. e)
+named_formed : (text : List ℕ) (facets : List FacetText) → ((rule : ℕ) → ItemFault text facets rule → ⊥) → All HasLegalValue facets → IfSome (item_of text facets) IsFormedData
+named_formed text facets sound legal = by (named type_names text) (λ k e. e)
   where
     by : (o : Option DataType) → ((k : DataType) → o ≡ Some k → named type_names text ≡ Some k) → IfSome (option_map (λ k. items.Typed k (in_order facets)) o) IsFormedData
     by None is = tt
-    by (Some k) is = let made = made_whole text facets k (is k refl) sound in subst IsFormedItem (same_Some _ _ (sym made.is_made)) made.formed
+    by (Some k) is = item_made text facets k sound legal (made_whole text facets k (is k refl) sound)
 
--- the key is a name, where it is given, and the name and the facets break nothing
+-- the key is a name, where it is given, and the name and the facets break nothing and are legal
 pub item_formed : (t : Tree) → ((key : List ℕ) → given t (codes "key") ≡ Some key → IsNCName key)
-    → ((text : List ℕ) → given t (codes "name") ≡ Some text → (rule : ℕ) → ItemFault text (facets_given t) rule → ⊥) → IfSome (item_given t) IsFormedData
-item_formed t keyed sound = by (given t (codes "key")) (given t (codes "name")) keyed sound
+    → ((text : List ℕ) → given t (codes "name") ≡ Some text → (rule : ℕ) → ItemFault text (facets_given t) rule → ⊥) → All HasLegalValue (facets_given t) → IfSome (item_given t) IsFormedData
+item_formed t keyed sound legal = by (given t (codes "key")) (given t (codes "name")) keyed sound
   where
     by : (key text : Option (List ℕ)) → ((k : List ℕ) → key ≡ Some k → IsNCName k)
         → ((n : List ℕ) → text ≡ Some n → (rule : ℕ) → ItemFault n (facets_given t) rule → ⊥) → IfSome (item_by key text (facets_given t)) IsFormedData
     by (Some k) text keyed sound = keyed k refl
-    by None (Some n) keyed sound = named_formed n (facets_given t) (sound n refl)
+    by None (Some n) keyed sound = named_formed n (facets_given t) (sound n refl) legal
     by None None keyed sound = tt
 
 -- the ident of a child is legal and has a word, where it is a `valItem`
@@ -102,10 +110,11 @@ list_formed t valued =
 -- of an element that breaks nothing
 module _ {e : Element} {left : ℕ} {around : List Bind} {t : Tree} (unbroken : IsUnbroken (DeepFault e left around t)) where
   -- with a key, a name and facets, as a `dataRef` has them
-  pub data_formed : StandsIn (form_at e).attributes (optional (codes "key") name) → StandsIn (form_at e).demands typed → IfSome (item_given t) IsFormedData
-  data_formed key demand =
+  pub data_formed : {first end : ℕ} → IsFormed first end t → StandsIn (form_at e).attributes (optional (codes "key") name) → StandsIn (form_at e).demands typed → IfSome (item_given t) IsFormedData
+  data_formed formed key demand =
       item_formed t (λ k is. decided (is_name k) (name_decides k) (suited (optional (codes "key") name) t k refl is (attribute_kept unbroken _ key)))
       (λ text is rule f. unbroken rule (DeepFault.itself (FormFault.own (OwnFault.demand typed demand (DemandFault.no_item text is f)))))
+      (facets_legal t formed)
 
   -- and with children of this kind, as a `valList` has them
   pub all_valued : {first end : ℕ} → IsFormed first end t → (kind : Element) → ((child : Tree) → is_one_of (codes "valItem" ∷ []) child ≡ true → IsChild e kind child)

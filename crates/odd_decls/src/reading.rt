@@ -38,7 +38,7 @@ pub fn read_odd(alloc: Global, tree: &Tree, file: u32, _aside: bool) -> Result<O
     ensures formed { (first end : ℕ) → IsFormed first end tree.now → IfOk result IsFormedDoc }
     ensures not_yet { result ≡ Err OddRefusal.NotYet → IsPending tree.now }
 {
-    if is_pending(tree, false) {
+    if is_pending(tree) {
         return Err(OddRefusal::NotYet);
     }
     let mut schemas = Vec::new(alloc);

@@ -1,5 +1,6 @@
 ghost use Rattle.std.specs.Prelude.{◌≡◌, IfOk};
-ghost use Rattle.odd_forms.specs.Texts.{collapsed_in as the_collapsed_in, text_of as the_text_of};
+ghost use Rattle.odd_forms.specs.Texts.{collapsed_in as the_collapsed_in};
+ghost use Rattle.odd_tree.specs.Elements.{text_of as the_text_of};
 
 use odd_text::{NoMemory, Text};
 use odd_tree::{Node, Tree};

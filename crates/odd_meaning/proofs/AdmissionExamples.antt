@@ -12,8 +12,9 @@ use Rattle.odd_forms.specs.Names.{tei, tei_namespace}
 use Rattle.odd_tree.proofs.InList.{first_or_later, nothing_stands}
 use Rattle.odd_tree.specs.Significant.{Marking, depth}
 use Rattle.odd_tree.specs.declared.tree.Tree.{Tree, out-Tree}
-use Rattle.odd_meaning.specs.Admission.{Admits, IsValidBy, IsValidWithin, name_in_documents}
+use Rattle.odd_meaning.specs.Admission.{Admits, IsValidBy, IsValidWithin, children}
 use Rattle.odd_meaning.specs.Labels.{Label}
+use Rattle.odd_meaning.specs.Naming.{element_name}
 use Rattle.odd_tree.proofs.PrintedTrees.{apart}
 use Rattle.odd_meaning.proofs.ExampleTrees.{bare_depth, childless_depth, element, element_in, leaf, none_counts, words}
 use Rattle.odd_meaning.proofs.ValidityExamples.{holding, none_there, one_part, opened, part_in, text_with_words}
@@ -41,7 +42,13 @@ first_of_two = record {
   word = codes "a";
   among = ([], codes "b" ∷ [], refl);
   valid = subst (λ n. IsValidWithin n of_two (element_in (codes "urn:x") (codes "a") []) (codes "a")) (sym (bare_depth (codes "urn:x") (codes "a")))
-      (record { part = part_in (codes "urn:x") content.Empty; held = refl; named = refl; attributed = none_there; children = []; significant = none_counts; admitted = refl });
+      (record {
+        part = part_in (codes "urn:x") content.Empty;
+        held = refl;
+        named = refl;
+        attributed = none_there (codes "urn:x") content.Empty _ _ refl;
+        admitted = children [] none_counts refl;
+      });
 }
 
 second_of_two : Admits of_two of_two.start leaf
@@ -49,16 +56,22 @@ second_of_two = record {
   word = codes "b";
   among = (codes "a" ∷ [], [], refl);
   valid = subst (λ n. IsValidWithin n of_two leaf (codes "b")) (sym (childless_depth (codes "b") []))
-      (record { part = part_in tei_namespace content.Empty; held = refl; named = refl; attributed = none_there; children = []; significant = none_counts; admitted = refl });
+      (record {
+        part = part_in tei_namespace content.Empty;
+        held = refl;
+        named = refl;
+        attributed = none_there tei_namespace content.Empty _ _ refl;
+        admitted = children [] none_counts refl;
+      });
 }
 
 -- what is valid for one of the two has its ident and its part's namespace
 named_as_held : (part : ElementPart) (ident word : List ℕ) (t : Tree) (counts : Marking Label) → word ≡ ident
     → find key_cmp (element_key ident) of_two.parts ≡ Some (component.Element part)
-    → IsValidBy counts of_two t word → (out-Tree t).name ≡ name_in_documents ident part
+    → IsValidBy counts of_two t word → (out-Tree t).name ≡ element_name ident part
 named_as_held part ident word t counts e held v =
     let o : IsValidBy counts of_two t ident = subst (IsValidBy counts of_two t) e v in
-    o.named ∙ ap (name_in_documents ident) (one_part _ _ (same_Some _ _ (sym o.held ∙ held)))
+    o.named ∙ ap (element_name ident) (one_part _ _ (same_Some _ _ (sym o.held ∙ held)))
 
 -- so the library admits two names alone
 name_of_two : (t : Tree) → depth t ≡ 1 → Admits of_two of_two.start t

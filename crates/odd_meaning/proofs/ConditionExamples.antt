@@ -1,19 +1,14 @@
--- Which names and elements meet a condition, and which attributes are offered.
-use Rattle.std.proofs.Common.{◌≡◌, ⊎_elim, ℕ, Bool, true, false, List, [], ◌∷◌, ◌++◌, ◌⊎◌, inl, inr, refl, sym, ap, subst, ◌∙◌, codes}
-use Rattle.std.specs.Prelude.{IsTrue}
-use Rattle.std.proofs.lemmas.Bool.{false≢true}
-use Rattle.std.proofs.lemmas.List.Elements.{All-nil, All-cons, All-head}
+-- Which names and elements meet a condition.
+use Rattle.std.proofs.Common.{◌≡◌, ⊎_elim, ℕ, List, [], ◌∷◌, ◌++◌, ◌⊎◌, inl, inr, refl, sym, ap, subst, ◌∙◌, codes}
 use Rattle.odd_text.specs.declared.name.Name.{Name}
 use Rattle.odd_content.specs.declared.content.Condition.{Condition}
 use Rattle.odd_tree.proofs.InList.{element_shown, nothing_stands, only_item, stands_first}
 use Rattle.odd_tree.specs.Elements.{StandsIn, StandsWithin, children_of, inside, itself}
-use Rattle.odd_tree.specs.declared.tree.Attr.{Attr}
 use Rattle.odd_tree.specs.declared.tree.Node.{Element}
 use Rattle.odd_tree.specs.declared.tree.Tree.{Tree, out-Tree}
 use Rattle.odd_meaning.specs.Conditions.{IsMetBy, IsMetThroughout}
-use Rattle.odd_meaning.specs.Offers.{AreOffered, IsOffered, IsThere, Offer}
 use Rattle.odd_tree.proofs.PrintedTrees.{apart}
-use Rattle.odd_meaning.proofs.ExampleTrees.{attribute, element_in}
+use Rattle.odd_meaning.proofs.ExampleTrees.{element_in}
 
 -- names
 
@@ -116,39 +111,3 @@ both_met u w = ⊎_elim (met u (outer (codes "urn:x")) refl) (met u (inner (code
       space = nothing_stands _;
       named = nothing_stands _;
     }
-
--- attributes
-
-abbrev an_attribute : Attr
-an_attribute = attribute (codes "n") (codes "v")
-
-abbrev offer : Bool → Offer
-offer needed = record { name = in_none (codes "n"); needed = needed }
-
-abbrev WhereNeeded : List Attr → Offer → Type 0
-WhereNeeded attrs o = IsTrue o.needed → IsThere attrs o
-
--- where nothing is offered there is no attribute
-nothing_offered : AreOffered [] (an_attribute ∷ []) → ⊥
-nothing_offered m = let h = All-head (IsOffered []) an_attribute [] m.offered in nothing_stands h.0 h.1
-
--- an attribute of another name isn't offered
-another_offered : (needed : Bool) → AreOffered (offer needed ∷ []) (attribute (codes "m") (codes "v") ∷ []) → ⊥
-another_offered needed m =
-    let h = All-head (IsOffered (offer needed ∷ [])) (attribute (codes "m") (codes "v")) [] m.offered in
-    apart (codes "n") (codes "m") refl (ap (λ (o : Offer). o.name.local) (sym (only_item _ _ h.1)) ∙ ap (λ (n : Name). n.local) h.2)
-
--- an attribute that is needed is there
-needed_there : AreOffered (offer true ∷ []) (an_attribute ∷ [])
-needed_there = record {
-  offered = All-cons (IsOffered (offer true ∷ [])) an_attribute [] (offer true, ([], [], refl), refl) (All-nil (IsOffered (offer true ∷ [])));
-  complete = All-cons (WhereNeeded (an_attribute ∷ [])) (offer true) [] (λ h. (an_attribute, ([], [], refl), refl)) (All-nil (WhereNeeded (an_attribute ∷ [])));
-}
-
--- or the attributes aren't those that are offered
-needed_lacking : AreOffered (offer true ∷ []) [] → ⊥
-needed_lacking m = let h = All-head (WhereNeeded []) (offer true) [] m.complete refl in nothing_stands h.0 h.1
-
--- one that isn't needed may lack
-unneeded_lacking : AreOffered (offer false ∷ []) []
-unneeded_lacking = record { offered = All-nil _; complete = All-cons (WhereNeeded []) (offer false) [] (λ h. absurd (false≢true h)) (All-nil (WhereNeeded [])) }

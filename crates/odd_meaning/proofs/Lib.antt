@@ -4,3 +4,4 @@ pub mod ExampleTrees
 pub mod Examples
 pub mod Rows
 pub mod ValidityExamples
+pub mod ValueExamples

@@ -1,38 +1,37 @@
 -- Which documents a library admits. No pattern and no schema is spoken of.
-use Rattle.std.specs.Prelude.{◌≡◌, ℕ, zero, suc, List, [], Some}
+use Rattle.std.specs.Prelude.{◌≡◌, ℕ, zero, suc, false, List, Some}
 use Rattle.std.specs.FinMap.{find}
+use Rattle.std.specs.List.{list_any}
+use Rattle.std.specs.Str.{chars}
 use Rattle.odd_text.specs.Key.{key_cmp}
-use Rattle.odd_text.specs.declared.name.Name.{Name}
-use Rattle.odd_tree.specs.Elements.{StandsIn}
-use Rattle.odd_tree.specs.Significant.{IsSignificant, Marking, depth}
+use Rattle.odd_tree.specs.Elements.{StandsIn, texts_in}
+use Rattle.odd_tree.specs.Significant.{IsSignificant, Marking, depth, is_element}
 use Rattle.odd_tree.specs.declared.tree.Node.{Node}
 use Rattle.odd_tree.specs.declared.tree.Tree.{Tree, out-Tree}
+use Rattle.odd_content.specs.declared.content.Content.{Content}
 use Rattle.odd_library.specs.Odd.{element_key}
 use Rattle.odd_library.specs.declared.library.Component.TheVariants as component
 use Rattle.odd_library.specs.declared.library.ElementPart.{ElementPart}
 use Rattle.odd_library.specs.declared.library.Library.{Library}
+use Rattle.odd_meaning.specs.Attributed.{AreAdmittedAttributes}
 use Rattle.odd_meaning.specs.Conditions.{IsMetThroughout}
 use Rattle.odd_meaning.specs.Contents as contents
-use Rattle.odd_meaning.specs.Labels.{Label, element, condition}
-use Rattle.odd_meaning.specs.Offers.{AreOffered, Offer}
+use Rattle.odd_meaning.specs.Labels.{Label, condition, element}
+use Rattle.odd_meaning.specs.Naming.{element_name}
+use Rattle.odd_meaning.specs.Values.{IsDataValue}
 
--- an element's name in documents: its ident in its namespace
-abbrev pub name_in_documents : List ℕ → ElementPart → Name
-name_in_documents ident part = record { ns = part.ns; local = ident }
-
--- what an element offers: nothing so far
-abbrev pub offers_of : Library → List ℕ → List Offer
-offers_of library ident = []
+-- The content admits the significant children, or, where no element stands among the children, it is data content that admits their text as one value.
+pub data AreAdmitted (counts : Marking Label) (library : Library) (content : Content) (t : Tree) : Type 0 where
+  children : (nodes : List Node) → IsSignificant (out-Tree t).children nodes → contents.Admits library counts content nodes → AreAdmitted counts library content t
+  value : list_any is_element (out-Tree t).children ≡ false → IsDataValue library content (chars (texts_in (out-Tree t).children)) → AreAdmitted counts library content t
 
 -- An element is valid for the held element of the ident, where each of its children is valid for those that it counts for.
 pub record IsValidBy (counts : Marking Label) (library : Library) (t : Tree) (ident : List ℕ) : Type 0 where
   pub part : ElementPart
   pub held : find key_cmp (element_key ident) library.parts ≡ Some (component.Element part)
-  pub named : (out-Tree t).name ≡ name_in_documents ident part
-  pub attributed : AreOffered (offers_of library ident) (out-Tree t).attrs
-  pub children : List Node
-  pub significant : IsSignificant (out-Tree t).children children
-  pub admitted : contents.Admits library counts part.content children
+  pub named : (out-Tree t).name ≡ element_name ident part
+  pub attributed : AreAdmittedAttributes library ident (out-Tree t).attrs
+  pub admitted : AreAdmitted counts library part.content t
 
 -- an element counts for the held elements for which it is valid, and for the conditions that it meets throughout
 abbrev pub counting : (Tree → List ℕ → Type 0) → Marking Label

@@ -44,7 +44,7 @@ abbrev pub Macros : Type 1
 Macros = List ℕ → List Node → Type 0
 
 abbrev mutual
-  -- `empty` no child, `textNode` any number of texts; of any other part a number of pieces within its bounds; data is admitted nowhere so far
+  -- `empty` no child, `textNode` any number of texts; of any other part a number of pieces within its bounds; data admits no list of children, but their text as a value (Values.antt)
   pub AdmitsBy : Macros → Library → Marking Label → Content → List Node → Type 0
   AdmitsBy macros library m Empty w = w ≡ []
   AdmitsBy macros library m Text w = list_any is_element w ≡ false

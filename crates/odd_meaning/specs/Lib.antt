@@ -8,6 +8,5 @@ pub mod Labels
 pub mod Links
 pub mod Naming
 pub mod Offering
-pub mod Offers
 pub mod Rules
 pub mod Values

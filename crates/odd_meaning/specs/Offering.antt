@@ -2,6 +2,7 @@
 -- Documentation Elements).
 use Rattle.std.specs.Prelude.{◌≡◌, ◌≢◌, ℕ, List, [], Option, Some, None}
 use Rattle.std.specs.FinMap.{find}
+use Rattle.std.specs.declared.cmp.Ordering.{Ordering}
 use Rattle.std.specs.declared.cmp.Ordering.TheVariants.{Greater}
 use Rattle.odd_text.specs.Key.{key_cmp}
 use Rattle.odd_text.specs.Text.{text_cmp}
@@ -55,6 +56,14 @@ pub record Clashes (library : Library) (part : Component) (ident : List ℕ) : T
   pub first : Inherits library part ident one giver
   pub second : Inherits library part ident other other_giver
   pub differ : one ≢ other
+
+-- by ident
+abbrev pub offer_cmp : List ℕ × AttDef → List ℕ × AttDef → Ordering
+offer_cmp one other = text_cmp one.0 other.0
+
+-- an element offers the attribute with the definition, whoever gives it
+abbrev pub OffersOne : Library → List ℕ → List ℕ × AttDef → Type 0
+OffersOne library element (ident, def) = (giver : Key) × Offers library (element_key element) ident def giver
 
 -- of several givers the least; none where the element sets the attribute itself
 abbrev pub giver_key : List ℕ → Option (List ℕ) → Key

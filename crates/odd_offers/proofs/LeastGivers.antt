@@ -1,5 +1,5 @@
 -- What an element offers, by its own edits over what it inherits.
-use Rattle.std.proofs.Common.{◌≡◌, ◌≢◌, ◌⊎◌, inl, inr, ⊎_elim, ℕ, true, false, List, [], ◌∷◌, ◌++◌, Option, Some, None, cond, refl, sym, ap, subst, ◌∙◌}
+use Rattle.std.proofs.Common.{◌≡◌, ◌≢◌, ◌⊎◌, inl, inr, ⊎_elim, ℕ, true, false, List, [], ◌∷◌, Option, Some, None, cond, refl, sym, ap, subst, ◌∙◌}
 use Rattle.std.proofs.lemmas.Cmp.{nat_list_cmp_total}
 use Rattle.std.specs.Cmp.{tied_itself}
 use Rattle.std.specs.FinMap.{find, is_sorted, slice_cmp-IsAntisymmetric, nat_cmp-IsAntisymmetric}
@@ -13,8 +13,8 @@ use Rattle.odd_text.specs.declared.key.Key.{Key}
 use Rattle.odd_text.specs.declared.key.Kind.TheVariants as kind
 use Rattle.odd_tree.specs.Elements.{StandsIn}
 use Rattle.odd_tree.proofs.InList.{first_or_later, nothing_stands, stands_first, stands_later}
+use Rattle.odd_overlay.proofs.Laid.{zipped_rises}
 use Rattle.odd_overlay.specs.Overlaid.{find_zipped}
-use Rattle.odd_overlay.specs.Tabled.{keys_of, tabled_sorted}
 use Rattle.odd_attributes.specs.Attributes.{def_changed}
 use Rattle.odd_attributes.specs.declared.att_def.AttDef.{AttDef}
 use Rattle.odd_attributes.specs.declared.att_edit.AttEdit.{AttEdit}
@@ -296,6 +296,7 @@ module _ (library : Library) (element : List ℕ) (part : Component) (inherited 
   -- the answer is exactly what the element offers
   pub answer_right : (made : List (List ℕ × Given)) → IsAnswer (edits_of part) inherited made → AreGivensOf library element made
   answer_right made is = record {
+    rising = subst (λ es. IsTrue (is_sorted text_cmp es)) (sym is) (zipped_rises answer_at (edits_of part) inherited);
     each = λ ident given. (λ h. answer_offered ident given (sym (found made is ident) ∙ h), λ r. found made is ident ∙ offered_answer ident given r);
     all = λ ident def giver offers.
         ⊎_elim
@@ -303,9 +304,3 @@ module _ (library : Library) (element : List ℕ) (part : Component) (inherited 
         (λ k. let a = passed_answered ident k.0 def k.1 k.2 k.3 in (record { def = def; giver = Some (least_from a.0 a.1).giver }, found made is ident ∙ a.4, refl))
         (offers_by (element_key element) ident def giver refl offers);
   }
-
--- its idents rise
-pub answer_rises : (edits : List (List ℕ × AttEdit)) (inherited : Table) (made : List (List ℕ × Given)) → IsAnswer edits inherited made → IsTrue (is_sorted text_cmp made)
-answer_rises edits inherited made is =
-    subst (λ es. IsTrue (is_sorted text_cmp es)) (sym is)
-    (tabled_sorted text_cmp nat_list_cmp_total (slice_cmp-IsAntisymmetric nat_cmp-IsAntisymmetric) (λ k. answer_at (find text_cmp k edits) (find text_cmp k inherited)) (keys_of edits ++ keys_of inherited))

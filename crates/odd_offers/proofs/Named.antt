@@ -1,6 +1,5 @@
 -- Attributes of which two have one name in documents.
 use Rattle.std.proofs.Common.{◌≡◌, ◌≢◌, ◌↔◌, ℕ, List, [], ◌∷◌, ◌++◌, Some, T, cond, map, refl, sym, ap, subst, ◌∙◌, append_assoc}
-use Rattle.std.specs.Prelude.{IsTrue}
 use Rattle.std.proofs.lemmas.Cmp.{nat_list_cmp_total}
 use Rattle.std.proofs.lemmas.List.{map-append}
 use Rattle.std.specs.Cmp.{tied_itself}
@@ -77,19 +76,19 @@ abbrev name_of : List ℕ × Given → Name
 name_of e = attribute_name e.0 e.1.def
 
 -- two names are one exactly where the element has two attributes with one name
-pub names_shared : (library : Library) (element : List ℕ) (givens : List (List ℕ × Given)) → IsTrue (is_sorted text_cmp givens) → AreGivensOf library element givens
-    → IsNamedTwice (names_of givens) ↔ SharesName library element
-names_shared library element givens up are = (
+pub names_shared : (library : Library) (element : List ℕ) (givens : List (List ℕ × Given)) → AreGivensOf library element givens → IsNamedTwice (names_of givens) ↔ SharesName library element
+names_shared library element givens are = (
   λ w.
       let s = w.1 in
+      let up = as_T _ are.rising in
       let one = cut_map name_of givens s.before (s.between ++ s.later ∷ s.after) s.first s.parts in
       let other = cut_map name_of one.2 s.between s.after s.later one.6 in
       let whole : givens ≡ one.0 ++ one.1 ∷ (other.0 ++ other.1 ∷ other.2) = one.3 ∙ ap (λ ks. one.0 ++ one.1 ∷ ks) other.3 in
-      let rising = subst (λ es. T (is_sorted text_cmp es)) whole (as_T _ up) in
-      let first_found = subst (λ es. find text_cmp one.1.0 es ≡ Some one.1.1) (sym one.3) (found_in one.0 one.2 one.1 (subst (λ es. T (is_sorted text_cmp es)) one.3 (as_T _ up))) in
+      let rising = subst (λ es. T (is_sorted text_cmp es)) whole up in
+      let first_found = subst (λ es. find text_cmp one.1.0 es ≡ Some one.1.1) (sym one.3) (found_in one.0 one.2 one.1 (subst (λ es. T (is_sorted text_cmp es)) one.3 up)) in
       let later : givens ≡ (one.0 ++ one.1 ∷ other.0) ++ other.1 ∷ other.2 = whole ∙ sym (append_assoc one.0 (one.1 ∷ other.0) (other.1 ∷ other.2)) in
       let later_found =
-      subst (λ es. find text_cmp other.1.0 es ≡ Some other.1.1) (sym later) (found_in (one.0 ++ one.1 ∷ other.0) other.2 other.1 (subst (λ es. T (is_sorted text_cmp es)) later (as_T _ up))) in
+      subst (λ es. find text_cmp other.1.0 es ≡ Some other.1.1) (sym later) (found_in (one.0 ++ one.1 ∷ other.0) other.2 other.1 (subst (λ es. T (is_sorted text_cmp es)) later up)) in
       let less = rise_in one.0 other.0 other.2 one.1 other.1 rising in
       record {
         one = one.1.0;

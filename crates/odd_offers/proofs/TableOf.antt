@@ -87,12 +87,6 @@ own_zipped class edits inherited ident def giver =
     let found = own_found class edits inherited ident in
     (λ h. subst (λ o. StandsAt o def giver) found h, λ h. subst (λ o. StandsAt o def giver) (sym found) h)
 
--- without an edit the table stays
-pub own_unedited : (class : List ℕ) (edits : List (List ℕ × AttEdit)) (inherited : Table) → edits ≡ [] → IsOwnTable class edits inherited inherited
-own_unedited class edits inherited none ident def giver =
-    let same : own_at class (find text_cmp ident edits) (find text_cmp ident inherited) ≡ find text_cmp ident inherited = ap (λ es. own_at class (find text_cmp ident es) (find text_cmp ident inherited)) none in
-    (λ h. subst (λ o. StandsAt o def giver) (sym same) h, λ h. subst (λ o. StandsAt o def giver) same h)
-
 -- the offers of two tables
 united_tells : (one other : Table) (ident : List ℕ) (def : AttDef) (giver : List ℕ) → Tells (united one other) ident def giver ↔ (Tells one ident def giver ⊎ Tells other ident def giver)
 united_tells one other ident def giver =

@@ -1,8 +1,8 @@
 -- What an element offers: at each ident one definition, and of several givers the least.
-use Rattle.std.specs.Prelude.{◌≡◌, ◌↔◌, ℕ, List, [], ◌∷◌, Option, Some, None, if◌then◌else◌}
+use Rattle.std.specs.Prelude.{◌≡◌, ◌↔◌, ℕ, List, [], ◌∷◌, Option, Some, None, IsTrue, if◌then◌else◌}
 use Rattle.std.specs.Option.{option_map}
 use Rattle.std.specs.Ordering.{is_lt}
-use Rattle.std.specs.FinMap.{find}
+use Rattle.std.specs.FinMap.{find, is_sorted}
 use Rattle.odd_text.specs.Text.{text_cmp}
 use Rattle.odd_text.specs.declared.key.Key.{Key}
 use Rattle.odd_overlay.specs.Overlaid.{zipped}
@@ -48,7 +48,8 @@ answer_at (Some (Change fields)) (Some offers) = option_map (changed_given field
 abbrev pub IsAnswer : List (List ℕ × AttEdit) → Table → List (List ℕ × Given) → Type 0
 IsAnswer edits inherited made = made ≡ zipped text_cmp answer_at edits inherited
 
--- the map has exactly what the element offers
+-- the map, by rising idents, has exactly what the element offers
 pub record AreGivensOf (library : Library) (element : List ℕ) (givens : List (List ℕ × Given)) : Type 0 where
+  pub rising : IsTrue (is_sorted text_cmp givens)
   pub each : (ident : List ℕ) (given : Given) → (find text_cmp ident givens ≡ Some given) ↔ IsOfferOf library element ident given.def given.giver
   pub all : (ident : List ℕ) (def : AttDef) (giver : Key) → Offers library (element_key element) ident def giver → (given : Given) × (find text_cmp ident givens ≡ Some given) × (given.def ≡ def)

@@ -15,6 +15,6 @@ pub use clash::clashes;
 pub use given::{Given, Givens, answered};
 pub use links::edits_of;
 pub use making::{own_table, united};
-pub use naming::shares_name;
+pub use naming::{attribute_name, shares_name};
 pub use shared::Shared;
 pub use table::{Offer, Offers, Table};

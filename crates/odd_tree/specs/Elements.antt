@@ -1,4 +1,4 @@
--- What stands in a tree: the elements among the children of an element, and the value of an attribute.
+-- What stands in a tree: the elements among the children of an element, their texts, and the value of an attribute.
 use Rattle.std.specs.Prelude.{◌≡◌, ℕ, Bool, ◌&&◌, if◌then◌else◌, List, [], ◌∷◌, ◌++◌, Option, Some, None}
 use Rattle.odd_text.specs.declared.name.Bind.{Bind}
 use Rattle.odd_tokens.specs.Same.{is_same}
@@ -23,6 +23,20 @@ elements_of (n ∷ ns) = shown_elements (out-Node n) ++ elements_of ns
 
 abbrev pub children_of : Tree → List Tree
 children_of t = elements_of (out-Tree t).children
+
+-- the text that a child is, if it is one
+abbrev pub shown_text : Node-F Node Tree → List ℕ
+shown_text (Element t) = []
+shown_text (Text text) = text
+
+-- the texts among the children, one after the other
+abbrev pub texts_in : List Node → List ℕ
+texts_in [] = []
+texts_in (n ∷ ns) = shown_text (out-Node n) ++ texts_in ns
+
+-- the text of an element, without that of the elements in it
+abbrev pub text_of : Tree → List ℕ
+text_of t = texts_in (out-Tree t).children
 
 -- the attribute has the local name, and no namespace
 abbrev pub is_named : Attr → List ℕ → Bool

@@ -70,6 +70,7 @@ parts_stand g t p h (u ∷ us) e s =
     record {
       is_part = is_part _ _ _ allowed t h root_allowed;
       datatypes = λ value v. same_Some _ _ (sym v ∙ known);
+      has_datatypes = λ h. known;
       start = u;
       before = [];
       after = us;
@@ -81,6 +82,7 @@ parts_stand g t p h (u ∷ us) e s =
       rising = p.rising;
       same = λ name. refl;
       linked = p.linked;
+      sorted = p.sorted;
     }
 
 -- a tree that shows the grammar's elements stands for it

@@ -1,5 +1,5 @@
 -- What the parts of a plain grammar print to: tags whose names and values are of XML.
-use Rattle.std.proofs.Common.{◌≡◌, ℕ, Bool, ◌+◌, ◌<◌, false, List, [], ◌∷◌, ◌++◌, length, get_or, take, map, codes, refl, sym, ap, subst, ◌∙◌, append_assoc, rules, ◌≢◌}
+use Rattle.std.proofs.Common.{◌≡◌, ℕ, Bool, ◌+◌, ◌<◌, true, false, cond, List, [], ◌∷◌, ◌++◌, length, get_or, take, map, codes, refl, sym, ap, subst, ◌∙◌, append_assoc, rules, ◌≢◌}
 use Rattle.std.proofs.lemmas.Bool.{false≢true}
 use Rattle.std.proofs.lemmas.List.{append-nil, map_more}
 use Rattle.std.proofs.lemmas.List.Elements.{All-nil, All-cons, All-head, All-tail}
@@ -10,11 +10,17 @@ use Rattle.odd_tokens.proofs.Characters.{none_twice}
 use Rattle.odd_tokens.specs.Characters.{IsLegal, IsNCName}
 use Rattle.odd_tokens.specs.Same.{is_same}
 use Rattle.odd_tree.proofs.PrintedTrees.{IsNamespace, IsPlainAttribute, IsPlainTag, ArePlain, IsPlain}
-use Rattle.odd_tree.specs.Markup.{Pair, Markup, element, printed, all_printed, attributes_printed}
+use Rattle.odd_tree.specs.Markup.{Pair, Markup, element, line, printed, all_printed, attributes_printed}
 use Rattle.odd_tree.specs.Names.{xml_namespace, xmlns_namespace}
+use Rattle.rng_types.specs.declared.data_type.DataType.{DataType}
+use Rattle.rng_types.specs.declared.data_type.DataType.TheVariants as kind
+use Rattle.rng_types.specs.declared.facet.Facet.{Facet}
+use Rattle.rng_types.specs.declared.facet.FacetName.{FacetName}
+use Rattle.rng_types.specs.declared.facet.FacetName.TheVariants as facet
 use Rattle.rng_patterns.specs.Names.{datatype_library, relax_ng_namespace}
 use Rattle.rng_patterns.specs.declared.grammar.AttrPart.{AttrPart}
 use Rattle.rng_patterns.specs.declared.grammar.AttrPart.TheVariants as attributes
+use Rattle.rng_patterns.specs.declared.grammar.AttrRule.{AttrRule}
 use Rattle.rng_patterns.specs.declared.grammar.Body.{Body}
 use Rattle.rng_patterns.specs.declared.grammar.Body.TheVariants as body
 use Rattle.rng_patterns.specs.declared.grammar.Define.{Define}
@@ -25,8 +31,8 @@ use Rattle.rng_patterns.specs.declared.grammar.Grammar.{Grammar}
 use Rattle.rng_patterns.specs.declared.grammar.NameClass.{NameClass}
 use Rattle.rng_patterns.specs.declared.grammar.NameClass.TheVariants as class
 use Rattle.rng_patterns.specs.declared.grammar.NsPart.{NsPart}
-use Rattle.rng_emit.specs.Grammar.{all_of, except_markup, named, pattern_markup, plain, attributes_markup, body_markup, class_markup, define_markup, name_markup, name_pairs, part_markup, parts_markup, space_markup}
-use Rattle.rng_emit.proofs.Printable.{IsPlainName, ArePlainAttributes, ArePlainPatterns, IsPlainBody, IsPlainClass, IsPlainDefine, IsPlainPart, IsPlainPattern}
+use Rattle.rng_emit.specs.Grammar.{all_of, except_markup, named, pattern_markup, plain, attributes_markup, body_markup, class_markup, define_markup, name_markup, name_pairs, part_markup, parts_markup, space_markup, attribute_markup, facet_name, param_markup, rule_markup, type_name}
+use Rattle.rng_emit.proofs.Printable.{IsPlainName, ArePlainAttributes, ArePlainPatterns, IsPlainBody, IsPlainClass, IsPlainDefine, IsPlainPart, IsPlainPattern, IsPlainRule}
 use Rattle.rng_emit.proofs.Printable as is
 
 -- the element of each pattern
@@ -38,6 +44,16 @@ not_allowed_is = search (rules, E.the_lemmas)
 
 pub text_is : pattern_markup expr.Text ≡ plain (codes "text") []
 text_is = search (rules, E.the_lemmas)
+
+pub typed_is : (k : DataType) (facets : List Facet)
+    → pattern_markup (expr.Typed k facets) ≡ element (codes "data") ((codes "type", type_name k) ∷ []) (all_of (map param_markup facets))
+typed_is k facets = search (rules, E.the_lemmas)
+
+pub same_is : (text : List ℕ) → pattern_markup (expr.Same text) ≡ line (codes "value") [] text
+same_is text = search (rules, E.the_lemmas)
+
+pub list_is : (part : Expr) → pattern_markup (expr.List part) ≡ plain (codes "list") (pattern_markup part ∷ [])
+list_is part = search (rules, E.the_lemmas)
 
 pub ref_is : (name : List ℕ) → pattern_markup (expr.Ref name) ≡ named (codes "ref") name []
 ref_is name = search (rules, E.the_lemmas)
@@ -177,15 +193,18 @@ one_tag tag name value h k apart legal = record {
   once = none_twice (name ∷ []) (tt, tt);
 }
 
-pub element_tag : (name : Name) → IsPlainName name → IsPlainTag (codes "element") ((codes "name", name.local) ∷ (codes "ns", name.ns) ∷ [])
-element_tag name n = record {
-  named = is_name (codes "element") refl;
+full_tag : (tag : List ℕ) → IsTrue (is_ascii_name tag) → (name : Name) → IsPlainName name → IsPlainTag tag ((codes "name", name.local) ∷ (codes "ns", name.ns) ∷ [])
+full_tag tag h name n = record {
+  named = is_name tag h;
   attributed =
       All-cons IsPlainAttribute (codes "name", name.local) ((codes "ns", name.ns) ∷ [])
       (record { named = is_name (codes "name") refl; apart = λ e. cc; legal = ncname_legal name.local n.named })
       (All-cons IsPlainAttribute (codes "ns", name.ns) [] (record { named = is_name (codes "ns") refl; apart = λ e. cc; legal = n.legal }) (All-nil IsPlainAttribute));
   once = none_twice (codes "name" ∷ codes "ns" ∷ []) (((λ e. cc), tt), (tt, tt));
 }
+
+pub element_tag : (name : Name) → IsPlainName name → IsPlainTag (codes "element") ((codes "name", name.local) ∷ (codes "ns", name.ns) ∷ [])
+element_tag name n = full_tag (codes "element") refl name n
 
 pub space_tag : (ns : List ℕ) → IsLegal ns → IsPlainTag (codes "nsName") ((codes "ns", ns) ∷ [])
 space_tag ns legal = one_tag (codes "nsName") (codes "ns") ns refl refl (λ e. cc) legal
@@ -215,12 +234,32 @@ all_plain P f h (x ∷ xs) a = (h x (All-head P x xs a), all_plain P f h xs (All
 by_print : (p : Expr) (m : Markup) → pattern_markup p ≡ m → IsPlain m → IsPlain (pattern_markup p)
 by_print p m e h = subst IsPlain (sym e) h
 
+-- the names of datatypes and of facets are ASCII
+type_legal : (k : DataType) → IsLegal (type_name k)
+type_legal kind.String = ascii_legal _ refl
+type_legal k = ascii_legal _ refl
+
+facet_legal : (name : FacetName) → IsLegal (facet_name name)
+facet_legal facet.Pattern = ascii_legal _ refl
+facet_legal name = ascii_legal _ refl
+
+-- so a `param` is plain, and a `data` with its params
+param_plain : (f : Facet) → IsLegal f.value → IsPlain (param_markup f)
+param_plain f legal = (one_tag (codes "param") (codes "name") (facet_name f.name) refl refl (λ e. cc) (facet_legal f.name), legal)
+
+data_plain : (k : DataType) (facets : List Facet) → is.IsPlainType k facets → IsPlain (element (codes "data") ((codes "type", type_name k) ∷ []) (all_of (map param_markup facets)))
+data_plain k facets p =
+    (one_tag (codes "data") (codes "type") (type_name k) refl refl (λ e. cc) (type_legal k), all_plain (λ f. IsLegal f.value) param_markup param_plain facets p.legal)
+
 -- by what a plain pattern is made of
 mutual
   pattern_plain : (p : Expr) → IsPlainPattern p → IsPlain (pattern_markup p)
   pattern_plain p is.empty = by_print p _ empty_is (bare_tag (codes "empty") refl, tt)
   pattern_plain p is.not_allowed = by_print p _ not_allowed_is (bare_tag (codes "notAllowed") refl, tt)
   pattern_plain p is.text = by_print p _ text_is (bare_tag (codes "text") refl, tt)
+  pattern_plain p (is.typed {k = k} {facets = facets} d) = by_print p _ (typed_is k facets) (data_plain k facets d)
+  pattern_plain p (is.same {text = text} legal) = by_print p _ (same_is text) (bare_tag (codes "value") refl, legal)
+  pattern_plain p (is.list part a e) = by_print p _ (ap pattern_markup e ∙ list_is part) (bare_tag (codes "list") refl, (pattern_plain part a, tt))
   pattern_plain p (is.reference {name = name} n) = by_print p _ (ref_is name) (one_tag (codes "ref") (codes "name") name refl refl (λ e. cc) (ncname_legal name n), tt)
   pattern_plain p (is.group first second more a e) =
       by_print p _ (ap pattern_markup e ∙ group_is (first ∷ second ∷ more)) (bare_tag (codes "group") refl, patterns_plain (first ∷ second ∷ more) a)
@@ -269,11 +308,28 @@ tag_plain (class.One name) p = element_tag name p
 tag_plain (class.AnyBut spaces names) p = bare_tag (codes "element") refl
 tag_plain (class.Within parts) p = bare_tag (codes "element") refl
 
+-- attributes
+
+-- the tag, with a namespace or without one
+attribute_tag : (name : Name) → IsPlainName name → (b : Bool) → IsPlainTag (codes "attribute") ((codes "name", name.local) ∷ cond b [] ((codes "ns", name.ns) ∷ []))
+attribute_tag name n true = one_tag (codes "attribute") (codes "name") name.local refl refl (λ e. cc) (ncname_legal name.local n.named)
+attribute_tag name n false = full_tag (codes "attribute") refl name n
+
+attribute_plain : (rule : AttrRule) → IsPlainRule rule → IsPlain (attribute_markup rule)
+attribute_plain rule p = (attribute_tag rule.name p.named (is_same rule.name.ns []), (pattern_plain rule.value p.value, tt))
+
+rule_plain : (rule : AttrRule) → IsPlainRule rule → IsPlain (rule_markup rule)
+rule_plain rule p = by_need rule.needed
+  where
+    by_need : (b : Bool) → IsPlain (cond b (attribute_markup rule) (plain (codes "optional") (attribute_markup rule ∷ [])))
+    by_need true = attribute_plain rule p
+    by_need false = (bare_tag (codes "optional") refl, (attribute_plain rule p, tt))
+
 -- defines
 
 attributes_plain : (attrs : AttrPart) → ArePlainAttributes attrs → ArePlain (all_of (attributes_markup attrs))
 attributes_plain attributes.AnyAttributes p = ((bare_tag (codes "zeroOrMore") refl, ((bare_tag (codes "attribute") refl, ((bare_tag (codes "anyName") refl, tt), tt)), tt)), tt)
-attributes_plain (attributes.Listed rules) p = subst (λ rs. ArePlain (all_of (attributes_markup (attributes.Listed rs)))) (sym p) tt
+attributes_plain (attributes.Listed rs) p = all_plain IsPlainRule rule_markup rule_plain rs p.0
 
 body_plain : (b : Body) → IsPlainBody b → IsPlain (body_markup b)
 body_plain (body.Element names attrs content) p = (

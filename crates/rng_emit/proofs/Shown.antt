@@ -6,7 +6,7 @@ use Rattle.std.specs.List.{list_all}
 use Rattle.std.specs.Prelude.{All, IsTrue, codes, filter}
 use Rattle.odd_tokens.specs.Same.{is_same}
 use Rattle.odd_tree.proofs.InList.{element_shown, text_shown}
-use Rattle.odd_tree.proofs.PrintedTrees.{AreLines, HasHead, Shows, attr_of, line_break}
+use Rattle.odd_tree.proofs.PrintedTrees.{AreLines, HasHead, Shows, attr_of, line_break, text_nodes}
 use Rattle.odd_tree.specs.Elements.{StandsIn, attribute_value, elements_of, shown_elements, given}
 use Rattle.odd_tree.specs.Markup.{Pair, Markup, element, line, none, more}
 use Rattle.odd_tree.specs.Significant.{is_blank, is_element}
@@ -14,15 +14,18 @@ use Rattle.odd_tree.specs.declared.tree.Attr.{Attr}
 use Rattle.odd_tree.specs.declared.tree.Node.{Node, out-Node, Element}
 use Rattle.odd_tree.specs.declared.tree.Node as N
 use Rattle.odd_tree.specs.declared.tree.Tree.{Tree, out-Tree}
+use Rattle.rng_types.specs.declared.data_type.DataType.{DataType}
+use Rattle.rng_types.specs.declared.facet.Facet.{Facet}
 use Rattle.rng_patterns.proofs.SchemaTrees.{element_passes}
-use Rattle.rng_patterns.specs.Denoting.{IsLeaf, IsNamed, IsPart, parts_of, AreOnePattern, ArePatterns, IsPattern, IsStart}
+use Rattle.rng_patterns.specs.Denoting.{IsLeaf, IsNamed, IsPart, parts_of, AreOnePattern, AreParams, ArePatterns, HasText, IsData, IsParam, IsPattern, IsSame, IsStart}
 use Rattle.rng_patterns.specs.Denoting as denoting
 use Rattle.rng_patterns.specs.Names.{relax_ng_namespace}
 use Rattle.rng_patterns.specs.declared.grammar.Expr.{Expr}
-use Rattle.rng_emit.proofs.Shapes.{choice_is, empty_is, group_is, not_allowed_is, one_or_more_is, optional_is, ref_is, text_is, zero_or_more_is}
-use Rattle.rng_emit.specs.Grammar.{all_of, named, pattern_markup, plain}
+use Rattle.rng_emit.proofs.Shapes.{choice_is, empty_is, group_is, list_is, not_allowed_is, one_or_more_is, optional_is, ref_is, same_is, text_is, typed_is, zero_or_more_is}
+use Rattle.rng_emit.proofs.ShownTypes.{param_of, params_of, printed_item, printed_sound, reads}
+use Rattle.rng_emit.specs.Grammar.{all_of, facet_name, named, param_markup, pattern_markup, plain, type_name}
 use Rattle.rng_emit.proofs.Printable as is
-use Rattle.rng_emit.proofs.Printable.{ArePlainPatterns, IsPlainPattern}
+use Rattle.rng_emit.proofs.Printable.{ArePlainPatterns, IsPlainPattern, IsPlainType}
 
 -- the trees show the elements, one each in order
 abbrev pub AreShown : List Markup → List Tree → Type 0
@@ -160,12 +163,62 @@ lone p [] f s = absurd s
 lone p (t ∷ []) f s = denoting.more (f t s.0) denoting.none
 lone p (t ∷ u ∷ ts) f s = absurd s.1
 
+-- a text is that of its nodes
+has_text : (text : List ℕ) → HasText (text_nodes text) text
+has_text [] = denoting.nothing
+has_text (c ∷ cs) = denoting.text
+
+same_shown : (text : List ℕ) (t : Tree) → Shows relax_ng_namespace (line (codes "value") [] text) t → IsSame t text
+same_shown text t s = record {
+  is_named = named_so (codes "value") [] [] t s.0 (no_attribute []);
+  written = subst (λ ns. HasText ns text) (sym s.1) (has_text text);
+}
+
+-- a facet, and each of some
+param_shown : (f : Facet) (t : Tree) → Shows relax_ng_namespace (param_markup f) t → IsParam t (param_of f)
+param_shown f t s =
+    let pairs : List Pair = (codes "name", facet_name f.name) ∷ [] in
+    record {
+      is_named = named_so (codes "param") pairs (codes "name" ∷ []) t s.0 (one_attribute (codes "name") (facet_name f.name));
+      named = value_in (codes "param") pairs t (codes "name") s.0;
+      written = subst (λ ns. HasText ns f.value) (sym s.1) (has_text f.value);
+    }
+
+params_shown : (fs : List Facet) (ts : List Tree) → AreShown (map param_markup fs) ts → AreParams ts (params_of fs)
+params_shown [] [] s = denoting.none
+params_shown [] (t ∷ ts) s = absurd s
+params_shown (f ∷ fs) [] s = absurd s
+params_shown (f ∷ fs) (t ∷ ts) s = denoting.more (param_shown f t s.0) (params_shown fs ts s.1)
+
+-- a datatype with its facets
+data_shown : (k : DataType) (fs : List Facet) (t : Tree) → IsPlainType k fs
+    → Shows relax_ng_namespace (element (codes "data") ((codes "type", type_name k) ∷ []) (all_of (map param_markup fs))) t → IsData t k fs
+data_shown k fs t p s =
+    let pairs : List Pair = (codes "type", type_name k) ∷ [] in
+    let h = shown (codes "data") pairs (map param_markup fs) t s in
+    record {
+      is_part = is_part _ _ _ (codes "type" ∷ []) t h (one_attribute (codes "type") (type_name k));
+      type = type_name k;
+      typed = value_in (codes "data") pairs t (codes "type") h.head;
+      params = params_of fs;
+      are_params = params_shown fs (parts_of t) h.parts;
+      sound = printed_sound k fs p;
+      kind = k;
+      item = printed_item k fs p;
+      read = reads k fs p;
+    }
+
 -- by what a plain pattern is made of
 mutual
   pub pattern_shown : (p : Expr) (t : Tree) → IsPlainPattern p → Shows relax_ng_namespace (pattern_markup p) t → IsPattern t p
   pattern_shown p t is.empty s = denoting.empty (leaf_shown (codes "empty") [] [] t (as_printed p _ t empty_is s) (no_attribute []))
   pattern_shown p t is.not_allowed s = denoting.not_allowed (leaf_shown (codes "notAllowed") [] [] t (as_printed p _ t not_allowed_is s) (no_attribute []))
   pattern_shown p t is.text s = denoting.text (leaf_shown (codes "text") [] [] t (as_printed p _ t text_is s) (no_attribute []))
+  pattern_shown p t (is.typed {k = k} {facets = facets} d) s = denoting.data_of (data_shown k facets t d (as_printed p _ t (typed_is k facets) s))
+  pattern_shown p t (is.same {text = text} legal) s = denoting.value (same_shown text t (as_printed p _ t (same_is text) s))
+  pattern_shown p t (is.list part a e) s =
+      let h = holds_parts (codes "list") (pattern_markup part ∷ []) t (as_printed p _ t (ap pattern_markup e ∙ list_is part) s) in
+      denoting.list part [] h.is_part (lone part (parts_of t) (λ u. pattern_shown part u a) h.parts) e
   pattern_shown p t (is.reference {name = name} n) s =
       let k : Shows relax_ng_namespace (named (codes "ref") name []) t = as_printed p _ t (ref_is name) s in
       denoting.reference (leaf_shown (codes "ref") ((codes "name", name) ∷ []) (codes "name" ∷ []) t k (one_attribute (codes "name") name))

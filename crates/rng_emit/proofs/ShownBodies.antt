@@ -1,23 +1,26 @@
 -- The trees of a grammar's printed name classes and defines.
-use Rattle.std.proofs.Common.{◌≡◌, ◌≢◌, ℕ, List, [], ◌∷◌, ◌++◌, map, refl, sym, ap, subst, ◌∙◌, Some}
+use Rattle.std.proofs.Common.{◌≡◌, ◌≢◌, ℕ, Bool, true, false, cond, List, [], ◌∷◌, ◌++◌, map, refl, sym, ap, subst, ◌∙◌, Some}
 use Rattle.std.proofs.lemmas.Bool.{false≢true}
 use Rattle.std.proofs.lemmas.List.Elements.{All-head, All-tail, All-cons}
+use Rattle.std.specs.Cmp.Lexicographic.{same_text}
 use Rattle.std.specs.Prelude.{All, IsTrue, codes, unwrap_or}
 use Rattle.std.specs.Str.{encode_utf8_all}
 use Rattle.odd_text.specs.declared.name.Name.{Name}
 use Rattle.odd_tokens.proofs.Characters.{some_encoded}
 use Rattle.odd_tokens.specs.Characters.{IsNCName, is_ncname}
 use Rattle.odd_tokens.specs.Lexing.{is_empty}
-use Rattle.odd_tree.proofs.PrintedTrees.{HasHead, Shows, text_nodes}
-use Rattle.odd_tree.specs.Elements.{given}
-use Rattle.odd_tree.specs.Markup.{Markup, Pair}
+use Rattle.odd_tokens.specs.Same.{is_same}
+use Rattle.odd_tree.proofs.PrintedTrees.{HasHead, Shows, attr_of, text_nodes}
+use Rattle.odd_tree.specs.Elements.{attribute_value, given}
+use Rattle.odd_tree.specs.Markup.{Markup, Pair, element}
 use Rattle.odd_tree.specs.declared.tree.Node.{Text}
 use Rattle.odd_tree.specs.declared.tree.Tree.{Tree}
 use Rattle.rng_patterns.specs.Denoting as denoting
-use Rattle.rng_patterns.specs.Denoting.{AreExcepted, AreSpaceParts, HasExcept, IsNameClass, IsNameOf, IsSpaceOf, IsSpacePart, parts_of, AreDefines, AreOnePattern, HasAttributes, HasNames, IsAnyAttributes, IsBody, IsDefine, IsElementOf, IsPart}
+use Rattle.rng_patterns.specs.Denoting.{AreExcepted, AreSpaceParts, HasExcept, IsNameClass, IsNameOf, IsSpaceOf, IsSpacePart, parts_of, AreDefines, AreOnePattern, HasAttributes, HasNames, IsAnyAttributes, IsBody, IsDefine, IsElementOf, IsPart, AreRules, HoldsValue, IsAttribute, IsRule}
 use Rattle.rng_patterns.specs.Names.{relax_ng_namespace}
 use Rattle.rng_patterns.specs.declared.grammar.AttrPart.{AttrPart}
 use Rattle.rng_patterns.specs.declared.grammar.AttrPart.TheVariants as attributes
+use Rattle.rng_patterns.specs.declared.grammar.AttrRule.{AttrRule}
 use Rattle.rng_patterns.specs.declared.grammar.Body.{Body}
 use Rattle.rng_patterns.specs.declared.grammar.Body.TheVariants as body
 use Rattle.rng_patterns.specs.declared.grammar.Define.{Define}
@@ -25,9 +28,9 @@ use Rattle.rng_patterns.specs.declared.grammar.Expr.{Expr}
 use Rattle.rng_patterns.specs.declared.grammar.NameClass.{NameClass}
 use Rattle.rng_patterns.specs.declared.grammar.NameClass.TheVariants as class
 use Rattle.rng_patterns.specs.declared.grammar.NsPart.{NsPart}
-use Rattle.rng_emit.proofs.Shown.{AreShown, IsShown, is_part, leaf_shown, named_so, shown, value_in, HoldsParts, holds_parts, one_attribute, one_part, Allows, no_attribute, one_pattern}
-use Rattle.rng_emit.specs.Grammar.{except_markup, name_markup, part_markup, parts_markup, plain, space_markup, any_attributes, attributes_markup, body_markup, define_markup, pattern_markup}
-use Rattle.rng_emit.proofs.Printable.{IsPlainName, IsPlainPart, ArePlainAttributes, IsPlainBody, IsPlainClass, IsPlainDefine, IsPlainPattern}
+use Rattle.rng_emit.proofs.Shown.{AreShown, IsShown, is_part, leaf_shown, named_so, shown, value_in, HoldsParts, holds_parts, one_attribute, one_part, Allows, no_attribute, one_pattern, pattern_shown}
+use Rattle.rng_emit.specs.Grammar.{all_of, attribute_markup, except_markup, name_markup, part_markup, parts_markup, plain, space_markup, any_attributes, attributes_markup, body_markup, define_markup, pattern_markup, rule_markup}
+use Rattle.rng_emit.proofs.Printable.{IsPlainName, IsPlainPart, ArePlainAttributes, IsPlainBody, IsPlainClass, IsPlainDefine, IsPlainPattern, IsPlainRule}
 
 -- the namespace that an element gives
 space_given : (default tag ns : List ℕ) (t : Tree) → HasHead relax_ng_namespace tag ((codes "ns", ns) ∷ []) t → ns ≡ unwrap_or (given t (codes "ns")) default
@@ -139,6 +142,12 @@ pair_allowed name =
     All-cons (Allows allowed) (codes "name", name.local) ((codes "ns", name.ns) ∷ []) ([], codes "ns" ∷ [], refl)
     (All-cons (Allows allowed) (codes "ns", name.ns) [] (codes "name" ∷ [], [], refl) (no_attribute allowed))
 
+-- the pattern of an attribute's value
+value_shown : (p : Expr) (ts : List Tree) → IsPlainPattern p → AreShown (pattern_markup p ∷ []) ts → HoldsValue ts p
+value_shown p [] a s = absurd s
+value_shown p (t ∷ []) a s = denoting.pattern (pattern_shown p t a s.0)
+value_shown p (t ∷ u ∷ ts) a s = absurd s.1
+
 -- any attributes
 any_attributes_shown : (t : Tree) → Shows relax_ng_namespace any_attributes t → IsAnyAttributes t
 any_attributes_shown t s =
@@ -160,6 +169,60 @@ any_attributes_shown t s =
       holds = denoting.nothing;
     }
 
+-- an attribute, by the pairs of its tag
+abbrev attribute_of : AttrRule → List Pair → Markup
+attribute_of rule pairs = element (codes "attribute") pairs (all_of (pattern_markup rule.value ∷ []))
+
+by_pairs : (rule : AttrRule) (t : Tree) (pairs : List Pair) → IsPlainRule rule → All (Allows allowed) pairs
+    → attribute_value (map attr_of pairs) (codes "name") ≡ Some rule.name.local
+    → rule.name.ns ≡ unwrap_or (attribute_value (map attr_of pairs) (codes "ns")) [] → Shows relax_ng_namespace (attribute_of rule pairs) t → IsAttribute t rule.name rule.value
+by_pairs rule t pairs p allow name space s =
+    let h = shown (codes "attribute") pairs (pattern_markup rule.value ∷ []) t s in
+    record {
+      is_part = is_part _ _ _ allowed t h allow;
+      named = record { is_given = value_in (codes "attribute") pairs t (codes "name") h.head ∙ name; is_ncname = p.named.named };
+      space = space ∙ ap (λ o. unwrap_or o []) (sym (value_in (codes "attribute") pairs t (codes "ns") h.head));
+      holds = value_shown rule.value (parts_of t) p.value h.parts;
+    }
+
+-- it has a namespace where that is not empty
+attribute_shown : (rule : AttrRule) (t : Tree) → IsPlainRule rule → Shows relax_ng_namespace (attribute_markup rule) t → IsAttribute t rule.name rule.value
+attribute_shown rule t p s = by_space (is_same rule.name.ns []) refl s
+  where
+    name : Pair
+    name = (codes "name", rule.name.local)
+
+    by_space : (b : Bool) → is_same rule.name.ns [] ≡ b → Shows relax_ng_namespace (attribute_of rule (name ∷ cond b [] ((codes "ns", rule.name.ns) ∷ []))) t
+        → IsAttribute t rule.name rule.value
+    by_space true e k =
+        by_pairs rule t (name ∷ []) p (All-cons (Allows allowed) name [] ([], codes "ns" ∷ [], refl) (no_attribute allowed)) refl (same_text rule.name.ns [] (sym e)) k
+    by_space false e k = by_pairs rule t (name ∷ (codes "ns", rule.name.ns) ∷ []) p (pair_allowed rule.name) refl refl k
+
+-- a rule, by whether the attribute is needed
+rule_shown : (rule : AttrRule) (t : Tree) → IsPlainRule rule → Shows relax_ng_namespace (rule_markup rule) t → IsRule t rule
+rule_shown rule t p s = by_need rule.needed s
+  where
+    by_need : (b : Bool) → Shows relax_ng_namespace (cond b (attribute_markup rule) (plain (codes "optional") (attribute_markup rule ∷ []))) t
+        → IsRule t (record { name = rule.name; needed = b; value = rule.value })
+    by_need true k = denoting.needed (attribute_shown rule t p k)
+    by_need false k =
+        let h = holds_parts (codes "optional") (attribute_markup rule ∷ []) t k in
+        let one = one_part (attribute_markup rule) (parts_of t) h.parts in
+        denoting.optional one.inside h.is_part one.alone (attribute_shown rule one.inside p one.shows)
+
+-- rules, and what is printed behind them
+record HasRules (rules : List AttrRule) (ms : List Markup) (ts : List Tree) : Type 0 where
+  rest : List Tree
+  are : AreRules ts rules rest
+  shown : AreShown ms rest
+
+rules_shown : (rules : List AttrRule) (ms : List Markup) (ts : List Tree) → All IsPlainRule rules → AreShown (map rule_markup rules ++ ms) ts → HasRules rules ms ts
+rules_shown [] ms ts p s = record { rest = ts; are = denoting.none; shown = s }
+rules_shown (rule ∷ rules) ms [] p s = absurd s
+rules_shown (rule ∷ rules) ms (t ∷ ts) p s =
+    let h = rules_shown rules ms ts (All-tail IsPlainRule rule rules p) s.1 in
+    record { rest = h.rest; are = denoting.more (rule_shown rule t (All-head IsPlainRule rule rules p) s.0) h.are; shown = h.shown }
+
 -- attributes and content, behind the names
 record HasRest (attrs : AttrPart) (content : Expr) (ts : List Tree) : Type 0 where
   inside : List Tree
@@ -172,11 +235,9 @@ rest_shown : (attrs : AttrPart) (content : Expr) (ts : List Tree) → ArePlainAt
 rest_shown attributes.AnyAttributes content [] a p s = absurd s
 rest_shown attributes.AnyAttributes content (t ∷ ts) a p s =
     record { inside = ts; has_attributes = denoting.any (any_attributes_shown t s.0); holds = one_pattern content ts p s.1 }
-rest_shown (attributes.Listed rules) content ts a p s = record {
-  inside = ts;
-  has_attributes = subst (λ rs. HasAttributes ts (attributes.Listed rs) ts) (sym a) denoting.none;
-  holds = one_pattern content ts p (subst (λ rs. AreShown (attributes_markup (attributes.Listed rs) ++ pattern_markup content ∷ []) ts) a s);
-}
+rest_shown (attributes.Listed rules) content ts a p s =
+    let h = rules_shown rules (pattern_markup content ∷ []) ts a.0 s in
+    record { inside = h.rest; has_attributes = denoting.listed h.are a.1; holds = one_pattern content h.rest p h.shown }
 
 -- an `element`
 module _ (default : List ℕ) (attrs : AttrPart) (content : Expr) (a : ArePlainAttributes attrs) (p : IsPlainPattern content) (t : Tree) where

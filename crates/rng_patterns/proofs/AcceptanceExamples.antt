@@ -11,6 +11,7 @@ use Rattle.odd_tree.specs.declared.tree.Tree as T
 use Rattle.odd_tree.specs.declared.tree.Tree.{Tree}
 use Rattle.rng_patterns.proofs.OnePattern.{ref_shown, told}
 use Rattle.rng_patterns.specs.Acceptance.{Accepts, IsAcceptedBy, IsAcceptedWithin, IsInClass}
+use Rattle.rng_patterns.specs.Acceptance as acceptance
 use Rattle.rng_patterns.specs.Patterns as patterns
 use Rattle.rng_patterns.specs.Patterns.{IsDefined, IsMatched}
 use Rattle.rng_patterns.specs.declared.grammar.AttrPart.TheVariants as attributes
@@ -62,16 +63,14 @@ b_accepted = record {
   defined = (define (codes "a") (expr.OneOrMore ref_b) ∷ [], [], refl);
   named = refl;
   attributed = record { ruled = All-nil _; complete = All-nil _ };
-  children = [];
-  significant = whole refl;
-  matched = patterns.empty;
+  holds = acceptance.children [] (whole refl) patterns.empty;
 }
 
 b_counts : IsMatched nested (IsAcceptedWithin 1 nested) ref_b (Element b ∷ [])
-b_counts = patterns.element (record { names = _; attrs = _; content = _; defined = (define (codes "a") (expr.OneOrMore ref_b) ∷ [], [], refl) }) refl b_accepted
+b_counts = patterns.leaf (patterns.element (record { names = _; attrs = _; content = _; defined = (define (codes "a") (expr.OneOrMore ref_b) ∷ [], [], refl) }) refl b_accepted)
 
 branch_accepted : Accepts nested branch
-branch_accepted = patterns.element (record { names = _; attrs = _; content = _; defined = ([], _, refl) }) refl
+branch_accepted = patterns.leaf (patterns.element (record { names = _; attrs = _; content = _; defined = ([], _, refl) }) refl
     (subst (λ n. IsAcceptedWithin n nested branch (codes "a")) (sym branch_depth) (record {
       names = class.One (in_none (codes "a"));
       attrs = attributes.Listed [];
@@ -79,10 +78,9 @@ branch_accepted = patterns.element (record { names = _; attrs = _; content = _; 
       defined = ([], define (codes "b") expr.Empty ∷ [], refl);
       named = refl;
       attributed = record { ruled = All-nil _; complete = All-nil _ };
-      children = Element b ∷ Element b ∷ [];
-      significant = both_count;
-      matched = patterns.one_or_more 1 refl (patterns.again (Element b ∷ []) (Element b ∷ []) refl b_counts (patterns.again (Element b ∷ []) [] refl b_counts patterns.none));
-    }))
+      holds = acceptance.children (Element b ∷ Element b ∷ []) both_count
+          (patterns.one_or_more 1 refl (patterns.again (Element b ∷ []) (Element b ∷ []) refl b_counts (patterns.again (Element b ∷ []) [] refl b_counts patterns.none)));
+    })))
 
 -- a `b` is no `a`
 

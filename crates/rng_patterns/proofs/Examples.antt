@@ -63,10 +63,10 @@ other_name t u name e same n = apart (out-Tree t).name.local name e (ap (λ (x :
 -- a reference to an element matches one of the name
 
 pub a_matched : Matches ref_a (Element a ∷ [])
-a_matched = patterns.element (record { names = _; attrs = _; content = _; defined = ([], _, refl) }) refl refl
+a_matched = patterns.leaf (patterns.element (record { names = _; attrs = _; content = _; defined = ([], _, refl) }) refl refl)
 
 pub b_matched : Matches ref_b (Element b ∷ [])
-b_matched = patterns.element (record { names = _; attrs = _; content = _; defined = (define (codes "a") expr.Empty ∷ [], _, refl) }) refl refl
+b_matched = patterns.leaf (patterns.element (record { names = _; attrs = _; content = _; defined = (define (codes "a") expr.Empty ∷ [], _, refl) }) refl refl)
 
 -- no define but `part` holds no element
 record IsPartOfTwo (name : List ℕ) (p : Expr) : Type 0 where

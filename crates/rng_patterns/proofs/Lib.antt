@@ -5,10 +5,14 @@ pub mod ElementExamples
 pub mod Examples
 pub mod LinkedExamples
 pub mod NoSchemaExamples
+pub mod OneData
 pub mod OneGrammar
 pub mod OnePattern
 pub mod RepeatExamples
 pub mod RuleExamples
 pub mod SchemaExamples
 pub mod SchemaTrees
+pub mod SortLaws
+pub mod ValueExamples
+pub mod Values
 pub mod Weighing

@@ -1,5 +1,6 @@
 -- References of a schema: one without a define, and defines that lead back to themselves.
-use Rattle.std.proofs.Common.{◌≡◌, ℕ, List, [], ◌∷◌, map, None, refl, sym, ap, subst, ◌∙◌, codes}
+use Rattle.std.proofs.Common.{◌≡◌, ℕ, List, [], ◌∷◌, map, None, inl, refl, sym, ap, subst, ◌∙◌, codes}
+use Rattle.std.proofs.lemmas.List.Elements.{All-nil}
 use Rattle.std.specs.FinMap.{find}
 use Rattle.odd_text.specs.Text.{text_cmp}
 use Rattle.odd_tree.proofs.InList.{nothing_stands, only_item, stands_first}
@@ -14,9 +15,13 @@ use Rattle.rng_patterns.proofs.SchemaTrees.{bare_part, define, define_is, elemen
 use Rattle.rng_patterns.specs.Denoting as denoting
 use Rattle.rng_patterns.specs.Denoting.{Denotes, IsDefine, StandsFor, entry_of}
 use Rattle.rng_patterns.specs.Linked as linked
-use Rattle.rng_patterns.specs.Linked.{IsLinked, Reaches, RefersTo, names_of, pattern_of}
+use Rattle.rng_patterns.proofs.SortLaws.{no_data_within}
+use Rattle.rng_patterns.specs.Linked.{IsLinked, Reaches, RefersTo, names_of, patterns_of}
+use Rattle.rng_patterns.specs.Sorts as sorts
+use Rattle.rng_patterns.specs.Sorts.{IsOfBody, IsOfChildren, IsOfRule, IsSorted}
 use Rattle.rng_patterns.specs.declared.grammar.Body.TheVariants as body
 use Rattle.rng_patterns.specs.declared.grammar.Define.{Define}
+use Rattle.rng_patterns.specs.declared.grammar.Expr.{Expr}
 use Rattle.rng_patterns.specs.declared.grammar.Expr.TheVariants as expr
 use Rattle.rng_patterns.specs.declared.grammar.Grammar.{Grammar}
 
@@ -104,8 +109,20 @@ inside_itself = record { start = expr.Ref (codes "a"); defines = record { name =
 abbrev itself_parts : List Tree
 itself_parts = start (codes "a") ∷ define (codes "a") (element (codes "a") (ref (codes "a"))) ∷ []
 
+only_pattern : (d : Define) (p : Expr) → StandsIn inside_itself.defines d → StandsIn (patterns_of d.body) p → p ≡ expr.Ref (codes "a")
+only_pattern d p s k = only_item _ _ (subst (λ (x : Define). StandsIn (patterns_of x.body) p) (only_item _ _ s) k)
+
+itself_sort : IsOfChildren inside_itself (expr.Ref (codes "a"))
+itself_sort = sorts.element (record { names = _; attrs = _; content = _; defined = ([], [], refl) })
+
+itself_sorted : IsSorted inside_itself
+itself_sorted = record {
+  start = itself_sort;
+  defines = λ d s. subst (λ (x : Define). IsOfBody inside_itself x.body) (sym (only_item _ _ s)) (All-nil (IsOfRule inside_itself), inl itself_sort);
+}
+
 itself_linked : IsLinked inside_itself
-itself_linked = record { start = λ name r. first_defined name r; patterns = λ name d s r. first_defined name (subst (λ (x : Define). RefersTo name (pattern_of x.body)) (only_item _ _ s) r); apart = λ name r. no_round name name r }
+itself_linked = record { start = λ name r. first_defined name r; patterns = λ name d p s k r. first_defined name (subst (RefersTo name) (only_pattern d p s k) r); apart = λ name r. no_round name name r }
   where
     first_defined : (name : List ℕ) → RefersTo name (expr.Ref (codes "a")) → StandsIn (codes "a" ∷ []) name
     first_defined name r = subst (StandsIn (codes "a" ∷ [])) (sym (only_ref name (codes "a") r)) (stands_first _ _)
@@ -118,6 +135,7 @@ itself_stands : StandsFor (rng (codes "grammar") [] itself_parts) inside_itself
 itself_stands = record {
   is_part = bare_part (codes "grammar") (codes "ns" ∷ codes "datatypeLibrary" ∷ []) itself_parts;
   datatypes = λ value e. not_given value e;
+  has_datatypes = λ h. absurd (no_data_within inside_itself h.within (subst (IsOfChildren inside_itself) (sym (only_pattern h.define h.pattern h.among h.of_define)) itself_sort));
   start = start (codes "a");
   before = [];
   after = define (codes "a") (element (codes "a") (ref (codes "a"))) ∷ [];
@@ -130,4 +148,5 @@ itself_stands = record {
   rising = refl;
   same = λ name. refl;
   linked = itself_linked;
+  sorted = itself_sorted;
 }

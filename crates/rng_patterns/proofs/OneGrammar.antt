@@ -1,5 +1,5 @@
 -- An element of a schema, a tree and bytes stand for one thing.
-use Rattle.std.proofs.Common.{◌≡◌, ℕ, List, [], ◌∷◌, codes, unwrap_or, refl, sym, ap, subst, ◌∙◌, rules, ◌++◌, map}
+use Rattle.std.proofs.Common.{◌≡◌, ℕ, true, false, List, [], ◌∷◌, codes, unwrap_or, refl, sym, ap, subst, ◌∙◌, rules, ◌++◌, map}
 use Rattle.std.proofs.lemmas.Cmp.{nat_list_cmp_total}
 use Rattle.std.specs.FinMap.{find, is_sorted, slice_cmp-IsAntisymmetric, nat_cmp-IsAntisymmetric}
 use Rattle.std.specs.Prelude.{IsTrue}
@@ -7,15 +7,16 @@ use Rattle.odd_reader.proofs.Refusing.{one_tree}
 use Rattle.odd_text.proofs.Entries.{same_map}
 use Rattle.odd_text.specs.Text.{text_cmp}
 use Rattle.odd_text.specs.declared.name.Name.{Name}
-use Rattle.odd_tree.specs.Elements.{given}
-use Rattle.odd_tree.specs.declared.tree.Node.{Node, Node-F, out-Node, Text}
+use Rattle.odd_tree.specs.Elements.{given, shown_text}
+use Rattle.odd_tree.specs.declared.tree.Node.{out-Node, Text}
 use Rattle.odd_tree.specs.declared.tree.Node as N
-use Rattle.odd_tree.specs.declared.tree.Node.TheOpen as shown
 use Rattle.odd_tree.specs.declared.tree.Tree.{Tree}
 use Rattle.rng_patterns.proofs.OnePattern.{no_pattern, one_given, one_together, first_pattern, pattern_inside, two_names, one_pattern}
-use Rattle.rng_patterns.specs.Denoting.{AreExcepted, AreOnePattern, AreSpaceParts, HasAttributes, HasExcept, HasNames, IsAnyAttributes, IsElementOf, IsNameClass, IsNameOf, IsPattern, IsSpacePart, parts_of, AreDefines, Denotes, IsBody, IsDefine, IsStart, StandsFor, entry_of}
+use Rattle.rng_patterns.specs.Denoting.{AreExcepted, AreOnePattern, AreSpaceParts, AreRules, HasAttributes, HasExcept, HasNames, HoldsValue, IsAnyAttributes, IsAttribute, IsElementOf, IsNameClass, IsNameOf, IsPattern, IsPart, IsRule, IsSpacePart, parts_of, AreDefines, Denotes, IsBody, IsDefine, IsStart, StandsFor, entry_of}
 use Rattle.rng_patterns.specs.Denoting as denoting
 use Rattle.rng_patterns.specs.declared.grammar.AttrPart.{AttrPart}
+use Rattle.rng_patterns.specs.declared.grammar.AttrPart.TheVariants as attributes
+use Rattle.rng_patterns.specs.declared.grammar.AttrRule.{AttrRule}
 use Rattle.rng_patterns.specs.declared.grammar.Body.{Body}
 use Rattle.rng_patterns.specs.declared.grammar.Body.TheVariants as body
 use Rattle.rng_patterns.specs.declared.grammar.Define.{Define}
@@ -24,11 +25,6 @@ use Rattle.rng_patterns.specs.declared.grammar.Grammar.{Grammar}
 use Rattle.rng_patterns.specs.declared.grammar.NameClass.{NameClass}
 use Rattle.rng_patterns.specs.declared.grammar.NameClass.TheVariants as class
 use Rattle.rng_patterns.specs.declared.grammar.NsPart.{NsPart}
-
--- the text of a node
-abbrev shown_text : Node-F Node Tree → List ℕ
-shown_text (shown.Element t) = []
-shown_text (shown.Text text) = text
 
 -- a text shows itself
 text_is_shown : (text : List ℕ) → shown_text (out-Node (Text text)) ≡ text
@@ -111,22 +107,83 @@ module _ (default : List ℕ) where
       let rest : ts ≡ us = cc in
       record { same_class = one_class other n m (subst (λ u. IsNameClass default u n) first h) k; same_rest = rest }
 
--- an attribute is no pattern of content, and so what stands for any attributes is none
+-- an attribute is no pattern
+no_attribute : (t : Tree) (p : Expr) (allowed : List (List ℕ)) → IsPart (codes "attribute") allowed t → IsPattern t p → ⊥
+no_attribute t p allowed h k = no_pattern t p (codes "attribute") (h.is_named.named, refl, refl) (λ parts. refl) k
+
+-- and so what stands for any attributes is none
 no_content : (t : Tree) (p : Expr) → IsAnyAttributes t → IsPattern t p → ⊥
 no_content t p h k =
-    let inside = pattern_inside t h.attribute [] p h.alone k in
-    no_pattern h.attribute inside.0 (codes "attribute") h.is_attribute.is_named.named (λ parts. refl) inside.1
+    let inside = pattern_inside t h.attribute [] p (codes "zeroOrMore") (h.is_part.is_named.named, refl, refl) h.alone k in
+    no_attribute h.attribute inside.0 _ h.is_attribute inside.1
+
+-- nor is a rule
+no_rule : (t : Tree) (rule : AttrRule) (p : Expr) → IsRule t rule → IsPattern t p → ⊥
+no_rule t rule p (denoting.needed h) k = no_attribute t p _ h.is_part k
+no_rule t rule p (denoting.optional attribute h e a) k =
+    let inside = pattern_inside t attribute [] p (codes "optional") (h.is_named.named, refl, refl) e k in
+    no_attribute attribute inside.0 _ a.is_part inside.1
+
+-- what an attribute holds is one pattern
+one_value : (ts : List Tree) (p q : Expr) → HoldsValue ts p → HoldsValue ts q → p ≡ q
+one_value ts p q denoting.nothing denoting.nothing = refl
+one_value ts p q (denoting.pattern h) (denoting.pattern k) = one_pattern _ p q h k
+
+-- the name of an attribute, and the pattern of its value
+record IsSameAttribute (n m : Name) (p q : Expr) : Type 0 where
+  same_name : n ≡ m
+  same_value : p ≡ q
+
+one_attribute : (t : Tree) (n m : Name) (p q : Expr) → IsAttribute t n p → IsAttribute t m q → IsSameAttribute n m p q
+one_attribute t n m p q h k =
+    let locals : n.local ≡ m.local = one_given t n.local m.local h.named k.named in
+    let spaces : n.ns ≡ m.ns = h.space ∙ sym k.space in
+    record { same_name = λ i. record { ns = spaces i; local = locals i }; same_value = one_value (parts_of t) p q h.holds k.holds }
+
+-- an element is one rule
+one_rule : (t : Tree) (r s : AttrRule) → IsRule t r → IsRule t s → r ≡ s
+one_rule t r s (denoting.needed h) (denoting.needed k) =
+    let same = one_attribute t _ _ _ _ h k in λ i. record { name = same.same_name i; needed = true; value = same.same_value i }
+one_rule t r s (denoting.needed h) (denoting.optional attribute k e a) = two_names t (codes "attribute") (codes "optional") _ _ refl h.is_part.is_named k.is_named
+one_rule t r s (denoting.optional attribute h e a) (denoting.needed k) = two_names t (codes "optional") (codes "attribute") _ _ refl h.is_named k.is_part.is_named
+one_rule t r s (denoting.optional {name = n} {value = p} attribute h e a) (denoting.optional {name = m} {value = q} other k f b) =
+    let both : attribute ∷ [] ≡ other ∷ [] = sym e ∙ f in
+    let inner : attribute ≡ other = cc in
+    let same = one_attribute other n m p q (subst (λ u. IsAttribute u n p) inner a) b in
+    λ i. record { name = same.same_name i; needed = false; value = same.same_value i }
+
+-- rules, and what is left
+record AreSameRules (rs ss : List AttrRule) (ts us : List Tree) : Type 0 where
+  same_rules : rs ≡ ss
+  same_left : ts ≡ us
+
+-- before a content stand one list of rules
+one_rules : (all ts us : List Tree) (rs ss : List AttrRule) (p q : Expr) → AreRules all rs ts → AreRules all ss us → AreOnePattern ts p → AreOnePattern us q → AreSameRules rs ss ts us
+one_rules all ts us rs ss p q denoting.none denoting.none f g = record { same_rules = refl; same_left = refl }
+one_rules all ts us rs ss p q denoting.none (denoting.more k ks) f g = let first = first_pattern _ _ _ _ refl f.are in absurd (no_rule _ _ first.0 k first.1)
+one_rules all ts us rs ss p q (denoting.more h hs) denoting.none f g = let first = first_pattern _ _ _ _ refl g.are in absurd (no_rule _ _ first.0 h first.1)
+one_rules all ts us rs ss p q (denoting.more h hs) (denoting.more k ks) f g =
+    let rest = one_rules _ ts us _ _ p q hs ks f g in
+    record { same_rules = λ i. one_rule _ _ _ h k i ∷ rest.same_rules i; same_left = rest.same_left }
 
 -- the attributes of an element, and what is left
 record IsSameAttributes (a b : AttrPart) (ts us : List Tree) : Type 0 where
   same_attributes : a ≡ b
   same_inside : ts ≡ us
 
+-- no rules stand where any attributes do
+rules_or_any : {R : Type 0} (t : Tree) (rest ts : List Tree) (rs : List AttrRule) (p : Expr) → AreRules (t ∷ rest) rs ts → IsAnyAttributes t → AreOnePattern ts p → R
+rules_or_any t rest ts rs p denoting.none k f = let first = first_pattern _ _ _ _ refl f.are in absurd (no_content t first.0 k first.1)
+rules_or_any t rest ts rs p (denoting.more (denoting.needed h) hs) k f = two_names t (codes "attribute") (codes "zeroOrMore") _ _ refl h.is_part.is_named k.is_part.is_named
+rules_or_any t rest ts rs p (denoting.more (denoting.optional attribute h e a) hs) k f = two_names t (codes "optional") (codes "zeroOrMore") _ _ refl h.is_named k.is_part.is_named
+
 -- before a content stands one pattern of attributes
 one_attributes : (all ts us : List Tree) (a b : AttrPart) (p q : Expr) → HasAttributes all a ts → HasAttributes all b us → AreOnePattern ts p → AreOnePattern us q → IsSameAttributes a b ts us
-one_attributes all ts us a b p q denoting.none denoting.none f g = record { same_attributes = refl; same_inside = refl }
-one_attributes all ts us a b p q denoting.none (denoting.any k) f g = let first = first_pattern _ _ _ _ refl f.are in absurd (no_content _ first.0 k first.1)
-one_attributes all ts us a b p q (denoting.any h) denoting.none f g = let first = first_pattern _ _ _ _ refl g.are in absurd (no_content _ first.0 h first.1)
+one_attributes all ts us a b p q (denoting.listed h once) (denoting.listed k twice) f g =
+    let same = one_rules all ts us _ _ p q h k f g in
+    record { same_attributes = ap attributes.Listed same.same_rules; same_inside = same.same_left }
+one_attributes all ts us a b p q (denoting.listed h once) (denoting.any k) f g = rules_or_any _ _ ts _ p h k f
+one_attributes all ts us a b p q (denoting.any h) (denoting.listed k once) f g = rules_or_any _ _ us _ q k h g
 one_attributes all ts us a b p q (denoting.any h) (denoting.any k) f g = record { same_attributes = refl; same_inside = refl }
 
 -- an `element` is one body
@@ -142,7 +199,7 @@ one_element default t b c h k =
 pub no_element : {R : Type 0} (default : List ℕ) (t : Tree) (b : Body) (p : Expr) → IsElementOf default t b → AreOnePattern (t ∷ []) p → R
 no_element default t b p h k =
     let first = first_pattern (t ∷ []) t [] (k.first ∷ k.more) refl k.are in
-    absurd (no_pattern t first.0 (codes "element") h.is_part.is_named.named (λ parts. refl) first.1)
+    absurd (no_pattern t first.0 (codes "element") (h.is_part.is_named.named, refl, refl) (λ parts. refl) first.1)
 
 -- what a `define` holds is one body
 one_body : (default : List ℕ) (ts : List Tree) (b c : Body) → IsBody default ts b → IsBody default ts c → b ≡ c

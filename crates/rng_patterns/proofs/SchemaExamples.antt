@@ -1,4 +1,5 @@
 -- Which grammar a small schema stands for.
+use Rattle.std.proofs.lemmas.List.Elements.{All-nil}
 use Rattle.std.proofs.Common.{◌≡◌, ℕ, Bool, true, false, cond, List, [], ◌∷◌, map, Some, None, inl, inr, refl, sym, ap, subst, ◌∙◌, codes}
 use Rattle.std.specs.FinMap.{find, slice_cmp-IsAntisymmetric, nat_cmp-IsAntisymmetric}
 use Rattle.std.specs.Ordering.{eq_by_cmp}
@@ -13,7 +14,10 @@ use Rattle.rng_patterns.proofs.OnePattern.{empty_shown, group_shown, optional_sh
 use Rattle.rng_patterns.specs.Denoting as denoting
 use Rattle.rng_patterns.specs.Denoting.{IsPattern, StandsFor, entry_of}
 use Rattle.rng_patterns.specs.Linked as linked
-use Rattle.rng_patterns.specs.Linked.{IsLinked, Reaches, RefersTo, pattern_of}
+use Rattle.rng_patterns.proofs.SortLaws.{no_data_within}
+use Rattle.rng_patterns.specs.Linked.{HasData, IsLinked, Reaches, RefersTo, patterns_of}
+use Rattle.rng_patterns.specs.Sorts as sorts
+use Rattle.rng_patterns.specs.Sorts.{IsOfBody, IsOfChildren, IsOfRule, IsSorted}
 use Rattle.rng_patterns.specs.Names.{datatype_library, relax_ng_namespace}
 use Rattle.rng_patterns.specs.Patterns.{IsDefined}
 use Rattle.rng_patterns.specs.declared.grammar.Body.TheVariants as body
@@ -67,7 +71,7 @@ only_ref name other r = elim (refers name _ (shape.Ref other) (ref_shown other) 
 
 -- what it refers to is defined
 is_linked : IsLinked two_defines
-is_linked = record { start = λ name r. first_defined name r; patterns = λ name d s r. each_defined name d s r; apart = λ name r. none_reached name name r }
+is_linked = record { start = λ name r. first_defined name r; patterns = λ name d p s k r. each_defined name d p s k r; apart = λ name r. none_reached name name r }
   where
     first_defined : (name : List ℕ) → RefersTo name (expr.Ref (codes "a")) → StandsIn (codes "a" ∷ codes "b" ∷ []) name
     first_defined name r = subst (StandsIn (codes "a" ∷ codes "b" ∷ [])) (sym (only_ref name (codes "a") r)) (stands_first _ _)
@@ -93,10 +97,14 @@ is_linked = record { start = λ name r. first_defined name r; patterns = λ name
       | inr part ↦ in_group name (subst (RefersTo name) (only_item _ _ part.1) part.2)
     ]
 
-    each_defined : (name : List ℕ) (d : Define) → StandsIn (define_a ∷ define_b ∷ []) d → RefersTo name (pattern_of d.body) → StandsIn (codes "a" ∷ codes "b" ∷ []) name
-    each_defined name d s r = elim (first_or_later _ _ _ s) [
-      | inl first ↦ subst (StandsIn (codes "a" ∷ codes "b" ∷ [])) (sym (in_optional name (subst (λ (x : Define). RefersTo name (pattern_of x.body)) first r))) (stands_later _ _ _ (stands_first _ _))
-      | inr later ↦ absurd (no_empty name (subst (λ (x : Define). RefersTo name (pattern_of x.body)) (only_item _ _ later) r))
+    each_defined : (name : List ℕ) (d : Define) (p : Expr) → StandsIn (define_a ∷ define_b ∷ []) d → StandsIn (patterns_of d.body) p → RefersTo name p → StandsIn (codes "a" ∷ codes "b" ∷ []) name
+    each_defined name d p s k r = elim (first_or_later _ _ _ s) [
+      | inl first ↦
+          let is : p ≡ optional_group = only_item _ _ (subst (λ (x : Define). StandsIn (patterns_of x.body) p) first k) in
+          subst (StandsIn (codes "a" ∷ codes "b" ∷ [])) (sym (in_optional name (subst (RefersTo name) is r))) (stands_later _ _ _ (stands_first _ _))
+      | inr later ↦
+          let is : p ≡ expr.Empty = only_item _ _ (subst (λ (x : Define). StandsIn (patterns_of x.body) p) (only_item _ _ later) k) in
+          absurd (no_empty name (subst (RefersTo name) is r))
     ]
 
     all_elements : (name : List ℕ) (p : Expr) → IsDefined two_defines name (body.Part p) → ⊥
@@ -124,10 +132,40 @@ found_alike q = exchanged (eq_by_cmp text_cmp q (codes "a")) (eq_by_cmp text_cmp
 pub not_given : {R : Type 0} (value : List ℕ) → None ≡ Some value → R
 not_given value e = cc
 
+-- each pattern is of children
+b_sort : IsOfChildren two_defines (expr.Ref (codes "b"))
+b_sort = sorts.element (record { names = _; attrs = _; content = _; defined = (define_a ∷ [], [], refl) })
+
+optional_sort : IsOfChildren two_defines optional_group
+optional_sort =
+    sorts.optional (expr.Group (expr.Ref (codes "b") ∷ expr.Text ∷ [])) refl (sorts.group (expr.Ref (codes "b") ∷ expr.Text ∷ []) refl (λ part s.
+    elim (first_or_later _ _ _ s) [ inl first ↦ subst (IsOfChildren two_defines) (sym first) b_sort | inr later ↦ subst (IsOfChildren two_defines) (sym (only_item _ _ later)) sorts.text ]))
+
+is_sorted_by_place : IsSorted two_defines
+is_sorted_by_place = record {
+  start = sorts.element (record { names = _; attrs = _; content = _; defined = ([], define_b ∷ [], refl) });
+  defines = λ d s. elim (first_or_later _ _ _ s) [
+    | inl first ↦ subst (λ (x : Define). IsOfBody two_defines x.body) (sym first) (All-nil (IsOfRule two_defines), inl optional_sort)
+    | inr later ↦ subst (λ (x : Define). IsOfBody two_defines x.body) (sym (only_item _ _ later)) (All-nil (IsOfRule two_defines), inl sorts.empty)
+  ];
+}
+
+-- so no `data` is there
+no_data : HasData two_defines → ⊥
+no_data h = elim (first_or_later _ _ _ h.among) [
+  | inl first ↦
+      let is : h.pattern ≡ optional_group = only_item _ _ (subst (λ (x : Define). StandsIn (patterns_of x.body) h.pattern) first h.of_define) in
+      no_data_within two_defines h.within (subst (IsOfChildren two_defines) (sym is) optional_sort)
+  | inr later ↦
+      let is : h.pattern ≡ expr.Empty = only_item _ _ (subst (λ (x : Define). StandsIn (patterns_of x.body) h.pattern) (only_item _ _ later) h.of_define) in
+      no_data_within two_defines h.within (subst (IsOfChildren two_defines) (sym is) sorts.empty)
+]
+
 schema_stands : StandsFor schema two_defines
 schema_stands = record {
   is_part = bare_part (codes "grammar") (codes "ns" ∷ codes "datatypeLibrary" ∷ []) three_parts;
   datatypes = λ value e. not_given value e;
+  has_datatypes = λ h. absurd (no_data h);
   start = start (codes "a");
   before = define (codes "b") (element (codes "b") empty) ∷ [];
   after = define (codes "a") (element (codes "a") b_or_words) ∷ [];
@@ -140,4 +178,5 @@ schema_stands = record {
   rising = refl;
   same = found_alike;
   linked = is_linked;
+  sorted = is_sorted_by_place;
 }

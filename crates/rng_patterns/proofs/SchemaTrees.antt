@@ -11,6 +11,7 @@ use Rattle.odd_tree.specs.declared.tree.Node as N
 use Rattle.odd_tree.specs.declared.tree.Node.{Element}
 use Rattle.odd_tree.specs.declared.tree.Tree.{Tree, out-Tree, roll-Tree}
 use Rattle.odd_tokens.proofs.Ascii.{is_ascii_name, is_name}
+use Rattle.odd_tokens.proofs.Characters.{none_twice}
 use Rattle.odd_tokens.specs.Same.{is_same}
 use Rattle.rng_patterns.specs.Denoting as denoting
 use Rattle.rng_patterns.specs.Denoting.{AreOnePattern, HasName, IsBody, IsDefine, IsElementOf, IsPart, IsPattern, IsStart, parts_of}
@@ -122,7 +123,7 @@ element_is name inside p h e is = record {
   has_names = denoting.by_name (has_name (codes "element") name (inside ∷ []) h);
   attrs = attributes.Listed [];
   inside = parts_of (element name inside);
-  has_attributes = denoting.none;
+  has_attributes = denoting.listed denoting.none (none_twice [] tt);
   content = p;
   holds = subst (λ ts. AreOnePattern ts p) (sym (parts_are (inside ∷ []) (rw e refl))) (one_pattern inside p is);
   body_is = refl;

@@ -1,12 +1,14 @@
 -- Which documents a grammar accepts (ISO/IEC 19757-2, section 9). No library is spoken of.
-use Rattle.std.specs.Prelude.{◌≡◌, ℕ, zero, suc, List, [], ◌∷◌, IsTrue, All}
+use Rattle.std.specs.Prelude.{◌≡◌, ◌⊎◌, ℕ, zero, suc, false, List, [], ◌∷◌, IsTrue, All}
+use Rattle.std.specs.List.{list_any}
+use Rattle.std.specs.Str.{chars}
 use Rattle.odd_text.specs.declared.name.Name.{Name}
-use Rattle.odd_tree.specs.Elements.{StandsIn}
-use Rattle.odd_tree.specs.Significant.{IsSignificant, Marking, depth}
+use Rattle.odd_tree.specs.Elements.{StandsIn, texts_in}
+use Rattle.odd_tree.specs.Significant.{IsSignificant, Marking, depth, is_element}
 use Rattle.odd_tree.specs.declared.tree.Attr.{Attr}
 use Rattle.odd_tree.specs.declared.tree.Node.{Node, Element}
 use Rattle.odd_tree.specs.declared.tree.Tree.{Tree, out-Tree}
-use Rattle.rng_patterns.specs.Patterns.{IsDefined, IsMatched}
+use Rattle.rng_patterns.specs.Patterns.{IsAllowed, IsDefined, IsMatched}
 use Rattle.rng_patterns.specs.declared.grammar.AttrPart.TheVariants as attributes
 use Rattle.rng_patterns.specs.declared.grammar.AttrPart.{AttrPart}
 use Rattle.rng_patterns.specs.declared.grammar.AttrRule.{AttrRule}
@@ -25,21 +27,30 @@ IsInClass (class.One one) name = name ≡ one
 IsInClass (class.AnyBut spaces names) name = (StandsIn spaces name.ns → ⊥) × (StandsIn names name → ⊥)
 IsInClass (class.Within parts) name = (part : NsPart) × StandsIn parts part × (name.ns ≡ part.ns) × (StandsIn part.but name → ⊥)
 
--- a rule of the attribute's name; of patterns of values there is `text` so far, which takes any
-abbrev pub HasRule : List AttrRule → Attr → Type 0
-HasRule rules a = (rule : AttrRule) × StandsIn rules rule × (rule.name ≡ a.name) × (rule.value ≡ expr.Text)
+-- the pattern of an attribute's value is `text`, which takes any, or it allows the value
+abbrev pub IsValueOf : Grammar → Expr → List ℕ → Type 0
+IsValueOf g p text = (p ≡ expr.Text) ⊎ IsAllowed g p (chars text)
+
+-- a rule of the attribute's name, whose pattern is of its value
+abbrev pub HasRule : Grammar → List AttrRule → Attr → Type 0
+HasRule g rules a = (rule : AttrRule) × StandsIn rules rule × (rule.name ≡ a.name) × IsValueOf g rule.value a.value
 
 abbrev pub IsThere : List Attr → AttrRule → Type 0
 IsThere attrs rule = (a : Attr) × StandsIn attrs a × (a.name ≡ rule.name)
 
 -- the attributes as a set: each has a rule, and each that is needed is there
-pub record AreRuled (rules : List AttrRule) (attrs : List Attr) : Type 0 where
-  pub ruled : All (HasRule rules) attrs
+pub record AreRuled (g : Grammar) (rules : List AttrRule) (attrs : List Attr) : Type 0 where
+  pub ruled : All (HasRule g rules) attrs
   pub complete : All (λ rule. IsTrue rule.needed → IsThere attrs rule) rules
 
-abbrev pub AreMatched : AttrPart → List Attr → Type 0
-AreMatched attributes.AnyAttributes attrs = Unit {0}
-AreMatched (attributes.Listed rules) attrs = AreRuled rules attrs
+abbrev pub AreMatched : Grammar → AttrPart → List Attr → Type 0
+AreMatched g attributes.AnyAttributes attrs = Unit {0}
+AreMatched g (attributes.Listed rules) attrs = AreRuled g rules attrs
+
+-- The content matches the significant children, or, where no element stands among the children, it allows their text as a value.
+pub data HasContent (counts : Marking (List ℕ)) (g : Grammar) (content : Expr) (t : Tree) : Type 0 where
+  children : (nodes : List Node) → IsSignificant (out-Tree t).children nodes → IsMatched g counts content nodes → HasContent counts g content t
+  value : list_any is_element (out-Tree t).children ≡ false → IsAllowed g content (chars (texts_in (out-Tree t).children)) → HasContent counts g content t
 
 -- An element is accepted by the define of the name, where each of its children is accepted by those that it counts for.
 pub record IsAcceptedBy (counts : Marking (List ℕ)) (g : Grammar) (t : Tree) (name : List ℕ) : Type 0 where
@@ -48,10 +59,8 @@ pub record IsAcceptedBy (counts : Marking (List ℕ)) (g : Grammar) (t : Tree) (
   pub content : Expr
   pub defined : IsDefined g name (body.Element names attrs content)
   pub named : IsInClass names (out-Tree t).name
-  pub attributed : AreMatched attrs (out-Tree t).attrs
-  pub children : List Node
-  pub significant : IsSignificant (out-Tree t).children children
-  pub matched : IsMatched g counts content children
+  pub attributed : AreMatched g attrs (out-Tree t).attrs
+  pub holds : HasContent counts g content t
 
 -- by recursion on the depth
 abbrev pub IsAcceptedWithin : ℕ → Grammar → Marking (List ℕ)

@@ -1,5 +1,5 @@
--- Which grammar some bytes denote: they spell a tree, and the tree stands for the grammar, by the elements of ISO/IEC 19757-2 that are written so far.
-use Rattle.std.specs.Prelude.{◌≡◌, ℕ, ◌||◌, List, [], ◌∷◌, ◌++◌, map, filter, Some, None, IsTrue, All, codes, unwrap_or}
+-- Which grammar some bytes denote: they spell a tree, and the tree stands for the grammar, by the elements of ISO/IEC 19757-2.
+use Rattle.std.specs.Prelude.{◌≡◌, ℕ, ◌||◌, true, false, List, [], ◌∷◌, ◌++◌, map, filter, Some, None, IsTrue, All, codes, unwrap_or}
 use Rattle.std.specs.List.{list_all}
 use Rattle.std.specs.FinMap.{find, is_sorted}
 use Rattle.odd_text.specs.Text.{text_cmp}
@@ -10,12 +10,20 @@ use Rattle.odd_tokens.specs.Tokens.{NoneTwice}
 use Rattle.odd_tree.specs.Elements.{StandsIn, children_of, given}
 use Rattle.odd_tree.specs.Significant.{is_blank, is_element}
 use Rattle.odd_tree.specs.Spelled.{Spells}
-use Rattle.odd_tree.specs.declared.tree.Node.{Text}
+use Rattle.odd_tree.specs.declared.tree.Node.{Node, Text}
 use Rattle.odd_tree.specs.declared.tree.Tree.{Tree, out-Tree}
-use Rattle.rng_patterns.specs.Linked.{IsLinked, names_of}
+use Rattle.rng_types.specs.declared.data_type.DataType.{DataType}
+use Rattle.rng_types.specs.declared.data_type.DataType.TheVariants as kinds
+use Rattle.rng_types.specs.declared.facet.Facet.{Facet}
+use Rattle.rng_types.specs.declared.facet.FacetText.{FacetText}
+use Rattle.rng_types.specs.declared.item.Item.TheVariants as items
+use Rattle.rng_values.specs.Items.{IsItemOf, ItemFault}
+use Rattle.rng_patterns.specs.Linked.{HasData, IsLinked, names_of}
 use Rattle.rng_patterns.specs.Names.{datatype_library, relax_ng, relax_ng_namespace}
+use Rattle.rng_patterns.specs.Sorts.{IsSorted}
 use Rattle.rng_patterns.specs.declared.grammar.AttrPart.TheVariants as attributes
 use Rattle.rng_patterns.specs.declared.grammar.AttrPart.{AttrPart}
+use Rattle.rng_patterns.specs.declared.grammar.AttrRule.{AttrRule}
 use Rattle.rng_patterns.specs.declared.grammar.Body.TheVariants as body
 use Rattle.rng_patterns.specs.declared.grammar.Body.{Body}
 use Rattle.rng_patterns.specs.declared.grammar.Define.{Define}
@@ -55,12 +63,53 @@ abbrev pub grouped : Expr → List Expr → Expr
 grouped first [] = first
 grouped first (next ∷ more) = expr.Group (first ∷ next ∷ more)
 
+-- the text of an element in which no element stands
+pub data HasText : List Node → List ℕ → Type 0 where
+  nothing : HasText [] []
+  text : {text : List ℕ} → HasText (Text text ∷ []) text
+
+-- a `param` with its name and its text
+pub record IsParam (t : Tree) (f : FacetText) : Type 0 where
+  pub is_named : IsNamed (codes "param") (codes "name" ∷ []) t
+  pub named : given t (codes "name") ≡ Some f.name
+  pub written : HasText (out-Tree t).children f.value
+
+pub data AreParams : List Tree → List FacetText → Type 0 where
+  none : AreParams [] []
+  more : {t : Tree} {f : FacetText} {ts : List Tree} {fs : List FacetText} → IsParam t f → AreParams ts fs → AreParams (t ∷ ts) (f ∷ fs)
+
+-- ID and IDREF are read as NCName, since no schema asks whether an ID stands twice
+abbrev pub read_as : DataType → DataType
+read_as kinds.Id = kinds.NcName
+read_as kinds.Idref = kinds.NcName
+read_as k = k
+
+-- a `data` with its type and its params, which together make an item
+pub record IsData (t : Tree) (k : DataType) (facets : List Facet) : Type 0 where
+  pub is_part : IsPart (codes "data") (codes "type" ∷ []) t
+  pub type : List ℕ
+  pub typed : given t (codes "type") ≡ Some type
+  pub params : List FacetText
+  pub are_params : AreParams (parts_of t) params
+  pub sound : (rule : ℕ) → ItemFault type params rule → ⊥
+  pub kind : DataType
+  pub item : IsItemOf type params (items.Typed kind facets)
+  pub read : k ≡ read_as kind
+
+-- a `value` with its text
+pub record IsSame (t : Tree) (text : List ℕ) : Type 0 where
+  pub is_named : IsNamed (codes "value") [] t
+  pub written : HasText (out-Tree t).children text
+
 mutual
-  -- an element that is a pattern of content
+  -- an element that is a pattern
   pub data IsPattern : Tree → Expr → Type 0 where
     empty : {t : Tree} → IsLeaf (codes "empty") [] t → IsPattern t expr.Empty
     not_allowed : {t : Tree} → IsLeaf (codes "notAllowed") [] t → IsPattern t expr.NotAllowed
     text : {t : Tree} → IsLeaf (codes "text") [] t → IsPattern t expr.Text
+    data_of : {t : Tree} {k : DataType} {facets : List Facet} → IsData t k facets → IsPattern t (expr.Typed k facets)
+    value : {t : Tree} {text : List ℕ} → IsSame t text → IsPattern t (expr.Same text)
+    list : {t : Tree} {p : Expr} (first : Expr) (more : List Expr) → IsPart (codes "list") [] t → ArePatterns (parts_of t) (first ∷ more) → p ≡ expr.List (grouped first more) → IsPattern t p
     reference : {t : Tree} {name : List ℕ} → IsLeaf (codes "ref") (codes "name" ∷ []) t → HasName t name → IsPattern t (expr.Ref name)
     group : {t : Tree} {p : Expr} (first : Expr) (more : List Expr) → IsPart (codes "group") [] t → ArePatterns (parts_of t) (first ∷ more) → p ≡ expr.Group (first ∷ more) → IsPattern t p
     choice : {t : Tree} {p : Expr} (first : Expr) (more : List Expr) → IsPart (codes "choice") [] t → ArePatterns (parts_of t) (first ∷ more) → p ≡ expr.Choice (first ∷ more) → IsPattern t p
@@ -146,9 +195,32 @@ pub data HasNames (default : List ℕ) (t : Tree) : NameClass → List Tree → 
   by_part : {part : Tree} {rest : List Tree} {names : NameClass} → given t (codes "name") ≡ None → given t (codes "ns") ≡ None → parts_of t ≡ part ∷ rest
       → IsNameClass default part names → HasNames default t names rest
 
--- the attributes that parts begin with, and the parts that are left: any attributes, or none so far
+-- nothing, which is `text`, or a pattern
+pub data HoldsValue : List Tree → Expr → Type 0 where
+  nothing : HoldsValue [] expr.Text
+  pattern : {t : Tree} {p : Expr} → IsPattern t p → HoldsValue (t ∷ []) p
+
+-- an `attribute` of a name, which is in no namespace where `ns` says none, and the pattern of its value
+pub record IsAttribute (t : Tree) (name : Name) (value : Expr) : Type 0 where
+  pub is_part : IsPart (codes "attribute") (codes "name" ∷ codes "ns" ∷ []) t
+  pub named : HasName t name.local
+  pub space : name.ns ≡ unwrap_or (given t (codes "ns")) []
+  pub holds : HoldsValue (parts_of t) value
+
+-- one that is needed, or one in an `optional`
+pub data IsRule (t : Tree) : AttrRule → Type 0 where
+  needed : {name : Name} {value : Expr} → IsAttribute t name value → IsRule t (record { name = name; needed = true; value = value })
+  optional : {name : Name} {value : Expr} (attribute : Tree) → IsPart (codes "optional") [] t → parts_of t ≡ attribute ∷ [] → IsAttribute attribute name value
+      → IsRule t (record { name = name; needed = false; value = value })
+
+-- rules that parts begin with, and the parts that are left
+pub data AreRules : List Tree → List AttrRule → List Tree → Type 0 where
+  none : {ts : List Tree} → AreRules ts [] ts
+  more : {t : Tree} {ts rest : List Tree} {rule : AttrRule} {rules : List AttrRule} → IsRule t rule → AreRules ts rules rest → AreRules (t ∷ ts) (rule ∷ rules) rest
+
+-- the attributes that parts begin with, no two of one name, and the parts that are left: any attributes, or rules
 pub data HasAttributes : List Tree → AttrPart → List Tree → Type 0 where
-  none : {ts : List Tree} → HasAttributes ts (attributes.Listed []) ts
+  listed : {ts rest : List Tree} {rules : List AttrRule} → AreRules ts rules rest → NoneTwice (map (λ rule. rule.name) rules) → HasAttributes ts (attributes.Listed rules) rest
   any : {t : Tree} {ts : List Tree} → IsAnyAttributes t → HasAttributes (t ∷ ts) attributes.AnyAttributes ts
 
 -- an `element` with its names, its attributes and its content
@@ -192,6 +264,7 @@ entry_of d = (d.name, d.body)
 pub record StandsFor (t : Tree) (g : Grammar) : Type 0 where
   pub is_part : IsPart (codes "grammar") (codes "ns" ∷ codes "datatypeLibrary" ∷ []) t
   pub datatypes : (value : List ℕ) → given t (codes "datatypeLibrary") ≡ Some value → value ≡ datatype_library
+  pub has_datatypes : HasData g → given t (codes "datatypeLibrary") ≡ Some datatype_library
   pub start : Tree
   pub before : List Tree
   pub after : List Tree
@@ -203,6 +276,7 @@ pub record StandsFor (t : Tree) (g : Grammar) : Type 0 where
   pub rising : IsTrue (is_sorted text_cmp (map entry_of g.defines))
   pub same : (name : List ℕ) → find text_cmp name (map entry_of g.defines) ≡ find text_cmp name (map entry_of defines)
   pub linked : IsLinked g
+  pub sorted : IsSorted g
 
 -- the bytes denote the grammar
 pub record Denotes (bytes : List ℕ) (g : Grammar) : Type 0 where

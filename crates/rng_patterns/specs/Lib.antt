@@ -5,6 +5,7 @@ pub mod Linked
 pub mod Names
 pub mod Nodes
 pub mod Patterns
+pub mod Sorts
 pub mod Weighing
 pub use Rattle.odd_patterns.specs.Children
 pub use Rattle.odd_patterns.specs.Pieces

@@ -1,8 +1,7 @@
 use Rattle.std.proofs.Common.{sym, ◌∙◌}
 use Rattle.std.proofs.lemmas.Bool.{false≢true}
-use Rattle.odd_meaning.specs.Offering.{edits_of}
 use Rattle.odd_meaning.specs.Rules.{Contradicts}
-use Rattle.odd_offers.proofs.LeastGivers.{answer_right, answer_rises}
+use Rattle.odd_offers.proofs.LeastGivers.{answer_right}
 use Rattle.odd_offers.proofs.Named.{names_shared}
 use Rattle.odd_classes.proofs.Asking.{clash_contradicts}
 use Rattle.odd_classes.proofs.offering.offered_by.Goals as goal
@@ -13,13 +12,11 @@ returns-then-clashes c = λ library element held all. (clash_contradicts library
 pub returns-then-branch : goal.returns-then-branch
 returns-then-branch c = λ library element held all.
     let agrees : Contradicts library element → ⊥ = λ k. false≢true (sym c.if-clashes.false ∙ (clash_contradicts library element c.args.part.now c.args.table held all c.clashes.result c.clashes.ensures).1 k) in
-    let rises = answer_rises (edits_of c.args.part.now) c.args.table c.in_ok-givens.givens c.in_ok-givens.ensures in
     let right = answer_right library element c.args.part.now c.args.table held all agrees c.in_ok-givens.givens c.in_ok-givens.ensures in
-    (agrees, (names_shared library element c.in_ok-givens.givens rises right).0 (c.in_ok-shares_name.ensures.0 c.if-branch.true))
+    (agrees, (names_shared library element c.in_ok-givens.givens right).0 (c.in_ok-shares_name.ensures.0 c.if-branch.true))
 
 pub returns : goal.returns
 returns c = λ library element held all.
     let agrees : Contradicts library element → ⊥ = λ k. false≢true (sym c.if-clashes.false ∙ (clash_contradicts library element c.args.part.now c.args.table held all c.clashes.result c.clashes.ensures).1 k) in
-    let rises = answer_rises (edits_of c.args.part.now) c.args.table c.in_ok-givens.givens c.in_ok-givens.ensures in
     let right = answer_right library element c.args.part.now c.args.table held all agrees c.in_ok-givens.givens c.in_ok-givens.ensures in
-    (agrees, λ s. false≢true (sym c.if-branch.false ∙ c.in_ok-shares_name.ensures.1 ((names_shared library element c.in_ok-givens.givens rises right).1 s)), right)
+    (agrees, λ s. false≢true (sym c.if-branch.false ∙ c.in_ok-shares_name.ensures.1 ((names_shared library element c.in_ok-givens.givens right).1 s)), right)

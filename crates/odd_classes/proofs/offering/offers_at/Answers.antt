@@ -17,7 +17,7 @@ returns-in_ok-offers_of-in-Offers-clause-offers c = λ element here.
     (record {
       agrees = right.0;
       named_apart = right.1;
-      set = subst (IsSet offer_cmp (IsOfferOfOne library ident)) (sym c.in_ok-offers_of-in-Offers.ensures.made) (offers_set library ident c.in-Offers.givens c.in_ok-offers_of-in-Offers.ensures.rising right.2);
+      set = subst (IsSet offer_cmp (IsOfferOfOne library ident)) (sym c.in_ok-offers_of-in-Offers.ensures) (offers_set library ident c.in-Offers.givens right.2);
     })
 
 pub returns-in-Contradicts-clause-rule : goal.returns-in-Contradicts-clause-rule

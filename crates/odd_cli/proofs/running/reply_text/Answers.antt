@@ -1,9 +1,9 @@
-use Rattle.std.proofs.Common.{◌≡◌, Err, ap, inl, subst}
+use Rattle.std.proofs.Common.{◌≡◌, ◌≤◌, ◌+◌, ◌*◌, Err, ap, inl, subst}
 use Rattle.std.proofs.lemmas.Result.{IfErr-at_err}
 use Rattle.odd_cli.specs.Reading.{IsOfFile, IsOfTrees}
 use Rattle.odd_cli.specs.Outcome.{answers}
-use Rattle.odd_cli.specs.Reply.{NamesFiles, answered}
-use Rattle.odd_cli.specs.Running.{AreReadWhole, GoesOn}
+use Rattle.odd_cli.specs.Reply.{NamesFiles, answered, file_bytes}
+use Rattle.odd_cli.specs.Running.{AreReadWhole, GoesOn, counted}
 use Rattle.odd_cli.specs.declared.status.LimitKind.TheVariants as limit
 use Rattle.odd_cli.specs.declared.status.Status.TheVariants as status
 use Rattle.odd_cli.proofs.Answering.{begun_on_err, begun_stopped, fault_placed, few_read, named_answer, named_compile, named_job, named_many, named_none, named_usage, on_any, status_comes, stop_comes, text_accepts, text_comes, usage_named}
@@ -35,6 +35,16 @@ returns-in-Ok-read_chain-clause-accepts g c = λ files h.
 pub returns-in-Ok-read_chain-clause-err : goal.returns-in-Ok-read_chain-clause-err
 returns-in-Ok-read_chain-clause-err g c = λ files h.
     status_comes _ c.args.words.now c.in-Ok.names.now c.in-Ok-read_chain.chain c.in-Ok.ensures.ok c.in-Ok-read_chain.ensures.ok files h c.schema_of_chain.result c.schema_of_chain.ensures.err
+
+pub returns-in-Ok-read_chain-clause-few_reads : goal.returns-in-Ok-read_chain-clause-few_reads
+returns-in-Ok-read_chain-clause-few_reads g c =
+    subst (λ n. g.F.Shelf.reads c.read_chain.new.shelf ≤ g.F.Shelf.reads c.args.shelf.now + n * (file_bytes + 1)) (named_many c.args.words.now c.in-Ok.names.now c.in-Ok.ensures.ok)
+    c.in-Ok-read_chain.ensures.few_reads
+
+pub returns-in-Ok-read_chain-clause-begins : goal.returns-in-Ok-read_chain-clause-begins
+returns-in-Ok-read_chain-clause-begins g c =
+    on_any c.schema_of_chain.result _
+    (subst (λ n. g.F.Shelf.begins c.read_chain.new.shelf ≡ counted (g.F.Shelf.begins c.args.shelf.now) n) (named_many c.args.words.now c.in-Ok.names.now c.in-Ok.ensures.ok) c.in-Ok-read_chain.ensures.begins)
 
 pub returns-in-Ok-read_chain-clause-usage : goal.returns-in-Ok-read_chain-clause-usage
 returns-in-Ok-read_chain-clause-usage g c = (

@@ -4,4 +4,4 @@ use Rattle.odd_decls.proofs.Refusing.{SomeHolds}
 use Rattle.odd_decls.proofs.pending.+is_pending.Given as goal
 
 abbrev pub invariant-loop-node : goal.invariant-loop-node
-invariant-loop-node l = SomeHolds l.inside (children_of l.tree) → SomeHolds l.inside (elements_of (drop l.node-index l.node-items))
+invariant-loop-node l = SomeHolds (children_of l.tree) → SomeHolds (elements_of (drop l.node-index l.node-items))

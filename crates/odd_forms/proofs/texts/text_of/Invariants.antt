@@ -1,5 +1,5 @@
 use Rattle.std.proofs.Common.{◌≡◌, ◌++◌, drop}
-use Rattle.odd_forms.specs.Texts.{texts_in}
+use Rattle.odd_tree.specs.Elements.{texts_in}
 use Rattle.odd_forms.proofs.texts.text_of.Given as goal
 
 abbrev pub invariant-loop-node : goal.invariant-loop-node

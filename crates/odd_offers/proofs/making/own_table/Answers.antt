@@ -12,9 +12,9 @@ returns c =
     let ident = c.args.ident.now in
     let inherited = c.args.inherited in
     let edits = edits_of c.args.part.now in
-    IfOk-weaker c.zipped_maps.result (λ made. made ≡ zipped text_cmp (own_at c.in_ok-copy.field-0) c.into_map.result inherited) (IsOwnTable ident edits inherited)
+    IfOk-weaker c.zipped_maps.result (λ made. made ≡ zipped text_cmp (own_at c.in_ok-copy.field-0) c.into_map-edits.result inherited) (IsOwnTable ident edits inherited)
     (λ made e. subst (IsOwnTable ident edits inherited)
-    (sym (e ∙ ap (λ k. zipped text_cmp (own_at k) c.into_map.result inherited) c.in_ok-copy.ensures
-    ∙ ap (λ es. zipped text_cmp (own_at ident) es inherited) (c.into_map.ensures ∙ c.in_ok-copy-2.ensures ∙ c.in-Some.ensures)))
+    (sym (e ∙ ap (λ k. zipped text_cmp (own_at k) c.into_map-edits.result inherited) c.in_ok-copy.ensures
+    ∙ ap (λ es. zipped text_cmp (own_at ident) es inherited) (c.into_map-edits.ensures ∙ c.in_ok-copy-2.ensures ∙ c.in-Some.ensures)))
     (own_zipped ident edits inherited))
     c.zipped_maps.ensures
