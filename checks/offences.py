@@ -1,16 +1,17 @@
 #!/usr/bin/env python3
 """Compares what the program answers to chains of ODD files that were made at random with what the documents say of them:
-docs/commands.md, docs/odd-files.md, docs/content.md, docs/merging.md and docs/schema.md.
+docs/commands.md, docs/odd-files.md, docs/content.md, docs/merging.md, docs/values.md and docs/schema.md.
 
     checks/offences.py PROGRAM [COUNT]
 
 PROGRAM is the built program odd, COUNT how many chains are made (20,000 where it is not given), from a fixed seed. The
 answer is worked out here, apart from the program: the exit code, the line on standard error, and the whole schema where
-one is written; what a file does to the library before it, by checks/merging.py. Ends with 1 where one of them differs. A
-run has 2 GiB of memory at most, and no chain needs as much.
+one is written; what a file does to the library before it, by checks/merging.py, and attributes and data, by
+checks/attribute_forms.py. Ends with 1 where one of them differs. A run has 2 GiB of memory at most, and no chain needs as much.
 """
 
 import collections
+import functools
 import pathlib
 import random
 import re
@@ -19,25 +20,29 @@ import subprocess
 import sys
 import tempfile
 import xml.parsers.expat
+from xml.etree import ElementTree
 
+import attribute_forms
 import merging
+from schema_markup import condition_define, escaped, joined, markup, once, reference, repeated, written
 
 TEI = "http://www.tei-c.org/ns/1.0"
 RELAX_NG = "http://relaxng.org/ns/structure/1.0"
-DATATYPES = "http://www.w3.org/2001/XMLSchema-datatypes"
+DATATYPE_LIBRARY = "http://www.w3.org/2001/XMLSchema-datatypes"
 XML = "http://www.w3.org/XML/1998/namespace"
 OTHER = "urn:x"
 PASSED_OVER = set("gloss desc equiv exemplum remarks listRef model modelGrp modelSequence moduleSpec defaultVal".split())
-PENDING = set("dataSpec attList altIdent datatype valList specGrp specGrpRef".split())
-PENDING_IN_CONTENT = {"dataRef"}
-# The declarations, with the kind of what each declares and the children that it may have.
-SPECS = {"elementSpec": "element", "classSpec": "class", "macroSpec": "macro"}
-SPEC_CHILDREN = {"elementSpec": {"content", "classes"}, "classSpec": {"classes"}, "macroSpec": {"content"}}
+PENDING = {"specGrp", "specGrpRef"}
+# The declarations, with the kind of what each declares.
+SPECS = {"elementSpec": "element", "classSpec": "class", "macroSpec": "macro", "dataSpec": "datatype"}
 # The references among the items, with the kind of what each refers to.
 TAKEN = {"elementRef": "element", "classRef": "class", "macroRef": "macro", "dataRef": "datatype"}
+SPEC_OF, REFERENCE_TO = ({kind: local for local, kind in locals_of.items()} for locals_of in (SPECS, TAKEN))
 LEVELS = {"sequence", "alternate"}
 BOUNDED = LEVELS | {"elementRef", "classRef", "macroRef", "anyElement"}
-PARTS = BOUNDED | {"textNode", "empty"}
+PARTS = BOUNDED | {"textNode", "empty"} | attribute_forms.PART_RULES.keys()
+# What may stand in the content of a datatype.
+DATA_PARTS = {"dataRef", "valList", "alternate"}
 MOST_LEVELS = 60
 MOST_NODES = 1_000_000
 MOST_MEMORY = 2 << 30
@@ -45,33 +50,37 @@ NAME = re.compile(r"[A-Za-z_\u00e9][A-Za-z0-9_.\u00e9-]*\Z")
 DIGITS = re.compile(r"[0-9]{1,9}\Z")
 
 Answer = collections.namedtuple("Answer", "code note schema")
-Element = collections.namedtuple("Element", "ns local attrs prefixes at inside")
-# The elements that are held, and the members of each held class.
-Held = collections.namedtuple("Held", "elements members")
-# An element of a schema: its parts with how often each stands in turn, and how many elements it has.
-Markup = collections.namedtuple("Markup", "tag pairs parts text size")
+# An element of a file, and the same as Python's own XML, with its own text in front.
+Element = collections.namedtuple("Element", "ns local attrs prefixes at inside tree")
+# The elements that are held, the members of each held class, and what each component offers of attributes.
+Held = collections.namedtuple("Held", "elements members offers")
 
 
 # How a file is made: names with their weights, by what is around.
 
 ANYWHERE = (
     "elementSpec:8 content:3 empty:2 textNode:2 desc:2 exemplum:1 remarks:1 constraintSpec:1 p:1 schemaSpec:1 moduleRef:1"
-    " elementRef:1 classRef:1 macroRef:1 classSpec:1 macroSpec:1 classes:1 memberOf:1"
+    " elementRef:1 classRef:1 macroRef:1 classSpec:1 macroSpec:1 classes:1 memberOf:1 dataSpec:1 attList:1 altIdent:1 data:1 attDef:1"
+    " datatype:1"
 )
 IN_CONTENT = (
-    "elementRef:500 classRef:240 macroRef:120 anyElement:160 sequence:260 alternate:260 textNode:160 empty:120 desc:100"
-    " p:2 x:2 rng:2 content:2 constraintSpec:1 elementSpec:1 classes:1"
+    "elementRef:1500 classRef:720 macroRef:360 anyElement:480 sequence:780 alternate:780 textNode:480 empty:360 desc:300"
+    " p:2 x:2 rng:2 content:2 constraintSpec:1 elementSpec:1 classes:1 altIdent:1 attList:1 data:6"
 )
 LEAVES = "elementRef anyElement textNode empty moduleRef classRef macroRef dataRef memberOf".split()
-IN_LEAF = "desc:20 p:1 x:1 rng:1 textNode:1 elementRef:1 sequence:1"
+IN_LEAF = "desc:60 p:1 x:1 rng:1 textNode:1 elementRef:1 sequence:1"
 CHILDREN = {
     "schemaSpec": (
-        "elementSpec:70 classSpec:20 macroSpec:12 desc:6 p:1 constraintSpec:1 content:1 schemaSpec:1 x:3 rng:1 moduleRef:2"
-        " elementRef:1 classRef:1 macroRef:1 dataRef:1 classes:1"
+        "elementSpec:140 classSpec:40 macroSpec:24 dataSpec:24 desc:12 p:1 constraintSpec:1 content:1 schemaSpec:1 x:6 rng:1 moduleRef:2"
+        " elementRef:1 classRef:1 macroRef:1 dataRef:1 classes:1 altIdent:4 attList:1 data:1"
     ),
-    "elementSpec": "desc:400 exemplum:100 x:100 content:12 classes:12 p:4 constraintSpec:4 elementSpec:3 rng:4 empty:3",
-    "classSpec": "desc:400 exemplum:100 x:100 classes:12 content:3 p:4 constraintSpec:4 elementSpec:3 rng:4 memberOf:3",
-    "macroSpec": "desc:400 exemplum:100 x:100 content:12 classes:3 p:4 constraintSpec:4 elementSpec:3 rng:4 empty:3",
+    "elementSpec": (
+        "desc:900 exemplum:200 x:200 content:12 classes:12 attList:12 altIdent:12 p:4 constraintSpec:4 elementSpec:3 rng:4 empty:3"
+        " attDef:2 data:2"
+    ),
+    "classSpec": "desc:900 exemplum:200 x:200 altIdent:40 classes:12 attList:12 content:3 p:4 constraintSpec:4 elementSpec:3 rng:4 memberOf:3",
+    "macroSpec": "desc:900 exemplum:200 x:200 altIdent:40 content:12 classes:3 attList:3 p:4 constraintSpec:4 elementSpec:3 rng:4 empty:3",
+    "dataSpec": "desc:900 exemplum:200 x:200 altIdent:40 content:12 classes:3 attList:3 p:4 constraintSpec:4 data:3 rng:4 datatype:3",
     "classes": "memberOf:600 desc:60 x:60 p:2 classRef:2 constraintSpec:2 content:1 rng:2",
     **dict.fromkeys(["content", *LEVELS], IN_CONTENT),
     **dict.fromkeys(LEAVES, IN_LEAF),
@@ -86,13 +95,15 @@ COUNTS = {
 }
 IDENTS = ["a", "b", "TEI", "\u00e9", *(letter + end for letter in "cdefghijklmnoPQRST" for end in ("", "-1", ".2", "_\u00e9", "1", "10"))]
 BAD_NAMES = ["1", "", " a", "a b", "a:b"]
-# Classes and macros of which each is mostly made over later ones alone, so that few come back to themselves.
+# Classes, macros and datatypes of which each is mostly made over later ones alone, so that few come back to themselves.
 CLASSES, MACROS = ["k1", "k2", "k3", "k4", "t1", "k5", "t2"], ["m1", "m2", "m3", "m4"]
+DATA_MACROS, DATATYPES = attribute_forms.DATA_MACROS, attribute_forms.DATATYPES
 MODELS = [ident for ident in CLASSES if ident[0] == "k"]
 VALUES = {
     "ident": [*IDENTS, *BAD_NAMES],
     "classSpec ident": ["k6", "k7", "t3", "k1", *BAD_NAMES],
     "macroSpec ident": ["m5", "m6", "m1", *BAD_NAMES],
+    "dataSpec ident": ["d5", "d6", "d1", *BAD_NAMES],
     "classRef key": [*MODELS * 30, "k9", "t1", "k9", *BAD_NAMES],
     "classRef include": ["", " ", "a", "b a", "TEI zz", "a 1", "a:b"],
     "classRef except": ["", " ", "b", "a\tb", "c", " 1"],
@@ -121,14 +132,14 @@ VALUES = {
 }
 # Where the front of these ends whose values are good. The others are drawn seldom.
 GOOD = {"ident": -5, "start": 5, "module": 2, "key": -5, "preserveOrder": 2, "mode": 4, "include": 5, "except": 5}
-GOOD |= {"classSpec ident": -6, "macroSpec ident": -6, "classRef key": -7, "macroRef key": -6, "memberOf key": -5, "classRef include": 5, "classRef except": 5}
+GOOD |= {"classSpec ident": -6, "macroSpec ident": -6, "dataSpec ident": -6, "classRef key": -7, "macroRef key": -6, "memberOf key": -5, "classRef include": 5, "classRef except": 5}
 GOOD |= {"classes mode": 2, "memberOf mode": 2, "expand": 2, "type": 2}
 RARE = {"prefix": 0.002, "source": 0.002, "mode": 0.002, "rend": 0.1}
 LIKELY = {
-    "elementSpec": {"ident": 0.985, "module": 0.3, "ns": 0.2},
-    "schemaSpec": {"ident": 0.985, "start": 0.8, "ns": 0.2},
-    "classSpec": {"ident": 0.985, "module": 0.3, "type": 0.985},
-    "macroSpec": {"ident": 0.985, "module": 0.3},
+    "elementSpec": {"ident": 0.995, "module": 0.3, "ns": 0.2},
+    "schemaSpec": {"ident": 0.995, "start": 0.8, "ns": 0.2},
+    "classSpec": {"ident": 0.995, "module": 0.3, "type": 0.995},
+    **dict.fromkeys(["macroSpec", "dataSpec"], {"ident": 0.995, "module": 0.3}),
     "classes": {"mode": 0.3},
     "memberOf": {"key": 0.995, "mode": 0.15, "min": 0.002, "max": 0.002},
     "changedSpec": {"module": 0.2, "ns": 0.2, "mode": 0},
@@ -141,7 +152,7 @@ LIKELY = {
     "empty": {"minOccurs": 0.05, "maxOccurs": 0.05},
 }
 BOUNDS = (
-    "-,-:450 0,-:60 1,-:20 -,1:30 -,2:40 -,unbounded:60 0,0:15 0,1:60 1,1:15 0,unbounded:60 1,unbounded:60 0,2:20 1,2:20"
+    "-,-:900 0,-:60 1,-:20 -,1:30 -,2:40 -,unbounded:60 0,0:15 0,1:60 1,1:15 0,unbounded:60 1,unbounded:60 0,2:20 1,2:20"
     " 1,3:15 2,2:20 2,3:15 3,3:15 2,unbounded:20 3,unbounded:10 00,007:5 000000003,000000004:3 0,40:3 25,unbounded:3"
     " 500,500:1 999999999,unbounded:1 0,999999999:1 2,-:1 -,0:1 3,2:1 1,0:1"
 )
@@ -153,13 +164,17 @@ SELDOM_BOUND = ["z:a", "urn:x", "xmlns:a"]
 # The content of one element brings a schema near the limit, once it is known how much there is beside it.
 TIMES = "000000002"
 WITHOUT = ' mode="delete"'
+# How sound a file is: with an offence of form, without one, without any offence, and also with start words that are held.
+ANY, OF_FORM, OF_RULES, WITH_START = range(4)
 FULL = f'<elementSpec ident="full"><content><elementRef key="full" minOccurs="{TIMES}" maxOccurs="{TIMES}"/></content></elementSpec>'
 
 
-def escaped(value):
-    for character, name in (("&", "&amp;"), ("<", "&lt;"), ('"', "&quot;"), ("\n", "&#10;"), ("\t", "&#9;"), ("\r", "&#13;")):
-        value = value.replace(character, name)
-    return value
+# What is made as a whole, by its name in the tables above.
+WHOLE = {
+    "attList": lambda rng: attribute_forms.made_attribute_list(rng, CLASSES),
+    "altIdent": attribute_forms.made_element_alt,
+    "data": attribute_forms.made_part,
+}
 
 
 def chosen(rng, weighted):
@@ -169,7 +184,7 @@ def chosen(rng, weighted):
 
 def made_bounds(rng):
     for name, value in zip(("minOccurs", "maxOccurs"), chosen(rng, BOUNDS).split(",")):
-        if rng.random() < 0.002:
+        if rng.random() < 0.001:
             value = rng.choice(BAD_BOUNDS)
         if value != "-":
             yield f' {name}="{value}"'
@@ -198,8 +213,8 @@ def made_attributes(rng, local):
     for name, chance in {**RARE, **LIKELY.get(local, {})}.items():
         if rng.random() < chance:
             named = f"{local} {name}" if f"{local} {name}" in VALUES else name
-            pool = VALUES[named] if rng.random() < 0.05 else VALUES[named][: GOOD.get(named)]
-            yield f' {rng.choice(["", "", "", "y:"]) if rng.random() < 0.05 else ""}{name}="{escaped(rng.choice(pool))}"'
+            pool = VALUES[named] if rng.random() < 0.03 else VALUES[named][: GOOD.get(named)]
+            yield f' {rng.choice(["", "", "", "y:"]) if rng.random() < 0.02 else ""}{name}="{escaped(rng.choice(pool))}"'
     if local in BOUNDED:
         yield from made_bounds(rng)
     if local == "anyElement":
@@ -231,7 +246,7 @@ def made_pick(rng, held):
 def made_classes(rng, later, mode=""):
     """A `classes` that mostly names these classes."""
     keys = rng.sample(later, rng.randrange(min(3, len(later)) + 1))
-    if rng.random() < 0.01:
+    if rng.random() < 0.02:
         keys.append(rng.choice(CLASSES))
     given = "".join(f'<memberOf key="{key}"{rng.choice(["", "", "", WITHOUT])}/>' for key in keys)
     return f"<classes{mode}>{given}</classes>"
@@ -242,43 +257,67 @@ def made_macro_content(rng, later):
     for _ in range(8):
         content = made(rng, "content", 3)
         if later:
-            return re.sub(r'key="m\d"', lambda _: f'key="{rng.choice(later)}"', content) if rng.random() < 0.99 else content
+            return re.sub(r'key="m\d"', lambda _: f'key="{rng.choice(later)}"', content) if rng.random() < 0.97 else content
         if "macroRef" not in content:
             break
     return content if "macroRef" not in content else "<content/>"
 
 
-def made_inside_spec(rng, local, ident, mode=""):
-    """What a declaration holds that names classes and macros: an element any, and another mostly later ones alone."""
-    classes = CLASSES[CLASSES.index(ident) + 1 :] if ident in CLASSES else CLASSES
-    macros = MACROS[MACROS.index(ident) + 1 :] if ident in MACROS else MACROS
-    inside = []
-    if local == "elementSpec" and rng.random() < 0.8:
-        inside.append(made(rng, "content", 4))
-    if local == "macroSpec" and rng.random() < 0.9:
-        inside.append(made_macro_content(rng, macros))
-    if local != "macroSpec" and rng.random() < 0.5:
-        inside.append(made_classes(rng, classes, mode))
+def behind(ident, idents):
+    """The idents behind one of them, or all where it is none."""
+    return idents[idents.index(ident) + 1 :] if ident in idents else idents
+
+
+def made_spec_content(rng, local, ident):
+    """The content of a declaration: of an element over any macros and datatypes, and of another mostly over later ones alone."""
+    if local == "dataSpec":
+        keys = behind(ident, DATATYPES) if rng.random() < 0.97 else DATATYPES
+        return attribute_forms.made_data_content(rng, keys, []) if rng.random() < 0.99 else ""
+    if local == "macroSpec" and ident not in DATA_MACROS:
+        return made_macro_content(rng, behind(ident, MACROS)) if rng.random() < 0.9 else ""
+    if local == "macroSpec" or rng.random() < 0.1:
+        return attribute_forms.made_data_content(rng, DATATYPES, behind(ident, DATA_MACROS))
+    return made(rng, "content", 4) if rng.random() < 0.8 else ""
+
+
+def made_inside_spec(rng, local, ident, mode="", edited=()):
+    """What a declaration in a mode holds: its content, classes, and attributes, mostly these that are edited where there are any."""
+    inside = [made_spec_content(rng, local, ident)] if local != "classSpec" else []
+    if local in ("elementSpec", "classSpec"):
+        over = ' mode="change"' if mode == "change" and rng.random() < 0.6 else ""
+        classes = made_classes(rng, behind(ident, CLASSES), over) if rng.random() < 0.75 else ""
+        inside.append(classes)
+        if rng.random() < (0.85 if edited else 0.7):
+            named = [key for key in CLASSES if f'"{key}"' in classes] if rng.random() < 0.8 else []
+            inside.append(attribute_forms.made_attribute_list(rng, named or CLASSES, ident if ident in CLASSES else None, edited))
+    if local == "elementSpec" and rng.random() < 0.15:
+        inside.append(attribute_forms.made_element_alt(rng))
     rng.shuffle(inside)
     return "".join(inside)
 
 
 def made_type(rng, ident):
     """The type of a class, which is mostly told by its ident."""
-    return rng.choice(["model", "atts"]) if rng.random() < 0.03 else {"k": "model", "t": "atts"}[ident[0]]
+    return rng.choice(["model", "atts"]) if rng.random() < 0.06 else {"k": "model", "t": "atts"}[ident[0]]
+
+
+def made_component(rng, local, ident):
+    """A declaration of a source, which adds what is no element."""
+    of_type = f' type="{made_type(rng, ident)}"' if local == "classSpec" else ""
+    module = rng.choice(["", ' module="core"', ' module="tei"'])
+    return f'<{local} ident="{ident}"{of_type}{module}>{made_inside_spec(rng, local, ident)}</{local}>'
 
 
 def made_components(rng):
-    """Classes and macros of a source."""
+    """Classes, macros and datatypes of a source."""
     for ident in CLASSES:
         if rng.random() < 0.85:
-            module = rng.choice(["", ' module="core"', ' module="tei"'])
-            yield f'<classSpec ident="{ident}" type="{made_type(rng, ident)}"{module}>{made_inside_spec(rng, "classSpec", ident)}</classSpec>'
+            yield made_component(rng, "classSpec", ident)
     are_all = rng.random() < 0.9
-    for ident in MACROS:
-        if are_all or rng.random() < 0.6:
-            module = rng.choice(["", ' module="core"', ' module="tei"'])
-            yield f'<macroSpec ident="{ident}"{module}>{made_inside_spec(rng, "macroSpec", ident)}</macroSpec>'
+    for local, idents in (("macroSpec", MACROS + DATA_MACROS), ("dataSpec", DATATYPES)):
+        for ident in idents:
+            if are_all or rng.random() < 0.6:
+                yield made_component(rng, local, ident)
 
 
 def made_references(rng, library):
@@ -288,39 +327,39 @@ def made_references(rng, library):
         if module and rng.random() < 0.8:
             yield f'<moduleRef key="{module}"{made_pick(rng, sorted(ident for kind, ident in modules[module] if kind == "element"))}/>'
     for (kind, ident), part in sorted(library.items()):
-        if rng.random() < (0.97 if kind == "macro" else 0.1 if part.module else 0.8):
-            yield f'<{kind}Ref key="{ident}"/>'
+        if rng.random() < (0.98 if kind in ("macro", "datatype") else 0.1 if part.module else 0.8):
+            yield f'<{REFERENCE_TO[kind]} key="{ident}"/>'
     if rng.random() < 0.04:
         yield f'<{rng.choice(sorted(TAKEN))} key="{rng.choice("abz")}"/>'
     if rng.random() < 0.02:
         yield f'<moduleRef key="{rng.choice(["core", "tei", "none"])}"/>'
 
 
-def made_declaration(rng, key, taken):
-    """A declaration, mostly in a mode that it may have where these keys are chosen."""
+def made_declaration(rng, key, taken, edited):
+    """A declaration, mostly in a mode that it may have where these keys are chosen and these attributes are edited or offered."""
     kind, ident = key
     is_right = rng.random() < 0.97
     modes = ["change", "change", "delete", "replace"] if (key in taken) == is_right else ["add", ""]
-    if kind == "macro" and "delete" in modes and rng.random() < 0.9:
+    if kind in ("macro", "datatype") and "delete" in modes and rng.random() < 0.9:
         modes = ["change"]
     mode = rng.choice(modes)
     named = f' mode="{mode}"' if mode else ""
     if kind == "class" and (mode not in ("change", "delete") or rng.random() < 0.3):
         named += f' type="{made_type(rng, ident)}"'
-    over = ' mode="change"' if mode == "change" and rng.random() < 0.6 else ""
-    inside = made_inside_spec(rng, f"{kind}Spec", ident, over) if mode != "delete" else ""
-    return f'<{kind}Spec ident="{ident}"{named}{"".join(made_attributes(rng, "changedSpec"))}>{inside}</{kind}Spec>'
+    inside = made_inside_spec(rng, SPEC_OF[kind], ident, mode, edited if mode == "change" else ()) if mode != "delete" or rng.random() < 0.1 else ""
+    return f'<{SPEC_OF[kind]} ident="{ident}"{named}{"".join(made_attributes(rng, "changedSpec"))}>{inside}</{SPEC_OF[kind]}>'
 
 
-def made_items(rng, library):
-    """The items of a file over the library that the files before it give."""
+def made_items(rng, library, edited):
+    """The items of a file over the library that the files before it give, whose components edit or offer these attributes."""
     references = list(made_references(rng, library))
     around = f'<schemaSpec xmlns="{TEI}">{"".join(references)}</schemaSpec>'
     taken = merging.chosen(library, doc_of(read(around.encode()), []))
-    new = [*(("element", ident) for ident in ("a", "b", "TEI")), *(("class", ident) for ident in CLASSES), *(("macro", ident) for ident in MACROS)]
-    chances = {"element": 0.3, "class": 0.2, "macro": 0.1}
+    idents_of = {"element": ["a", "b", "TEI"], "class": CLASSES, "macro": MACROS + DATA_MACROS, "datatype": DATATYPES}
+    new = [(kind, ident) for kind, idents in idents_of.items() for ident in idents]
+    chances = {"element": 0.4, "class": 0.3, "macro": 0.1, "datatype": 0.1}
     declared = [key for key in sorted({*library, *new}) if rng.random() < chances[key[0]]]
-    items = references + [made_declaration(rng, key, taken) for key in declared]
+    items = references + [made_declaration(rng, key, taken, edited.get(key, ())) for key in declared]
     rng.shuffle(items)
     return "".join(items)
 
@@ -352,27 +391,29 @@ def made_inside(rng, local, levels):
 
 
 def made(rng, local, levels):
+    if local in WHOLE:
+        return WHOLE[local](rng)
     tag = {"x": "x:x", "rng": "r:text"}.get(local, "t:" + local if rng.random() < 0.03 else local)
     attributes = "".join(made_attributes(rng, local))
     return f"<{tag}{attributes}>{made_inside(rng, local, levels)}</{tag}>"
 
 
-def made_schema(rng, library):
+def made_schema(rng, library, edited):
     """A `schemaSpec` over the library that the files before it give."""
     if not library:
         return made(rng, "schemaSpec", 6)
     extra = "".join(made_children(rng, "schemaSpec", 3)) if rng.random() < 0.1 else ""
-    return f"<schemaSpec{''.join(made_attributes(rng, 'schemaSpec'))}>{made_items(rng, library)}{extra}</schemaSpec>"
+    return f"<schemaSpec{''.join(made_attributes(rng, 'schemaSpec'))}>{made_items(rng, library, edited)}{extra}</schemaSpec>"
 
 
-def made_file(rng, library):
-    inner = made_schema(rng, library)
-    if rng.random() < 0.02:
+def made_file(rng, library, edited):
+    inner = made_schema(rng, library, edited)
+    if rng.random() < 0.01:
         end = inner.rindex("</")
         inner = inner[:end] + FULL + inner[end:]
     if rng.random() < 0.5:
         before = made(rng, chosen(rng, ANYWHERE), 2) if rng.random() < 0.3 else "<p>prose</p>"
-        around = rng.choice(["p", "desc", "x:x", "body", "body", "body"])
+        around = rng.choice(["p", "desc", "x:x", *["body"] * 9])
         again = made(rng, "schemaSpec", 1) if rng.random() < 0.05 else ""
         inner = f"<TEI>{before}<{around}{''.join(made_declarations(rng))}>{inner}</{around}>{again}</TEI>"
     head = re.match(r"<[^ >]+", inner).group(0)
@@ -389,30 +430,40 @@ def brought_near(rng, chain):
     return [*chain[:-1], chain[-1].replace(TIMES.encode(), f"{times:09}".encode())]
 
 
-def is_sound(data):
+def after_file(library, data, kept):
+    """How sound a file is, and the library after it, or before it where it has an offence."""
     root = read(data)
-    return next(found(root), None) is not None and not holds_pending(root) and not any(form_offences(root))
+    schema = next(found(root), None)
+    if schema is None or holds_pending(root) or any(form_offences(root)):
+        return ANY, library
+    doc = doc_of(schema, kept)
+    after = merging.held_after(library, doc) if not any(merging.offences(library, doc)) else None
+    if after is None or any(breaks(after, kept)):
+        return OF_FORM, library
+    return WITH_START if merging.elements(doc.start) <= after.keys() else OF_RULES, after
 
 
-def made_sound_file(rng, library):
-    """A file without an offence of form, where one is made in a few tries."""
+def made_wanted(rng, library, kept, wanted):
+    """A file that is as sound as is wanted, where one is made in a few tries, and the library that the next file is made over."""
+    faults = rng.choice([0, 0, 1, 1, 1, 2]) if wanted == ANY else 0
+    edited = attribute_forms.idents_of(library, edits_in(library, kept))
     for _ in range(8):
-        data = made_file(rng, library)
-        if is_sound(data):
+        data = made_file(rng, library, edited)
+        soundness, after = after_file(library, data, kept)
+        if soundness >= (OF_FORM if faults else wanted):
             break
-    return data
+    for _ in range(faults):
+        data = attribute_forms.with_fault(rng, data.decode()).encode()
+    return data, library if faults else after
 
 
 def made_files(rng):
     """The files of a chain. What is made over a file that offends is over the library before that."""
-    library, contents, chain = {}, [], []
-    is_clean = rng.random() < 0.75
-    for _ in range(rng.choice([1, 1, 2, 2, 2, 2, 3, 3, 3, 4, 5, *[16] * (rng.random() < 0.05)])):
-        chain.append((made_sound_file if is_clean or rng.random() < 0.6 else made_file)(rng, library))
-        if is_sound(chain[-1]):
-            doc = doc_of(next(found(read(chain[-1]))), contents)
-            if not any(merging.offences(library, doc)) and not any(merging.breaks(naming(merging.held_after(library, doc), contents))):
-                library = merging.held_after(library, doc)
+    library, kept, chain = {}, [], []
+    wanted = rng.choices([ANY, OF_FORM, OF_RULES, WITH_START], [30, 28, 10, 32])[0]
+    for _ in range(rng.choice([1, 1, 2, 2, 2, 3, 3, 3, 4, 4, 5, *[16] * (rng.random() < 0.05)])):
+        data, library = made_wanted(rng, library, kept, wanted)
+        chain.append(data)
     return chain
 
 
@@ -427,6 +478,7 @@ def spoiled(rng, chain):
 # How a file is read.
 
 
+@functools.lru_cache(maxsize=64)
 def read(data):
     """The root of the file, with the byte of each start tag and the prefixes that are in force in it."""
     root, open_elements, bound = [], [], collections.defaultdict(list, xml=[XML])
@@ -435,14 +487,21 @@ def read(data):
     def start(name, attrs):
         ns, _, local = name.rpartition("|")
         prefixes = {prefix: names[-1] for prefix, names in bound.items() if names}
-        element = Element(ns, local, attrs, prefixes, parser.CurrentByteIndex, [])
+        element = Element(ns, local, attrs, prefixes, parser.CurrentByteIndex, [], ElementTree.Element("{%s}%s" % (ns, local), attrs))
+        if open_elements:
+            open_elements[-1].tree.append(element.tree)
         (open_elements[-1].inside if open_elements else root).append(element)
         open_elements.append(element)
+
+    def text(data):
+        tree = open_elements[-1].tree
+        tree.text = (tree.text or "") + data
 
     parser.StartNamespaceDeclHandler = lambda prefix, ns: bound[prefix].append(ns)
     parser.EndNamespaceDeclHandler = lambda prefix: bound[prefix].pop()
     parser.StartElementHandler = start
     parser.EndElementHandler = lambda name: open_elements.pop()
+    parser.CharacterDataHandler = text
     parser.Parse(data, True)
     return root[0]
 
@@ -460,8 +519,12 @@ def found(element):
             yield from found(child)
 
 
+def children_of(element, *locals):
+    return [child for child in element.inside if is_tei(child, *locals)]
+
+
 def parts_of(element):
-    return [child for child in element.inside if is_tei(child, *PARTS)]
+    return children_of(element, *PARTS)
 
 
 def words_of(value):
@@ -486,10 +549,8 @@ def excepted(part):
 # What is not read yet, and what is refused.
 
 
-def holds_pending(element, in_content=False):
-    if is_tei(element, *PENDING) or in_content and is_tei(element, *PENDING_IN_CONTENT):
-        return True
-    return any(holds_pending(child, in_content or is_tei(element, "content")) for child in element.inside)
+def holds_pending(element):
+    return is_tei(element, *PENDING) or any(map(holds_pending, element.inside))
 
 
 def child_rules(element, named, in_content=False):
@@ -539,6 +600,9 @@ def own_rules(part):
 
 def part_rules(part, levels):
     """The rules that a part breaks, where so many levels may still open."""
+    if part.local in attribute_forms.PART_RULES:
+        yield from attribute_forms.PART_RULES[part.local](part.tree)
+        return
     yield from child_rules(part, PARTS if part.local in LEVELS else set(), in_content=True)
     yield from own_rules(part)
     if part.local in BOUNDED:
@@ -550,11 +614,33 @@ def part_rules(part, levels):
             yield from part_rules(inner, levels - 1)
 
 
-def content_rules(content):
+def data_part_rules(part, levels):
+    """The rules that a part breaks in the content of a datatype."""
+    if part.local not in DATA_PARTS:
+        yield 3
+    if part.local != "alternate":
+        yield from part_rules(part, levels)
+        return
+    yield from child_rules(part, PARTS, in_content=True)
+    yield from attribute_forms.once_rules(part.tree)
+    if levels <= 0:
+        yield 2
+    for inner in parts_of(part):
+        yield from data_part_rules(inner, levels - 1)
+
+
+def content_rules(content, rules=part_rules):
     yield from child_rules(content, PARTS, in_content=True)
     parts = parts_of(content)
     for part in parts:
-        yield from part_rules(part, MOST_LEVELS - (len(parts) > 1))
+        yield from rules(part, MOST_LEVELS - (len(parts) > 1))
+
+
+def data_content_rules(content):
+    """The rules that the content of a datatype breaks."""
+    if len(parts_of(content)) != 1:
+        yield 3
+    yield from content_rules(content, data_part_rules)
 
 
 def classes_rules(classes):
@@ -562,7 +648,7 @@ def classes_rules(classes):
     if classes.attrs.get("mode", "replace") not in ("replace", "change"):
         yield 3
     yield from child_rules(classes, {"memberOf"})
-    members = [child for child in classes.inside if is_tei(child, "memberOf")]
+    members = children_of(classes, "memberOf")
     keys = [member.attrs["key"] for member in members if is_name(member.attrs.get("key"))]
     if len(keys) < len(members):
         yield 1
@@ -574,6 +660,21 @@ def classes_rules(classes):
         if mode_of(member) not in ("add", "delete"):
             yield 3
         yield from child_rules(member, set())
+
+
+def by_tree(rules):
+    """Rules of elements of Python's own XML, asked of an element of a file."""
+    return lambda element: rules(element.tree)
+
+
+# The children that a declaration may have, each once, with what they break.
+NAME_RULES, LIST_RULES = by_tree(attribute_forms.name_rules), by_tree(attribute_forms.list_rules)
+SPEC_CHILDREN = {
+    "elementSpec": {"altIdent": NAME_RULES, "classes": classes_rules, "content": content_rules, "attList": LIST_RULES},
+    "classSpec": {"classes": classes_rules, "attList": LIST_RULES},
+    "macroSpec": {"content": content_rules},
+    "dataSpec": {"content": data_content_rules},
+}
 
 
 def spec_rules(spec):
@@ -588,14 +689,15 @@ def spec_rules(spec):
             yield 1
         if spec.attrs.get("type", "model") not in ("model", "atts"):
             yield 3
-    yield from child_rules(spec, SPEC_CHILDREN[spec.local])
-    for local, rules in (("content", content_rules), ("classes", classes_rules)):
-        if local in SPEC_CHILDREN[spec.local]:
-            children = [child for child in spec.inside if is_tei(child, local)]
-            if len(children) > 1:
-                yield 4
-            for child in children:
-                yield from rules(child)
+    if spec.local == "dataSpec" and not children_of(spec, "content") and mode_of(spec) not in ("change", "delete"):
+        yield 3
+    yield from child_rules(spec, SPEC_CHILDREN[spec.local].keys() | {"altIdent"})
+    for local, rules in SPEC_CHILDREN[spec.local].items():
+        children = children_of(spec, local)
+        if len(children) > 1:
+            yield 4
+        for child in children:
+            yield from rules(child)
 
 
 def module_rules(reference):
@@ -627,7 +729,7 @@ def item_rules(item):
         yield from module_rules(item)
     elif is_tei(item, *TAKEN):
         yield from reference_rules(item)
-    elif is_tei(item) and item.local not in PASSED_OVER:
+    elif is_tei(item) and item.local not in PASSED_OVER | {"altIdent"}:
         yield 3
 
 
@@ -656,8 +758,8 @@ def mode_of(spec):
     return spec.attrs.get("mode", "add")
 
 
-def fields_of(schema, spec, contents):
-    """The fields that a declaration gives. Its content is told by its place among `contents`, to which it is put."""
+def fields_of(schema, spec, kept):
+    """The fields that a declaration gives. Its content and its attribute list are told by their places in `kept`, to which they are put."""
     if "module" in spec.attrs:
         yield "module=" + spec.attrs["module"]
     if "type" in spec.attrs and spec.local == "classSpec":
@@ -667,23 +769,29 @@ def fields_of(schema, spec, contents):
             yield "ns=" + spec.attrs.get("ns", schema.attrs.get("ns", TEI))
         elif "ns" in spec.attrs:
             yield "ns=" + spec.attrs["ns"]
-    for child in spec.inside:
-        if is_tei(child, "content"):
-            contents.append(child)
-            yield f"content={len(contents) - 1}"
-        if is_tei(child, "classes"):
-            yield memberships_in(child)
+    for child in children_of(spec, *SPEC_CHILDREN[spec.local]):
+        yield field_in(child, kept)
+
+
+def field_in(child, kept):
+    """The field that a child of a declaration gives. Those of attribute lists are joined in order of their places."""
+    if child.local == "classes":
+        return memberships_in(child)
+    if child.local == "altIdent":
+        return "alt=" + attribute_forms.name_given(child.tree)
+    kept.append(child)
+    return f"content={len(kept) - 1}" if child.local == "content" else f"atts={len(kept) - 1:06}:delete"
 
 
 def memberships_in(classes):
     """The field of the memberships that a `classes` gives."""
-    marks = ["+-"[mode_of(member) == "delete"] + member.attrs["key"] for member in classes.inside if is_tei(member, "memberOf")]
+    marks = ["+-"[mode_of(member) == "delete"] + member.attrs["key"] for member in children_of(classes, "memberOf")]
     if classes.attrs.get("mode") == "change":
         return "change=" + ",".join(marks)
     return "classes=" + ",".join(mark[1:] for mark in marks if mark[0] == "+")
 
 
-def words_of_item(schema, item, contents):
+def words_of_item(schema, item, kept):
     """An item, or None of what is passed over."""
     if is_tei(item, "moduleRef"):
         picks = [[name, *words_of(item.attrs.get(name, ""))] for name in ("include", "except")]
@@ -691,13 +799,13 @@ def words_of_item(schema, item, contents):
     if is_tei(item, *TAKEN):
         return ["take", TAKEN[item.local], item.attrs["key"]]
     if is_tei(item, *SPECS):
-        return [mode_of(item), SPECS[item.local], item.attrs["ident"], *fields_of(schema, item, contents)]
+        return [mode_of(item), SPECS[item.local], item.attrs["ident"], *fields_of(schema, item, kept)]
     return None
 
 
-def doc_of(schema, contents):
+def doc_of(schema, kept):
     """What a file declares that breaks no rule of form."""
-    items = [words_of_item(schema, item, contents) for item in schema.inside]
+    items = [words_of_item(schema, item, kept) for item in schema.inside]
     start = sorted(set(start_words(schema)), key=str.encode)
     return merging.Doc(schema.attrs.get("ident"), start, [item for item in items if item])
 
@@ -715,64 +823,62 @@ def item_offences(schema, library, doc):
 
 
 def library_of(chain):
-    """The start words and the library after a chain without an offence, and the contents that this tells by their places."""
-    library, contents, start = {}, [], ["TEI"]
+    """The start words and the library after a chain without an offence, and what this tells by its place."""
+    library, kept, start = {}, [], ["TEI"]
     for data in chain:
-        doc = doc_of(next(found(read(data))), contents)
+        doc = doc_of(next(found(read(data))), kept)
         library, start = merging.held_after(library, doc), doc.start
-    return start, library, contents
+    return start, library, kept
 
 
 def names_of(element):
     """What a content or a part names, at any depth, as checks/merging.py writes it."""
-    kind = TAKEN.get(element.local)
-    if kind:
+    if element.local in attribute_forms.PART_RULES:
+        yield "data/" + element.attrs["key"] if element.local == "dataRef" and "key" in element.attrs else "value"
+    elif element.local in TAKEN:
+        kind = TAKEN[element.local]
         yield element.attrs["key"] if kind == "element" else f"{kind}/{element.attrs['key']}"
     for part in parts_of(element):
         yield from names_of(part)
 
 
-def naming(library, contents):
-    """The library, with what each content names in its place."""
-    return {key: part._replace(content=",".join(names_of(contents[int(part.content)])) if part.content.isdigit() else "") for key, part in library.items()}
+def is_data(part):
+    """Whether a part is data content where the macros are that it names."""
+    if part.local == "alternate":
+        return bounds_of(part) == (1, 1) and parts_of(part) != [] and all(map(is_data, parts_of(part)))
+    return part.local in attribute_forms.PART_RULES or part.local == "macroRef" and bounds_of(part) == (1, 1)
+
+
+def named_in(content):
+    """What a content names: an alternation where it may be data content, and else a sequence."""
+    parts, names = parts_of(content), list(names_of(content))
+    return "|".join(names) if len(parts) == 1 and is_data(parts[0]) else ",".join([*names, "text"])
+
+
+def naming(library, kept):
+    """The library, with what each content names in its place, and without attributes."""
+    return {key: part._replace(content=named_in(kept[int(part.content)]) if part.content.isdigit() else "", atts="") for key, part in library.items()}
+
+
+def edits_in(library, kept):
+    """The edits of attributes of each component."""
+    places = {key: re.findall(r"\d+(?=:)", part.atts) for key, part in library.items()}
+    return {key: attribute_forms.edits_of(kept[int(place)].tree for place in places[key]) for key in library}
+
+
+def breaks(library, kept):
+    """The rules that components of a library break, each with its key."""
+    yield from merging.breaks(naming(library, kept))
+    yield from attribute_forms.breaks(library, edits_in(library, kept))
 
 
 # The schema of a library.
-
-
-def markup(tag, parts=(), text="", **pairs):
-    """An element of the schema. Its parts are pairs of how often a part stands and the part."""
-    return Markup(tag, pairs, list(parts), text, 1 + sum(times * part.size for times, part in parts))
-
-
-def once(*parts):
-    return [(1, part) for part in parts]
-
-
-def reference(name):
-    return markup("ref", name=name)
-
-
-def joined(tag, none, parts):
-    """A group or a choice of the parts: of none it is the element `none`, and of one that part."""
-    parts = [(times, part) for times, part in parts if times]
-    if not parts:
-        return markup(none)
-    return parts[0][1] if len(parts) == 1 and parts[0][0] == 1 else markup(tag, parts)
 
 
 def bounds_of(part):
     """The minimum and the maximum, which is None where there is none."""
     least, greatest = (part.attrs.get(name, "1") for name in ("minOccurs", "maxOccurs"))
     return int(least), None if greatest == "unbounded" else int(greatest)
-
-
-def repeated(part, least, greatest):
-    if (least, greatest) == (1, None):
-        return markup("oneOrMore", once(part))
-    if greatest is None:
-        return joined("group", "empty", [(least, part), (1, markup("zeroOrMore", once(part)))])
-    return joined("group", "empty", [(least, part), (greatest - least, markup("optional", once(part)))])
 
 
 def condition_of(part):
@@ -824,6 +930,8 @@ def pattern_of(part, held, numbers):
         return markup("text")
     if part.local == "empty":
         return markup("empty")
+    if part.local in attribute_forms.PART_RULES:
+        return attribute_forms.part_pattern(part.tree)
     if part.local == "elementRef":
         key = part.attrs["key"]
         pattern = reference("e." + key) if key in held.elements else markup("notAllowed")
@@ -843,38 +951,13 @@ def patterns_of(element, held, numbers):
     return once(*(pattern_of(part, held, numbers) for part in parts_of(element)))
 
 
-def excepting(tag, parts, **pairs):
-    """A name class with what it leaves out."""
-    return markup(tag, once(markup("except", once(*parts))) if parts else (), **pairs)
-
-
-def names_among(names):
-    return [markup("name", text=local, ns=ns) for ns, local in names]
-
-
-def name_class(require, spaces, names):
-    """The name class of a condition, and None where no name meets it."""
-    if not require:
-        return excepting("anyName", [*(markup("nsName", ns=ns) for ns in spaces), *names_among(names)])
-    left = [ns for ns in require if ns not in spaces]
-    classes = [excepting("nsName", names_among(name for name in names if name[0] == ns), ns=ns) for ns in left]
-    return joined("choice", None, once(*classes)) if classes else None
-
-
-def condition_define(name, condition):
-    names = name_class(*condition)
-    attributes = markup("zeroOrMore", once(markup("attribute", once(markup("anyName")))))
-    inside = markup("zeroOrMore", once(markup("choice", once(markup("text"), reference(name)))))
-    body = markup("element", once(names, attributes, inside)) if names else markup("notAllowed")
-    return markup("define", once(body), name=name)
-
-
 def content_pattern(content, held, numbers):
     return joined("group", "empty", patterns_of(content, held, numbers) if content else [])
 
 
-def element_define(ident, ns, content, held, numbers):
-    body = markup("element", once(content_pattern(content, held, numbers)), name=ident, ns=ns)
+def element_define(ident, part, content, held, numbers):
+    attributes = attribute_forms.attribute_patterns(held.offers["element", ident])
+    body = markup("element", once(*attributes, content_pattern(content, held, numbers)), name=part.alt or ident, ns=part.ns)
     return markup("define", once(body), name="e." + ident)
 
 
@@ -882,31 +965,23 @@ def define_of(key, part, content, held, numbers):
     """The define of a component, or none of a class of attributes."""
     kind, ident = key
     if kind == "element":
-        return [element_define(ident, part.ns, content, held, numbers)]
-    if kind == "macro":
-        return [markup("define", once(content_pattern(content, held, numbers)), name="m." + ident)]
-    return [markup("define", once(one_of(held.members[ident])), name="c." + ident)] if part.type == "model" else []
+        return [element_define(ident, part, content, held, numbers)]
+    if kind == "class":
+        return [markup("define", once(one_of(held.members[ident])), name="c." + ident)] if part.type == "model" else []
+    return [markup("define", once(content_pattern(content, held, numbers)), name=f"{kind[0]}.{ident}")]
 
 
-def grammar_of(start, library, contents):
-    held = Held({ident for kind, ident in library if kind == "element"}, members_of(library))
-    content_of = {key: contents[int(part.content)] if part.content.isdigit() else None for key, part in library.items()}
+def grammar_of(start, library, kept):
+    offers = attribute_forms.offers_of(library, edits_in(library, kept))
+    held = Held({ident for kind, ident in library if kind == "element"}, members_of(library), offers)
+    content_of = {key: kept[int(part.content)] if part.content.isdigit() else None for key, part in library.items()}
     conditions = sorted({condition for content in content_of.values() if content for condition in conditions_in(content)})
     numbers = {condition: number for number, condition in enumerate(conditions, 1)}
     defines = [condition_define(f"a.{number}", condition) for condition, number in numbers.items()]
     for key, part in library.items():
         defines += define_of(key, part, content_of[key], held, numbers)
     inside = [markup("start", once(one_of(start))), *sorted(defines, key=lambda define: define.pairs["name"].encode())]
-    return markup("grammar", once(*inside), xmlns=RELAX_NG, datatypeLibrary=DATATYPES)
-
-
-def written(element):
-    """The text of an element of the schema."""
-    pairs = "".join(f' {name}="{escaped(value).replace(">", "&gt;")}"' for name, value in element.pairs.items())
-    if element.text:
-        return f"<{element.tag}{pairs}>{element.text}</{element.tag}>\n"
-    inside = "".join(written(part) * times for times, part in element.parts)
-    return f"<{element.tag}{pairs}>\n{inside}</{element.tag}>\n" if inside else f"<{element.tag}{pairs}/>\n"
+    return markup("grammar", once(*inside), xmlns=RELAX_NG, datatypeLibrary=DATATYPE_LIBRARY)
 
 
 def unread(chain):
@@ -921,18 +996,18 @@ def unread(chain):
 
 def refusal(chain):
     """The first offence of a chain: of the first file that has one, those of form before those of its items."""
-    library, contents = {}, []
+    library, kept = {}, []
     for file, data in enumerate(chain, 1):
         root = read(data)
         schema = next(found(root))
         first = min(form_offences(root), default=None)
         if not first:
-            doc = doc_of(schema, contents)
+            doc = doc_of(schema, kept)
             first = min(item_offences(schema, library, doc), default=None)
         if first:
             return Answer(2, f"odd: file {file}: byte {first[0]}: rule {first[1]}\n", "")
         library = merging.held_after(library, doc)
-        broken = min(merging.breaks(naming(library, contents)), key=lambda found: (found[0], merging.key_order(found[1:])), default=None)
+        broken = min(breaks(library, kept), key=lambda found: (found[0], merging.key_order(found[1:])), default=None)
         if broken:
             return Answer(2, f"odd: file {file}: {broken[1]} {broken[2]}: rule {broken[0]}\n", "")
     return None
@@ -949,11 +1024,11 @@ def not_yet(chain):
 
 def compiled(chain):
     """The answer to a chain that has no offence."""
-    start, library, contents = library_of(chain)
+    start, library, kept = library_of(chain)
     missing = {word for word in start if ("element", word) not in library}
     if missing:
         return Answer(2, f"odd: start {min(missing, key=str.encode)}: rule 20\n", "")
-    grammar = grammar_of(start, library, contents)
+    grammar = grammar_of(start, library, kept)
     if grammar.size > MOST_NODES:
         return Answer(5, "odd: limit nodes\n", "")
     return Answer(0, "", '<?xml version="1.0" encoding="UTF-8"?>\n' + written(grammar))
@@ -969,7 +1044,11 @@ def answer(chain):
 # The comparison.
 
 # What is looked for in the schemas, to tell how many have it.
-FORMS = [*'name="c. name="m.'.split(), *"<group <choice <optional <zeroOrMore <oneOrMore <notAllowed <nsName <name".split(), 'define name="a.1"', 'define name="a.10"']
+FORMS = [
+    *'name="c. name="m. name="d.'.split(),
+    *"<group <choice <optional <zeroOrMore <oneOrMore <notAllowed <nsName <name <attribute <list <data <param <value".split(),
+    *('define name="a.1"', 'define name="a.10"', '<param name="pattern"/>'),
+]
 
 
 def shown(text):
@@ -987,6 +1066,17 @@ def put(folder, chain):
     return names
 
 
+def told_of(chain, note):
+    """A note without what it names, and of a rule of form also where it is broken in names, attribute lists and data."""
+    plain = re.sub(r"file \d+|start \S+|byte \d+|(element|class|macro|datatype) \S+(?=: rule)", lambda named: named[0].split()[0] + " ..", note)
+    place = re.fullmatch(r"odd: file (\d+): byte (\d+): rule ([1-4])\n", note)
+    if not place:
+        return plain or "the schema is written\n"
+    file, at, rule = map(int, place.groups())
+    broken = [attribute_forms.forms_broken(item.tree, rule) for item in next(found(read(chain[file - 1]))).inside if item.at == at]
+    return " ".join([plain[:-1], *sorted(set().union(*broken))]) + "\n"
+
+
 def main(program, count):
     resource.setrlimit(resource.RLIMIT_AS, (MOST_MEMORY, MOST_MEMORY))
     program = pathlib.Path(program).resolve()
@@ -998,7 +1088,7 @@ def main(program, count):
             wanted = answer(chain)
             result = subprocess.run([program, "compile", *put(folder, chain)], capture_output=True, cwd=folder)
             given = Answer(result.returncode, result.stderr.decode(), result.stdout.decode())
-            told[re.sub(r"byte \d+|start \S+|(element|class|macro) \S+(?=: rule)", "..", wanted.note) or "the schema is written\n"] += 1
+            told[told_of(chain, wanted.note)] += 1
             lengths[len(chain)] += 1
             forms.update(form for form in FORMS if form in wanted.schema)
             if given != wanted:
