@@ -392,19 +392,14 @@ def passed(offer, edits):
 
 
 def offers_of(library, edits):
-    """What each element and class offers: each offer is handed on to those that are members of its holder."""
-    members = collections.defaultdict(set)
-    for key in library:
-        for class_key in merging.links(library, key):
-            members[class_key].add(key)
-    found = {key: set() for key in library}
-    waiting = [(key, merging.Offer(ident, frozen(fields), key)) for key in library for ident, (kind, fields) in edits[key].items() if kind == "set"]
-    while waiting:
-        key, offer = waiting.pop()
-        if offer not in found[key]:
-            found[key].add(offer)
-            waiting.extend((member, made) for member in members[key] for made in passed(offer, edits[member]))
-    return found
+    """What each element and class offers."""
+    set_here = [
+        (key, merging.Offer(ident, frozen(fields), key))
+        for key in library
+        for ident, (kind, fields) in edits[key].items()
+        if kind == "set"
+    ]
+    return merging.handed_on(library, set_here, lambda offer, member: passed(offer, edits[member]))
 
 
 def contradicts(library, edits, offers, key):

@@ -282,24 +282,29 @@ def reached(library, key, links_of):
 
 
 def offers_of(library):
-    """What each element and class offers: each offer is handed on to those that are members of its holder."""
-    members = collections.defaultdict(set)
-    for key in library:
-        for class_key in links(library, key):
-            members[class_key].add(key)
+    """What each element and class offers."""
     edits = {key: edits_of(part.atts) for key, part in library.items()}
-    waiting = [
+    set_here = [
         (key, Offer(ident, frozenset(given.items()), key))
         for key in library
         for ident, (kind, given) in edits[key].items()
         if kind == "set"
     ]
+    return handed_on(library, set_here, lambda offer, member: passed(offer, edits[member]))
+
+
+def handed_on(library, waiting, made_of):
+    """The offers of each holder: each is handed on to the members of its holder, which make of it what `made_of` says."""
+    members = collections.defaultdict(set)
+    for key in library:
+        for class_key in links(library, key):
+            members[class_key].add(key)
     found = {key: set() for key in library}
     while waiting:
         key, offer = waiting.pop()
         if offer not in found[key]:
             found[key].add(offer)
-            waiting.extend((member, made) for member in members[key] for made in passed(offer, edits[member]))
+            waiting.extend((member, made) for member in members[key] for made in made_of(offer, member))
     return found
 
 
