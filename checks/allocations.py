@@ -1,10 +1,10 @@
 #!/usr/bin/env python3
 """Makes each allocation of a run of odd fail in turn, and looks for an answer that is not the proper one.
 
-    checks/allocations.py PROGRAM [FILE..]
+    checks/allocations.py PROGRAM [aside] [FILE..]
 
-PROGRAM is the built program odd, FILE.. the chain that is compiled: the two files of examples/ where none is given. A
-shim over malloc and realloc, which is compiled here with cc, lets the Nth call of a run find no memory, for each N up to
+PROGRAM is the built program odd, FILE.. the chain that is compiled, with the word `aside` or without it: the two files of examples/ where
+none is given. A shim over malloc and realloc, which is compiled here with cc, lets the Nth call of a run find no memory, for each N up to
 the number of calls of a run in which none fails. Each run must end with 8, nothing on standard output and the line for
 want of memory, or with 8 and nothing at all, as where there is no memory for the words, or else as the run without a
 failure does. Ends with 1 where one does otherwise.
@@ -76,8 +76,9 @@ def answer(command, shim, failing=0, told=None):
     return result.returncode, result.stdout, result.stderr
 
 
-def main(program, files):
-    command = [str(pathlib.Path(program).resolve()), "compile", *map(str, files or CHAIN)]
+def main(program, words):
+    aside = words[:1] == ["aside"]
+    command = [str(pathlib.Path(program).resolve()), *["aside"] * aside, "compile", *map(str, words[aside:] or CHAIN)]
     counts = collections.Counter()
     with tempfile.TemporaryDirectory() as name:
         folder = pathlib.Path(name)

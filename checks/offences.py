@@ -4,10 +4,11 @@ docs/commands.md, docs/odd-files.md, docs/content.md, docs/merging.md, docs/valu
 
     checks/offences.py PROGRAM [COUNT]
 
-PROGRAM is the built program odd, COUNT how many chains are made (20,000 where it is not given), from a fixed seed. The
-answer is worked out here, apart from the program: the exit code, the line on standard error, and the whole schema where
-one is written; what a file does to the library before it, by checks/merging.py, and attributes and data, by
-checks/attribute_forms.py. Ends with 1 where one of them differs. A run has 2 GiB of memory at most, and no chain needs as much.
+PROGRAM is the built program odd, COUNT how many chains are made (20,000 where it is not given), from a fixed seed. Some have groups, made
+by checks/group_forms.py, and some are compiled with the word `aside`. The answer is worked out here, apart from the program: the exit code, the
+line on standard error, and the whole schema where one is written; what a file does to the library before it, by checks/merging.py, and
+attributes and data, by checks/attribute_forms.py. Ends with 1 where one of them differs. A run has 2 GiB of memory at most, and no chain
+needs as much.
 """
 
 import collections
@@ -23,6 +24,7 @@ import xml.parsers.expat
 from xml.etree import ElementTree
 
 import attribute_forms
+import group_forms
 import merging
 from schema_markup import condition_define, escaped, joined, markup, once, reference, repeated, written
 
@@ -30,9 +32,10 @@ TEI = "http://www.tei-c.org/ns/1.0"
 RELAX_NG = "http://relaxng.org/ns/structure/1.0"
 DATATYPE_LIBRARY = "http://www.w3.org/2001/XMLSchema-datatypes"
 XML = "http://www.w3.org/XML/1998/namespace"
+# The name of `xml:id` as it is read.
+ID = XML + "|id"
 OTHER = "urn:x"
 PASSED_OVER = set("gloss desc equiv exemplum remarks listRef model modelGrp modelSequence moduleSpec defaultVal".split())
-PENDING = {"specGrp", "specGrpRef"}
 # The declarations, with the kind of what each declares.
 SPECS = {"elementSpec": "element", "classSpec": "class", "macroSpec": "macro", "dataSpec": "datatype"}
 # The references among the items, with the kind of what each refers to.
@@ -52,6 +55,8 @@ DIGITS = re.compile(r"[0-9]{1,9}\Z")
 Answer = collections.namedtuple("Answer", "code note schema")
 # An element of a file, and the same as Python's own XML, with its own text in front.
 Element = collections.namedtuple("Element", "ns local attrs prefixes at inside tree")
+# What of a file is asked and declared: each `schemaSpec` and each group, its items, and how many constraints are taken out of it.
+File = collections.namedtuple("File", "schemas groups items asides")
 # The elements that are held, the members of each held class, and what each component offers of attributes.
 Held = collections.namedtuple("Held", "elements members offers")
 
@@ -59,7 +64,7 @@ Held = collections.namedtuple("Held", "elements members offers")
 # How a file is made: names with their weights, by what is around.
 
 ANYWHERE = (
-    "elementSpec:8 content:3 empty:2 textNode:2 desc:2 exemplum:1 remarks:1 constraintSpec:1 p:1 schemaSpec:1 moduleRef:1"
+    "elementSpec:8 content:3 empty:2 textNode:2 desc:2 exemplum:1 remarks:1 constraintSpec:1 p:1 schemaSpec:1 moduleRef:1 specGrp:1"
     " elementRef:1 classRef:1 macroRef:1 classSpec:1 macroSpec:1 classes:1 memberOf:1 dataSpec:1 attList:1 altIdent:1 data:1 attDef:1"
     " datatype:1"
 )
@@ -354,7 +359,7 @@ def made_items(rng, library, edited):
     """The items of a file over the library that the files before it give, whose components edit or offer these attributes."""
     references = list(made_references(rng, library))
     around = f'<schemaSpec xmlns="{TEI}">{"".join(references)}</schemaSpec>'
-    taken = merging.chosen(library, doc_of(read(around.encode()), []))
+    taken = merging.chosen(library, doc_of(read(around.encode(), False), []))
     idents_of = {"element": ["a", "b", "TEI"], "class": CLASSES, "macro": MACROS + DATA_MACROS, "datatype": DATATYPES}
     new = [(kind, ident) for kind, idents in idents_of.items() for ident in idents]
     chances = {"element": 0.4, "class": 0.3, "macro": 0.1, "datatype": 0.1}
@@ -368,7 +373,7 @@ def made_children(rng, local, levels):
     for _ in range(rng.choice(COUNTS.get(local, [0, 1]))):
         name = chosen(rng, CHILDREN.get(local, ANYWHERE))
         if rng.random() < 0.001:
-            name = rng.choice(sorted(PENDING | PARTS))
+            name = rng.choice(sorted(PARTS | {"specGrp", "specGrpRef"}))
         yield rng.choice(["", " ", "t", "\u00e9\n"]) + made(rng, name, levels - 1)
 
 
@@ -406,63 +411,75 @@ def made_schema(rng, library, edited):
     return f"<schemaSpec{''.join(made_attributes(rng, 'schemaSpec'))}>{made_items(rng, library, edited)}{extra}</schemaSpec>"
 
 
-def made_file(rng, library, edited):
-    inner = made_schema(rng, library, edited)
+def made_around(rng, before, schema, after):
+    """A file with a schemaSpec, alone or with something around it."""
+    if not before and not after and rng.random() < 0.5:
+        return schema
+    before += made(rng, chosen(rng, ANYWHERE), 2) if rng.random() < 0.3 else "<p>prose</p>"
+    around = rng.choice(["p", "desc", "specGrp", *["body"] * 10])
+    named = ' xml:id="g"' if around == "specGrp" and rng.random() < 0.5 else ""
+    schema = f"<{around}{named}{''.join(made_declarations(rng))}>{schema}</{around}>"
+    again = group_forms.put_around(rng, group_forms.PROSE, made(rng, "schemaSpec", 1)) if rng.random() < 0.05 else ""
+    return f"<TEI>{before}{f'<x:x>{schema}</x:x>' if rng.random() < 0.03 else schema}{again}{after}</TEI>"
+
+
+def made_file(rng, library, edited, aside):
+    schema, kind = made_schema(rng, library, edited), rng.random()
     if rng.random() < 0.01:
-        end = inner.rindex("</")
-        inner = inner[:end] + FULL + inner[end:]
-    if rng.random() < 0.5:
-        before = made(rng, chosen(rng, ANYWHERE), 2) if rng.random() < 0.3 else "<p>prose</p>"
-        around = rng.choice(["p", "desc", "x:x", *["body"] * 9])
-        again = made(rng, "schemaSpec", 1) if rng.random() < 0.05 else ""
-        inner = f"<TEI>{before}<{around}{''.join(made_declarations(rng))}>{inner}</{around}>{again}</TEI>"
+        end = schema.rindex("</")
+        schema = schema[:end] + FULL + schema[end:]
+    if kind > (0.93 if library else 0.85):
+        inner = group_forms.without_schema(rng, schema)
+    else:
+        inner = made_around(rng, *(group_forms.grouped(rng, schema) if kind < 0.35 else ("", schema, "")))
+    inner = group_forms.with_constraints(rng, inner, aside)
     head = re.match(r"<[^ >]+", inner).group(0)
     names = {"": TEI, ":t": TEI, ":x": OTHER, ":r": RELAX_NG, ":y": "urn:y", ":p": "urn:a:b", ":q": OTHER}
-    bound = "".join(f' xmlns{prefix}="{ns}"' for prefix, ns in names.items())
+    bound = "".join(f' xmlns{prefix}="{ns}"' for prefix, ns in names.items() if f" xmlns{prefix}=" not in inner[: inner.index(">")])
     return (head + bound + inner[len(head) :]).encode()
 
 
-def brought_near(rng, chain):
+def brought_near(rng, chain, aside):
     """The chain with so large a number in the element `full` of its last file that the schema is about as large as one may be."""
-    if TIMES.encode() not in chain[-1] or answer(chain).code:
+    if TIMES.encode() not in chain[-1] or answer(chain, aside).code:
         return chain
-    times = int(TIMES) + MOST_NODES - grammar_of(*library_of(chain)).size + rng.choice([-1, 0, 0, 1, 1, 2])
+    size = grammar_of(*library_of([read(data, aside) for data in chain])).size
+    times = int(TIMES) + MOST_NODES - size + rng.choice([-1, 0, 0, 1, 1, 2])
     return [*chain[:-1], chain[-1].replace(TIMES.encode(), f"{times:09}".encode())]
 
 
-def after_file(library, data, kept):
+def after_file(data, library, kept, aside):
     """How sound a file is, and the library after it, or before it where it has an offence."""
-    root = read(data)
-    schema = next(found(root), None)
-    if schema is None or holds_pending(root) or any(form_offences(root)):
+    file = read(data, aside)
+    if any(form_offences(file)):
         return ANY, library
-    doc = doc_of(schema, kept)
+    doc = doc_of(file, kept)
     after = merging.held_after(library, doc) if not any(merging.offences(library, doc)) else None
     if after is None or any(breaks(after, kept)):
         return OF_FORM, library
     return WITH_START if merging.elements(doc.start) <= after.keys() else OF_RULES, after
 
 
-def made_wanted(rng, library, kept, wanted):
+def made_wanted(rng, library, kept, wanted, aside):
     """A file that is as sound as is wanted, where one is made in a few tries, and the library that the next file is made over."""
     faults = rng.choice([0, 0, 1, 1, 1, 2]) if wanted == ANY else 0
     edited = attribute_forms.idents_of(library, edits_in(library, kept))
     for _ in range(8):
-        data = made_file(rng, library, edited)
-        soundness, after = after_file(library, data, kept)
+        data = made_file(rng, library, edited, aside)
+        soundness, after = after_file(data, library, kept, aside)
         if soundness >= (OF_FORM if faults else wanted):
             break
     for _ in range(faults):
-        data = attribute_forms.with_fault(rng, data.decode()).encode()
+        data = rng.choice([attribute_forms.with_fault, attribute_forms.with_fault, group_forms.with_fault])(rng, data.decode()).encode()
     return data, library if faults else after
 
 
-def made_files(rng):
+def made_files(rng, aside):
     """The files of a chain. What is made over a file that offends is over the library before that."""
     library, kept, chain = {}, [], []
     wanted = rng.choices([ANY, OF_FORM, OF_RULES, WITH_START], [30, 28, 10, 32])[0]
     for _ in range(rng.choice([1, 1, 2, 2, 2, 3, 3, 3, 4, 4, 5, *[16] * (rng.random() < 0.05)])):
-        data, library = made_wanted(rng, library, kept, wanted)
+        data, library = made_wanted(rng, library, kept, wanted, aside)
         chain.append(data)
     return chain
 
@@ -479,7 +496,7 @@ def spoiled(rng, chain):
 
 
 @functools.lru_cache(maxsize=64)
-def read(data):
+def parsed(data):
     """The root of the file, with the byte of each start tag and the prefixes that are in force in it."""
     root, open_elements, bound = [], [], collections.defaultdict(list, xml=[XML])
     parser = xml.parsers.expat.ParserCreate(namespace_separator="|")
@@ -510,17 +527,96 @@ def is_tei(element, *locals):
     return element.ns == TEI and (not locals or element.local in locals)
 
 
-def found(element):
-    """Every schemaSpec around which all elements are TEI's."""
+def found(element, *locals):
+    """Every element of these names around which all elements are TEI's, in document order."""
     if is_tei(element):
-        if element.local == "schemaSpec":
+        if element.local in locals:
             yield element
         for child in element.inside:
-            yield from found(child)
+            yield from found(child, *locals)
 
 
 def children_of(element, *locals):
     return [child for child in element.inside if is_tei(child, *locals)]
+
+
+def declarations_without_a_schema(element):
+    """The declarations that stand in no other one."""
+    if is_tei(element, *SPECS):
+        yield element
+    elif is_tei(element):
+        for child in element.inside:
+            yield from declarations_without_a_schema(child)
+
+
+def group_of(reference, groups):
+    """The group that a `specGrpRef` names: of several with one id the first. None where there is none."""
+    target = reference.attrs.get("target", "")
+    named = (group for group in groups if group.attrs.get(ID) == target[1:])
+    return next(named, None) if target.startswith("#") else None
+
+
+def items_below(schema, groups):
+    """The items of a `schemaSpec` in the order of their places."""
+    items, waiting, entered = [], [schema], {schema.at}
+    while waiting:
+        for item in waiting.pop().inside:
+            items.append(item)
+            group = item if is_tei(item, "specGrp") else group_of(item, groups) if is_tei(item, "specGrpRef") else None
+            if group and group.at not in entered:
+                entered.add(group.at)
+                waiting.append(group)
+    return sorted(items, key=lambda item: item.at)
+
+
+def file_of(root):
+    """What of a file is asked and declared."""
+    schemas, groups = list(found(root, "schemaSpec")), list(found(root, "specGrp"))
+    items = items_below(schemas[0], groups) if schemas else list(declarations_without_a_schema(root))
+    return File(schemas, groups, items, 0)
+
+
+def constraints_in_list(attributes):
+    for definition in children_of(attributes, "attDef"):
+        yield from children_of(definition, "constraintSpec")
+    for inner in children_of(attributes, "attList"):
+        yield from constraints_in_list(inner)
+
+
+def constraints_of(item):
+    """Each `constraintSpec` that breaks rule 2 at an item."""
+    if is_tei(item, "constraintSpec"):
+        yield item
+    if is_tei(item, *SPECS):
+        yield from children_of(item, "constraintSpec")
+    if is_tei(item, "elementSpec", "classSpec"):
+        for attributes in children_of(item, "attList"):
+            yield from constraints_in_list(attributes)
+
+
+def without(element, places):
+    """The element without those that begin at the places, and how many these are of which none stands in another."""
+    inside, tree, count = [], ElementTree.Element(element.tree.tag, element.tree.attrib), 0
+    tree.text = element.tree.text
+    for child in element.inside:
+        if child.at in places:
+            count += 1
+            continue
+        child, within = without(child, places)
+        inside.append(child)
+        tree.append(child.tree)
+        count += within
+    return element._replace(inside=inside, tree=tree), count
+
+
+@functools.lru_cache(maxsize=64)
+def read(data, aside=False):
+    """What of a file is asked and declared, with the word `aside` or without it."""
+    file = file_of(parsed(data))
+    if not aside:
+        return file
+    root, count = without(parsed(data), {constraint.at for item in file.items for constraint in constraints_of(item)})
+    return file_of(root)._replace(asides=count)
 
 
 def parts_of(element):
@@ -531,8 +627,13 @@ def words_of(value):
     return [word for word in re.split(r"[ \t\r\n]+", value) if word]
 
 
-def start_words(schema):
-    return words_of(schema.attrs.get("start", "TEI"))
+def schema_attribute(file, name, otherwise):
+    """An attribute of the first `schemaSpec` of a file."""
+    return file.schemas[0].attrs.get(name, otherwise) if file.schemas else otherwise
+
+
+def start_words(file):
+    return words_of(schema_attribute(file, "start", "TEI"))
 
 
 def is_name(value):
@@ -546,11 +647,7 @@ def excepted(part):
         yield (part.prefixes.get(prefix), local) if colon and is_name(prefix) and is_name(local) else word
 
 
-# What is not read yet, and what is refused.
-
-
-def holds_pending(element):
-    return is_tei(element, *PENDING) or any(map(holds_pending, element.inside))
+# What is refused.
 
 
 def child_rules(element, named, in_content=False):
@@ -721,6 +818,7 @@ def reference_rules(reference):
 
 
 def item_rules(item):
+    """The rules that an item breaks by itself."""
     if item.ns == RELAX_NG or is_tei(item, "constraintSpec"):
         yield 2
     elif is_tei(item, *SPECS):
@@ -729,26 +827,62 @@ def item_rules(item):
         yield from module_rules(item)
     elif is_tei(item, *TAKEN):
         yield from reference_rules(item)
-    elif is_tei(item) and item.local not in PASSED_OVER | {"altIdent"}:
+    elif is_tei(item, "specGrpRef"):
+        yield from child_rules(item, set())
+    elif is_tei(item) and item.local not in PASSED_OVER | {"altIdent", "specGrp"}:
         yield 3
 
 
-def form_offences(root):
-    schema, *others = found(root)
-    words = start_words(schema)
-    if not is_name(schema.attrs.get("ident")) or not words or not all(map(is_name, words)):
-        yield schema.at, 1
-    for other in others:
-        yield other.at, 4
+def target_rules(reference, file):
+    """The rules that a `specGrpRef` among the items breaks by its target."""
+    target = reference.attrs.get("target")
+    if target is None:
+        yield 1
+    elif not target.startswith("#"):
+        yield 2
+    elif not (group := group_of(reference, file.groups)):
+        yield 3
+    elif any(item.at == group.at for item in file.items):
+        yield 4
+
+
+def again(elements, key_of):
+    """Those of the elements, which are in document order, that have the key of an earlier one, where they have one."""
     seen = set()
-    for item in schema.inside:
-        for rule in item_rules(item):
-            yield item.at, rule
-        if is_tei(item, *SPECS) and is_name(item.attrs.get("ident")):
-            key = item.local, item.attrs["ident"]
+    for element in elements:
+        key = key_of(element)
+        if key is not None:
             if key in seen:
-                yield item.at, 4
+                yield element
             seen.add(key)
+
+
+def key_declared(item):
+    """What an item declares."""
+    return (item.local, item.attrs["ident"]) if is_tei(item, *SPECS) and is_name(item.attrs.get("ident")) else None
+
+
+def schema_offences(file):
+    """The places and the rules of what the `schemaSpec` of a file break."""
+    for schema in file.schemas[:1]:
+        words = start_words(file)
+        if not is_name(schema.attrs.get("ident")) or not words or not all(map(is_name, words)):
+            yield schema.at, 1
+    for other in file.schemas[1:]:
+        yield other.at, 4
+
+
+def form_offences(file):
+    """The places and the rules of the offences of form of a file."""
+    yield from schema_offences(file)
+    references = [item for item in file.items if is_tei(item, "specGrpRef")]
+    for item in file.items:
+        yield from ((item.at, rule) for rule in item_rules(item))
+    for reference in references:
+        yield from ((reference.at, rule) for rule in target_rules(reference, file))
+    twice = [again(file.items, key_declared), again(references, lambda item: item.attrs.get("target")), again(file.groups, lambda group: group.attrs.get(ID))]
+    for elements in twice:
+        yield from ((element.at, 4) for element in elements)
 
 
 # What a file declares, in the words of checks/merging.py, and the library after a chain.
@@ -758,7 +892,7 @@ def mode_of(spec):
     return spec.attrs.get("mode", "add")
 
 
-def fields_of(schema, spec, kept):
+def fields_of(file, spec, kept):
     """The fields that a declaration gives. Its content and its attribute list are told by their places in `kept`, to which they are put."""
     if "module" in spec.attrs:
         yield "module=" + spec.attrs["module"]
@@ -766,7 +900,7 @@ def fields_of(schema, spec, kept):
         yield "type=" + spec.attrs["type"]
     if spec.local == "elementSpec":
         if mode_of(spec) in ("add", "replace"):
-            yield "ns=" + spec.attrs.get("ns", schema.attrs.get("ns", TEI))
+            yield "ns=" + spec.attrs.get("ns", schema_attribute(file, "ns", TEI))
         elif "ns" in spec.attrs:
             yield "ns=" + spec.attrs["ns"]
     for child in children_of(spec, *SPEC_CHILDREN[spec.local]):
@@ -791,7 +925,7 @@ def memberships_in(classes):
     return "classes=" + ",".join(mark[1:] for mark in marks if mark[0] == "+")
 
 
-def words_of_item(schema, item, kept):
+def words_of_item(file, item, kept):
     """An item, or None of what is passed over."""
     if is_tei(item, "moduleRef"):
         picks = [[name, *words_of(item.attrs.get(name, ""))] for name in ("include", "except")]
@@ -799,34 +933,34 @@ def words_of_item(schema, item, kept):
     if is_tei(item, *TAKEN):
         return ["take", TAKEN[item.local], item.attrs["key"]]
     if is_tei(item, *SPECS):
-        return [mode_of(item), SPECS[item.local], item.attrs["ident"], *fields_of(schema, item, kept)]
+        return [mode_of(item), SPECS[item.local], item.attrs["ident"], *fields_of(file, item, kept)]
     return None
 
 
-def doc_of(schema, kept):
+def doc_of(file, kept):
     """What a file declares that breaks no rule of form."""
-    items = [words_of_item(schema, item, kept) for item in schema.inside]
-    start = sorted(set(start_words(schema)), key=str.encode)
-    return merging.Doc(schema.attrs.get("ident"), start, [item for item in items if item])
+    items = [words_of_item(file, item, kept) for item in file.items]
+    start = sorted(set(start_words(file)), key=str.encode)
+    return merging.Doc(schema_attribute(file, "ident", "bare"), start, [item for item in items if item])
 
 
-def places_of(schema):
+def places_of(file):
     """The bytes at which the items of the doc begin."""
-    return [item.at for item in schema.inside if is_tei(item, "moduleRef", *SPECS, *TAKEN)]
+    return [item.at for item in file.items if is_tei(item, "moduleRef", *SPECS, *TAKEN)]
 
 
-def item_offences(schema, library, doc):
+def item_offences(file, library, doc):
     """The places and the rules of the offences of a file's items against the library before it."""
-    places = places_of(schema)
+    places = places_of(file)
     for number, rule in merging.offences(library, doc):
         yield places[number - 1], rule
 
 
-def library_of(chain):
-    """The start words and the library after a chain without an offence, and what this tells by its place."""
+def library_of(files):
+    """The start words and the library after files without an offence, and what this tells by its place."""
     library, kept, start = {}, [], ["TEI"]
-    for data in chain:
-        doc = doc_of(next(found(read(data))), kept)
+    for file in files:
+        doc = doc_of(file, kept)
         library, start = merging.held_after(library, doc), doc.start
     return start, library, kept
 
@@ -994,51 +1128,44 @@ def unread(chain):
     return None
 
 
-def refusal(chain):
+def refusal(files):
     """The first offence of a chain: of the first file that has one, those of form before those of its items."""
     library, kept = {}, []
-    for file, data in enumerate(chain, 1):
-        root = read(data)
-        schema = next(found(root))
-        first = min(form_offences(root), default=None)
+    for number, file in enumerate(files, 1):
+        first = min(form_offences(file), default=None)
         if not first:
-            doc = doc_of(schema, kept)
-            first = min(item_offences(schema, library, doc), default=None)
+            doc = doc_of(file, kept)
+            first = min(item_offences(file, library, doc), default=None)
         if first:
-            return Answer(2, f"odd: file {file}: byte {first[0]}: rule {first[1]}\n", "")
+            return Answer(2, f"odd: file {number}: byte {first[0]}: rule {first[1]}\n", "")
         library = merging.held_after(library, doc)
         broken = min(breaks(library, kept), key=lambda found: (found[0], merging.key_order(found[1:])), default=None)
         if broken:
-            return Answer(2, f"odd: file {file}: {broken[1]} {broken[2]}: rule {broken[0]}\n", "")
+            return Answer(2, f"odd: file {number}: {broken[1]} {broken[2]}: rule {broken[0]}\n", "")
     return None
 
 
-def not_yet(chain):
-    """The answer to the first file that has a form that is not read yet."""
-    for file, data in enumerate(chain, 1):
-        root = read(data)
-        if next(found(root), None) is None or holds_pending(root):
-            return Answer(10, f"odd: file {file}: not yet\n", "")
-    return None
-
-
-def compiled(chain):
+def compiled(files, aside):
     """The answer to a chain that has no offence."""
-    start, library, kept = library_of(chain)
+    start, library, kept = library_of(files)
     missing = {word for word in start if ("element", word) not in library}
     if missing:
         return Answer(2, f"odd: start {min(missing, key=str.encode)}: rule 20\n", "")
     grammar = grammar_of(start, library, kept)
     if grammar.size > MOST_NODES:
         return Answer(5, "odd: limit nodes\n", "")
-    return Answer(0, "", '<?xml version="1.0" encoding="UTF-8"?>\n' + written(grammar))
+    note = f"odd: set aside {sum(file.asides for file in files)}\n" if aside else ""
+    return Answer(0, note, '<?xml version="1.0" encoding="UTF-8"?>\n' + written(grammar))
 
 
-def answer(chain):
-    """What the documents say of the chain."""
+def answer(chain, aside):
+    """What the documents say of the chain, with the word `aside` before `compile` or without it."""
     if len(chain) > 16:
         return Answer(5, "odd: limit files\n", "")
-    return unread(chain) or not_yet(chain) or refusal(chain) or compiled(chain)
+    if missing := unread(chain):
+        return missing
+    files = [read(data, aside) for data in chain]
+    return refusal(files) or compiled(files, aside)
 
 
 # The comparison.
@@ -1066,37 +1193,75 @@ def put(folder, chain):
     return names
 
 
-def told_of(chain, note):
-    """A note without what it names, and of a rule of form also where it is broken in names, attribute lists and data."""
-    plain = re.sub(r"file \d+|start \S+|byte \d+|(element|class|macro|datatype) \S+(?=: rule)", lambda named: named[0].split()[0] + " ..", note)
+def cause_of(file, at, rule):
+    """What is told of an offence of form beside its rule: of groups, of constraints and of schemaSpec, and of names, attribute lists and data."""
+    named = {element.local for element in [*file.schemas, *file.groups] if element.at == at}
+    for item in file.items:
+        if item.at == at:
+            named |= attribute_forms.forms_broken(item.tree, rule)
+            if rule == 2 and any(constraints_of(item)):
+                named.add("constraintSpec" if item.local == "constraintSpec" else f"constraintSpec in {item.local}")
+            if is_tei(item, "specGrpRef"):
+                named.add("specGrpRef to an item" if rule == 4 and 4 in target_rules(item, file) else "specGrpRef")
+    return sorted(named)
+
+
+def told_of(chain, note, aside):
+    """A note without what it names, and of a rule of form also what broke it."""
+    plain = re.sub(r"file \d+|start \S+|byte \d+|(element|class|macro|datatype) \S+(?=: rule)|aside \d+", lambda named: named[0].split()[0] + " ..", note)
     place = re.fullmatch(r"odd: file (\d+): byte (\d+): rule ([1-4])\n", note)
     if not place:
         return plain or "the schema is written\n"
     file, at, rule = map(int, place.groups())
-    broken = [attribute_forms.forms_broken(item.tree, rule) for item in next(found(read(chain[file - 1]))).inside if item.at == at]
-    return " ".join([plain[:-1], *sorted(set().union(*broken))]) + "\n"
+    return " ".join([plain[:-1], *cause_of(read(chain[file - 1], aside), at, rule)]) + "\n"
+
+
+def features_of(chain, aside):
+    """What a chain has of groups, constraints and files without a schemaSpec."""
+    files = [(read(data, False), read(data, aside)) for data in chain if data and data.endswith(b">")]
+    features = {"the word aside": aside}
+    for whole, file in files:
+        for feature, has in {
+            "a group": whole.groups,
+            "a group in a group": any(list(found(group, "specGrp"))[1:] for group in whole.groups),
+            "a group among the items": whole.schemas and any(is_tei(item, "specGrp") for item in whole.items),
+            "a group that is referred to": any(is_tei(item, "specGrpRef") and group_of(item, whole.groups) for item in whole.items),
+            "no schemaSpec": not whole.schemas,
+            "no schemaSpec and a declaration": not whole.schemas and whole.items,
+            "several schemaSpec": whole.schemas[1:],
+            "a constraint that breaks rule 2": any(any(constraints_of(item)) for item in whole.items),
+            "constraints taken out": file.asides,
+        }.items():
+            features[feature] = features.get(feature) or bool(has)
+    return {feature for feature, has in features.items() if has}
 
 
 def main(program, count):
     resource.setrlimit(resource.RLIMIT_AS, (MOST_MEMORY, MOST_MEMORY))
     program = pathlib.Path(program).resolve()
-    rng, differing, told, forms, lengths = random.Random(9), 0, *(collections.Counter() for _ in range(3))
+    rng, differing, told, forms, lengths, features, asides = random.Random(9), 0, *(collections.Counter() for _ in range(5))
     with tempfile.TemporaryDirectory() as name:
         folder = pathlib.Path(name)
         for _ in range(count):
-            chain = spoiled(rng, brought_near(rng, made_files(rng)))
-            wanted = answer(chain)
-            result = subprocess.run([program, "compile", *put(folder, chain)], capture_output=True, cwd=folder)
+            aside = rng.random() < 0.4
+            chain = spoiled(rng, brought_near(rng, made_files(rng, aside), aside))
+            wanted = answer(chain, aside)
+            words = ["aside"] * aside + ["compile", *put(folder, chain)]
+            result = subprocess.run([program, *words], capture_output=True, cwd=folder)
             given = Answer(result.returncode, result.stderr.decode(), result.stdout.decode())
-            told[told_of(chain, wanted.note)] += 1
+            told[told_of(chain, wanted.note, aside)] += 1
             lengths[len(chain)] += 1
             forms.update(form for form in FORMS if form in wanted.schema)
+            features.update(features_of(chain, aside))
+            asides.update(re.findall(r"aside (\d+)", wanted.note))
             if given != wanted:
                 differing += 1
-                print(*(data and data.decode() for data in chain), *map(shown, map(str, [*wanted, *given])), sep="\n", end="\n\n")
+                print(words, *(data and data.decode() for data in chain), *map(shown, map(str, [*wanted, *given])), sep="\n", end="\n\n")
     for line, number in told.most_common():
         print(number, line, end="")
     print("chains of", ", ".join(f"{length}: {number}" for length, number in sorted(lengths.items())))
+    print("chains with", ", ".join(f"{feature}: {number}" for feature, number in features.most_common()))
+    print("set aside", ", ".join(f"{number}: {asides[number]}" for number in sorted(asides, key=int)))
     print("schemas with", ", ".join(f"{form}: {forms[form]}" for form in FORMS))
     print(f"{count} chains, {differing} that differ")
     return 1 if differing else 0

@@ -4,10 +4,10 @@
     checks/robustness.py PROGRAM [RUNS]
 
 PROGRAM is the built program odd, RUNS the number of chains (200,000 unless given). The files are made from a fixed seed:
-sources with elements, classes and macros in modules, and customisations of them; files with every element of the
-profile in every place and every attribute on each; files of many levels; the same with some bytes changed, cut, doubled
-or moved, with elements put into one another; and random bytes. Each run is `compile` of one to four files, seldom of
-sixteen or more. Ends with 1 where a run ends by a signal or with a status that `compile` cannot have, where an output
+sources with elements, classes and macros in modules, some of them in groups or without a schemaSpec, and customisations of them;
+files with every element of the profile in every place and every attribute on each; files of many levels; the same with some bytes changed, cut, doubled
+or moved, with elements put into one another; and random bytes. Each run is `compile`, each third with the word `aside`
+before it, of one to four files, seldom of sixteen or more. Ends with 1 where a run ends by a signal or with a status that `compile` cannot have, where an output
 does not go with its status, or where a run takes over ten seconds or 2 GiB. Prints how often each status came and the
 greatest memory of a run.
 """
@@ -15,6 +15,7 @@ greatest memory of a run.
 import collections
 import os
 import random
+import re
 import resource
 import subprocess
 import sys
@@ -23,10 +24,10 @@ import tempfile
 TEI = "http://www.tei-c.org/ns/1.0"
 RELAX_NG = "http://relaxng.org/ns/structure/1.0"
 SEED = 20261128
-NAMED = {0, 2, 3, 5, 10}
+NAMED = {0, 2, 3, 5}
 NO_MEMORY = 8
 MOST_MEMORY = 2 << 30
-# Every element of the profile, in TEI's namespace or another, whether it is read yet or not.
+# Every element of the profile, in TEI's namespace or another.
 ELEMENTS = (
     "schemaSpec moduleRef elementRef classRef macroRef dataRef elementSpec classSpec macroSpec dataSpec specGrp specGrpRef"
     " classes memberOf attList attDef attRef datatype valList valItem dataFacet content sequence alternate anyElement"
@@ -71,6 +72,7 @@ PIECES = [
     TEI.encode(), *(name.encode() for name in ELEMENTS), *(name.encode() for name in VALUES), b"unbounded", b"0", b"9",
 ]
 AROUND = {"": TEI, ":x": "urn:x", ":r": RELAX_NG, ":p": "urn:p"}
+TEI_ITSELF = '<elementSpec ident="TEI"/>'
 BOUNDS = [*[""] * 24, ' minOccurs="0"', ' maxOccurs="unbounded"', ' minOccurs="0" maxOccurs="unbounded"', ' minOccurs="2" maxOccurs="5"', ' maxOccurs="999999999"']
 
 
@@ -153,21 +155,30 @@ def customisation(rand, names):
 
 
 def schema(rand, items):
+    """A file with these items, some of them in groups, or without a schemaSpec."""
     bound = "".join(f' xmlns{prefix}="{ns}"' for prefix, ns in AROUND.items())
+    if rand.random() < 0.05:
+        return f'<TEI{bound}><div>{"</div><div>".join(items)}</div><specGrp>{rand.choice(["", TEI_ITSELF])}</specGrp></TEI>'
+    groups = ["", ""]
+    for ident in rand.sample("ghi", rand.choice([0, 0, 0, 1, 2, 3])):
+        first = rand.randrange(len(items) + 1)
+        groups[rand.randrange(2)] += f'<p><specGrp xml:id="{ident}">{"".join(items[first:])}</specGrp></p>'
+        items = [*items[:first], f'<specGrpRef target="#{ident}"/>']
     inner = f'<schemaSpec{bound} ident="s" start="{rand.choice(["a", "a", "a", "a b", "zz"])}">{"".join(items)}</schemaSpec>'
-    return f"<TEI{bound}><body>{inner}</body></TEI>" if rand.random() < 0.3 else inner
+    return f"<TEI{bound}>{groups[0]}<body>{inner}</body>{groups[1]}</TEI>" if any(groups) or rand.random() < 0.3 else inner
 
 
 def every_form(rand):
-    """A file with any element in any place."""
+    """A file with any element in any place, mostly in a schemaSpec."""
     bound = "".join(f' xmlns{prefix}="{ns}"' for prefix, ns in AROUND.items())
     items = "".join(anything(rand, rand.choice([0, 1, 2, 3])) for _ in range(rand.randrange(6)))
-    return f'<schemaSpec{bound} ident="s" start="a">{items}<elementSpec ident="a"/></schemaSpec>'
+    root, named = rand.choice([("schemaSpec", ' ident="s" start="a"')] * 6 + [("TEI", ""), ("specGrp", ' xml:id="g"')])
+    return f'<{root}{bound}{named}>{items}<elementSpec ident="a"/></{root}>'
 
 
 def deep(rand):
     """A file of elements in one another around the greatest depth, and some far above it."""
-    local = rand.choice(["a", "content", "sequence", "alternate", "schemaSpec", "elementSpec", "classes"])
+    local = rand.choice(["a", "content", "sequence", "alternate", "schemaSpec", "elementSpec", "classes", "specGrp", "constraintSpec"])
     levels = rand.choice([58, 60, 61, 62, 198, 199, 200, 201, 1000, 20000])
     inner = f"<{local}>" * levels + f"</{local}>" * levels
     return schema(rand, [f'<elementSpec ident="a"><content>{inner}</content></elementSpec>'])
@@ -230,7 +241,7 @@ def chain(rand):
     return files
 
 
-def fault_of(status, out, err):
+def fault_of(status, out, err, aside):
     """What is wrong with an answer, or None."""
     if status == NO_MEMORY:
         return "takes over 2 GiB"
@@ -238,22 +249,24 @@ def fault_of(status, out, err):
         return "is no named status"
     if (status == 0) != bool(out):
         return "does not go with its output"
-    if (status == 0) == bool(err):
+    if (status == 0) == bool(err) and not (status == 0 and aside):
         return "does not go with its line"
+    if status == 0 and aside and not re.fullmatch(rb"odd: set aside (0|[1-9]\d*)\n", err):
+        return "does not tell what is set aside"
     return None
 
 
-def run(program, folder, files):
+def run(program, folder, files, aside):
     """The status of a run over these files, and what is wrong with it."""
     paths = [os.path.join(folder, f"{number}.odd") for number in range(len(files))]
     for path, data in zip(paths, files):
         with open(path, "wb") as file:
             file.write(data)
     try:
-        result = subprocess.run([program, "compile", *paths], capture_output=True, timeout=10)
+        result = subprocess.run([program, *["aside"] * aside, "compile", *paths], capture_output=True, timeout=10)
     except subprocess.TimeoutExpired:
         return None, "takes over ten seconds"
-    return result.returncode, fault_of(result.returncode, result.stdout, result.stderr)
+    return result.returncode, fault_of(result.returncode, result.stdout, result.stderr, aside)
 
 
 def main(program, runs):
@@ -262,8 +275,8 @@ def main(program, runs):
     counts, faults = collections.Counter(), 0
     with tempfile.TemporaryDirectory() as folder:
         for number in range(runs):
-            files = chain(rand)
-            status, fault = run(program, folder, files)
+            files, aside = chain(rand), number % 3 == 0
+            status, fault = run(program, folder, files, aside)
             counts[status] += 1
             if fault:
                 faults += 1

@@ -90,6 +90,7 @@ fn each_status_has_its_line(rt: HostRuntime) -> Result<(), Fail> {
             "odd: file 2: byte 90: not XML\n"
         ),
         (Status::NoMemory, 8, "odd: no memory\n"),
+        (Status::Done, 0, "odd: set aside 12\n"),
         (offence(Who::At(89), 1), 2, "odd: file 3: byte 89: rule 1\n"),
         (
             offence(Who::Part(part), 14),
@@ -103,7 +104,7 @@ fn each_status_has_its_line(rt: HostRuntime) -> Result<(), Fail> {
         ),
     ]? {
         let mut note = MemSink::new(rt.alloc(), 1000, 10, Calls::new(rt.alloc()))?;
-        assert!(rt; write_note(&mut note, &status).is_ok());
+        assert!(rt; write_note(&mut note, &status, Some(12)).is_ok());
         assert_eq!(rt; note.written(), line.as_bytes());
         assert_eq!(rt; status.code(), code, "{line}");
     }

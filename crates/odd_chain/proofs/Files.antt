@@ -1,7 +1,8 @@
 -- The first offence of a chain, by what its files declare, and its one outcome.
-use Rattle.std.proofs.Common.{◌≡◌, ◌≤◌, ℕ, suc, List, [], ◌∷◌, ◌++◌, length, inl, inr, refl, sym, ap, subst, ◌∙◌, append_assoc, arith, length-append, append-nil, ◌<◌, ◌^◌}
+use Rattle.std.proofs.Common.{◌≡◌, ◌≤◌, ℕ, suc, Bool, List, [], ◌∷◌, ◌++◌, length, inl, inr, refl, sym, ap, subst, ◌∙◌, append_assoc, arith, length-append, append-nil, ◌<◌, ◌^◌}
 use Rattle.std.specs.declared.cmp.Ordering.{Ordering}
 use Rattle.std.specs.declared.cmp.Ordering.TheVariants.{Less, Equal, Greater}
+use Rattle.odd_decls.proofs.ReadWith.{declared_sound}
 use Rattle.odd_decls.specs.Declares.{Declares}
 use Rattle.odd_decls.specs.Offences.{HasOffence}
 use Rattle.odd_forms.proofs.SetOf.{turned}
@@ -15,10 +16,10 @@ use Rattle.odd_text.specs.Key.{key_cmp}
 use Rattle.odd_text.specs.KeyOrder.{key_exact, key_total}
 use Rattle.odd_text.specs.declared.key.Key.{Key}
 use Rattle.odd_text.specs.declared.offence.Offence.{Offence}
-use Rattle.odd_tree.proofs.InList.{nothing_stands, Stands, stands_around}
+use Rattle.odd_tree.proofs.InList.{nothing_stands}
 use Rattle.odd_tree.specs.declared.tree.Tree.{Tree}
-use Rattle.odd_chain.proofs.Merged.{DeclareFirst, as_many, first_declared, no_more_declared, stands_after, number_within, declared_read, one_docs}
-use Rattle.odd_chain.specs.Files.{AreDeclared, ChainOffends, Gives, IsChainRefusal, of_doc, of_form, AreAllRead, IsFirstPending}
+use Rattle.odd_chain.proofs.Merged.{DeclareFirst, as_many, first_declared, no_more_declared, stands_after, number_within, one_docs}
+use Rattle.odd_chain.specs.Files.{AreDeclared, ChainOffends, Gives, IsChainRefusal, of_doc, of_form}
 use Rattle.odd_chain.specs.Offences.{OffendsIn, of_item, of_library}
 use Rattle.odd_chain.specs.Order.{ComesNotAfter, IsFirst, Position, form, IsNotLater, held, item, offence_at}
 use Rattle.odd_chain.specs.Reading.{IsBrokenAfter, HasFewDocs, IsChainOf}
@@ -56,95 +57,96 @@ up_to docs _ _ (of_library before doc after library parts is breaks) = record {
   offends = of_library before doc [] library refl is breaks;
 }
 
-module _ (trees : List Tree) (docs : List OddDoc) (are : DeclareFirst trees docs) where
-  -- what a doc offends by is an offence of the docs
-  of_docs : (upto later : List Tree) (others : List OddDoc) (file : ℕ) (at : Position) → trees ≡ upto ++ later → AreDeclared upto others → OffendsIn others file at → OffendsIn docs file at
-  of_docs upto later others file at e declared o =
-      let made = no_more_declared are.files are.rest upto later docs others are.end are.declared declared (sym are.parts ∙ e) in
-      offends_more docs others made.0 file at made.1 o
+module _ {aside : Bool} where
+  module _ (trees : List Tree) (docs : List OddDoc) (are : DeclareFirst aside trees docs) where
+    -- what a doc offends by is an offence of the docs
+    of_docs : (upto later : List Tree) (others : List OddDoc) (file : ℕ) (at : Position) → trees ≡ upto ++ later → AreDeclared aside upto others → OffendsIn others file at → OffendsIn docs file at
+    of_docs upto later others file at e declared o =
+        let made = no_more_declared are.files are.rest upto later docs others are.end are.declared declared (sym are.parts ∙ e) in
+        offends_more docs others made.0 file at made.1 o
 
-  -- and the other way round
-  of_chain : (file : ℕ) (at : Position) → OffendsIn docs file at → ChainOffends trees file at
-  of_chain file at o =
-      let up = up_to docs file at o in
-      let made = first_declared are.files docs up.first up.later are.declared up.parts in
-      let number : length made.0 ≡ file = sym (as_many made.0 up.first made.3) ∙ up.number in
-      let parts : trees ≡ made.0 ++ (made.1 ++ are.rest) = are.parts ∙ ap (λ ts. ts ++ are.rest) made.2 ∙ append_assoc made.0 made.1 are.rest in
-      subst (λ n. ChainOffends trees n at) number (of_doc made.0 (made.1 ++ are.rest) up.first parts made.3 (subst (λ n. OffendsIn up.first n at) (sym number) up.offends))
+    -- and the other way round
+    of_chain : (file : ℕ) (at : Position) → OffendsIn docs file at → ChainOffends aside trees file at
+    of_chain file at o =
+        let up = up_to docs file at o in
+        let made = first_declared are.files docs up.first up.later are.declared up.parts in
+        let number : length made.0 ≡ file = sym (as_many made.0 up.first made.3) ∙ up.number in
+        let parts : trees ≡ made.0 ++ (made.1 ++ are.rest) = are.parts ∙ ap (λ ts. ts ++ are.rest) made.2 ∙ append_assoc made.0 made.1 are.rest in
+        subst (λ n. ChainOffends aside trees n at) number (of_doc made.0 (made.1 ++ are.rest) up.first parts made.3 (subst (λ n. OffendsIn up.first n at) (sym number) up.offends))
 
-  -- a file with an offence of form stands after those that declare the docs
-  after_declared : (before later : List Tree) (t : Tree) (place rule : ℕ) → trees ≡ before ++ t ∷ later → HasOffence t place rule
-      → (between : List Tree) × (before ≡ are.files ++ between) × (are.rest ≡ between ++ t ∷ later)
-  after_declared before later t place rule e h =
-      stands_after are.files are.rest before later docs t are.declared (λ doc d. d.unoffended place rule h) (sym are.parts ∙ e)
+    -- a file with an offence of form stands after those that declare the docs
+    after_declared : (before later : List Tree) (t : Tree) (place rule : ℕ) → trees ≡ before ++ t ∷ later → HasOffence t aside place rule
+        → (between : List Tree) × (before ≡ are.files ++ between) × (are.rest ≡ between ++ t ∷ later)
+    after_declared before later t place rule e h =
+        stands_after are.files are.rest before later docs t are.declared (λ doc d. declared_sound t aside doc d place rule h) (sym are.parts ∙ e)
 
-  -- the number of a doc with an offence is at most the count of those files
-  within_files : (file : ℕ) (at : Position) → OffendsIn docs file at → file ≤ length are.files
-  within_files file at o = omega (arith, as_many are.files docs are.declared, number_within docs file at o)
+    -- the number of a doc with an offence is at most the count of those files
+    within_files : (file : ℕ) (at : Position) → OffendsIn docs file at → file ≤ length are.files
+    within_files file at o = omega (arith, as_many are.files docs are.declared, number_within docs file at o)
 
-  -- the first offence of the docs is that of the chain
-  pub docs_refused : (o : Offence) → IsFirst (OffendsIn docs) o → IsChainRefusal trees o
-  docs_refused o r = record { at = r.at; told = r.told; is_one = of_chain o.file r.at r.is_one; first = first }
+    -- the first offence of the docs is that of the chain
+    pub docs_refused : (o : Offence) → IsFirst (OffendsIn docs) o → IsChainRefusal aside trees o
+    docs_refused o r = record { at = r.at; told = r.told; is_one = of_chain o.file r.at r.is_one; first = first }
+      where
+        first : (other : ℕ) (others : Position) → ChainOffends aside trees other others → ComesNotAfter o.file r.at other others
+        first _ _ (of_form {place} {rule} before t later e h) =
+            let made = after_declared before later t place rule e h in
+            inl (omega (arith, within_files o.file r.at r.is_one, ap length made.1, length-append {A = Tree}))
+        first _ _ (of_doc {at} upto later others e declared h) = r.first (length upto) at (of_docs upto later others (length upto) at e declared h)
+
+  -- where all files declare docs
+  abbrev pub whole : (trees : List Tree) (docs : List OddDoc) → AreDeclared aside trees docs → DeclareFirst aside trees docs
+  whole trees docs are = record { files = trees; rest = []; parts = sym (append-nil trees); declared = are; end = λ t later doc e d. cc }
+
+  -- and none of these has an offence, the library after them is given
+  pub docs_give : (trees : List Tree) (docs : List OddDoc) (library : Library) → AreDeclared aside trees docs → ((file : ℕ) (at : Position) → OffendsIn docs file at → ⊥)
+      → IsLibraryAfter docs library → Gives aside trees library
+  docs_give trees docs library are sound after = record { docs = docs; declared = are; unoffended = unoffended; is_library = after }
     where
-      first : (other : ℕ) (others : Position) → ChainOffends trees other others → ComesNotAfter o.file r.at other others
+      unoffended : (file : ℕ) (at : Position) → ChainOffends aside trees file at → ⊥
+      unoffended _ _ (of_form {place} {rule} before t later e h) =
+          let made = after_declared trees docs (whole trees docs are) before later t place rule e h in
+          nothing_stands t (made.0, later, made.2)
+      unoffended _ _ (of_doc {at} upto later others e declared h) = sound (length upto) at (of_docs trees docs (whole trees docs are) upto later others (length upto) at e declared h)
+
+  -- where a file has an offence of form, and those before it declare docs
+  abbrev pub broken : (trees : List Tree) (docs : List OddDoc) (o : Offence) → IsBrokenAfter aside trees docs o → DeclareFirst aside trees docs
+  broken trees docs o b = record {
+    files = b.earlier;
+    rest = b.tree ∷ b.later;
+    parts = b.parts;
+    declared = b.declared;
+    end = λ t later e doc d. (let same : t ≡ b.tree = cc in declared_sound b.tree aside doc (subst (λ x. Declares x aside doc) same d) b.refused.is_one.place o.rule b.refused.is_one.offends);
+  }
+
+  -- and none of these has an offence, its first one is that of the chain
+  pub form_refused : (trees : List Tree) (docs : List OddDoc) (o : Offence) → IsBrokenAfter aside trees docs o → ((file : ℕ) (at : Position) → OffendsIn docs file at → ⊥)
+      → IsChainRefusal aside trees o
+  form_refused trees docs o b sound = record {
+    at = at;
+    told = λ n. record { file = o.file; who = b.refused.is_one.placed n; rule = o.rule };
+    is_one = subst (λ n. ChainOffends aside trees n at) (sym b.refused.is_one.in_file) (of_form b.earlier b.tree b.later b.parts b.refused.is_one.offends);
+    first = first;
+  }
+    where
+      at : Position
+      at = form b.refused.is_one.place o.rule
+
+      -- another offence of form is of the same file, or of a later one
+      own_or_later : (before between later : List Tree) (t : Tree) (place rule : ℕ) → before ≡ b.earlier ++ between → b.tree ∷ b.later ≡ between ++ t ∷ later
+          → HasOffence t aside place rule → ComesNotAfter o.file at (suc (length before)) (form place rule)
+      own_or_later before [] later t place rule e is h =
+          let file : o.file ≡ suc (length before) = omega (arith, b.refused.is_one.in_file, ap length e, length-append {A = Tree}) in
+          let same : t ≡ b.tree = cc in
+          inr (file, b.refused.first place rule (subst (λ x. HasOffence x aside place rule) same h))
+      own_or_later before (u ∷ between) later t place rule e is h = inl (omega (arith, b.refused.is_one.in_file, ap length e, length-append {A = Tree}))
+
+      first : (other : ℕ) (others : Position) → ChainOffends aside trees other others → ComesNotAfter o.file at other others
       first _ _ (of_form {place} {rule} before t later e h) =
-          let made = after_declared before later t place rule e h in
-          inl (omega (arith, within_files o.file r.at r.is_one, ap length made.1, length-append {A = Tree}))
-      first _ _ (of_doc {at} upto later others e declared h) = r.first (length upto) at (of_docs upto later others (length upto) at e declared h)
-
--- where all files declare docs
-abbrev pub whole : (trees : List Tree) (docs : List OddDoc) → AreDeclared trees docs → DeclareFirst trees docs
-whole trees docs are = record { files = trees; rest = []; parts = sym (append-nil trees); declared = are; end = λ t later doc e d. cc }
-
--- and none of these has an offence, the library after them is given
-pub docs_give : (trees : List Tree) (docs : List OddDoc) (library : Library) → AreDeclared trees docs → ((file : ℕ) (at : Position) → OffendsIn docs file at → ⊥)
-    → IsLibraryAfter docs library → Gives trees library
-docs_give trees docs library are sound after = record { docs = docs; declared = are; unoffended = unoffended; is_library = after }
-  where
-    unoffended : (file : ℕ) (at : Position) → ChainOffends trees file at → ⊥
-    unoffended _ _ (of_form {place} {rule} before t later e h) =
-        let made = after_declared trees docs (whole trees docs are) before later t place rule e h in
-        nothing_stands t (made.0, later, made.2)
-    unoffended _ _ (of_doc {at} upto later others e declared h) = sound (length upto) at (of_docs trees docs (whole trees docs are) upto later others (length upto) at e declared h)
-
--- where a file has an offence of form, and those before it declare docs
-abbrev pub broken : (trees : List Tree) (docs : List OddDoc) (o : Offence) → IsBrokenAfter trees docs o → DeclareFirst trees docs
-broken trees docs o b = record {
-  files = b.earlier;
-  rest = b.tree ∷ b.later;
-  parts = b.parts;
-  declared = b.declared;
-  end = λ t later e doc d. (let same : t ≡ b.tree = cc in (subst (λ x. Declares x doc) same d).unoffended b.refused.is_one.place o.rule b.refused.is_one.offends);
-}
-
--- and none of these has an offence, its first one is that of the chain
-pub form_refused : (trees : List Tree) (docs : List OddDoc) (o : Offence) → IsBrokenAfter trees docs o → ((file : ℕ) (at : Position) → OffendsIn docs file at → ⊥)
-    → IsChainRefusal trees o
-form_refused trees docs o b sound = record {
-  at = at;
-  told = λ n. record { file = o.file; who = b.refused.is_one.placed n; rule = o.rule };
-  is_one = subst (λ n. ChainOffends trees n at) (sym b.refused.is_one.in_file) (of_form b.earlier b.tree b.later b.parts b.refused.is_one.offends);
-  first = first;
-}
-  where
-    at : Position
-    at = form b.refused.is_one.place o.rule
-
-    -- another offence of form is of the same file, or of a later one
-    own_or_later : (before between later : List Tree) (t : Tree) (place rule : ℕ) → before ≡ b.earlier ++ between → b.tree ∷ b.later ≡ between ++ t ∷ later
-        → HasOffence t place rule → ComesNotAfter o.file at (suc (length before)) (form place rule)
-    own_or_later before [] later t place rule e is h =
-        let file : o.file ≡ suc (length before) = omega (arith, b.refused.is_one.in_file, ap length e, length-append {A = Tree}) in
-        let same : t ≡ b.tree = cc in
-        inr (file, b.refused.first place rule (subst (λ x. HasOffence x place rule) same h))
-    own_or_later before (u ∷ between) later t place rule e is h = inl (omega (arith, b.refused.is_one.in_file, ap length e, length-append {A = Tree}))
-
-    first : (other : ℕ) (others : Position) → ChainOffends trees other others → ComesNotAfter o.file at other others
-    first _ _ (of_form {place} {rule} before t later e h) =
-        let made = after_declared trees docs (broken trees docs o b) before later t place rule e h in
-        own_or_later before made.0 later t place rule made.1 made.2 h
-    first _ _ (of_doc {at} upto later others e declared h) =
-        absurd (sound (length upto) at (of_docs trees docs (broken trees docs o b) upto later others (length upto) at e declared h))
+          let made = after_declared trees docs (broken trees docs o b) before later t place rule e h in
+          own_or_later before made.0 later t place rule made.1 made.2 h
+      first _ _ (of_doc {at} upto later others e declared h) =
+          absurd (sound (length upto) at (of_docs trees docs (broken trees docs o b) upto later others (length upto) at e declared h))
 
 -- where neither of two keys with a rule comes after the other, they are one
 neither_behind : (r s : ℕ) (k l : Key) → IsNotBehind r k s l → IsNotBehind s l r k → (r ≡ s) × (k ≡ l)
@@ -177,40 +179,20 @@ one_first file other a b (inl h) (inr k) = absurd (omega (arith, h, k.0))
 one_first file other a b (inr h) (inl k) = absurd (omega (arith, h.0, k))
 one_first file other a b (inr h) (inr k) = neither_later file a b h.1 k.1 ∙ ap (λ n. offence_at n b) h.0
 
--- a chain is refused with one offence
-pub one_chain_refusal : (trees : List Tree) (o p : Offence) → IsChainRefusal trees o → IsChainRefusal trees p → o ≡ p
-one_chain_refusal trees o p a b = a.told ∙ one_first o.file p.file a.at b.at (a.first p.file b.at b.is_one) (b.first o.file a.at a.is_one) ∙ sym b.told
+module _ {aside : Bool} where
+  -- a chain is refused with one offence
+  pub one_chain_refusal : (trees : List Tree) (o p : Offence) → IsChainRefusal aside trees o → IsChainRefusal aside trees p → o ≡ p
+  one_chain_refusal trees o p a b = a.told ∙ one_first o.file p.file a.at b.at (a.first p.file b.at b.is_one) (b.first o.file a.at a.is_one) ∙ sym b.told
 
--- gives one library
-pub gives_one : (trees : List Tree) (l m : Library) → Gives trees l → Gives trees m → l ≡ m
-gives_one trees l m g h = one_library h.docs l m (subst (λ ds. IsLibraryAfter ds l) (one_docs trees g.docs h.docs g.declared h.declared) g.is_library) h.is_library
+  -- gives one library
+  pub gives_one : (trees : List Tree) (l m : Library) → Gives aside trees l → Gives aside trees m → l ≡ m
+  gives_one trees l m g h = one_library h.docs l m (subst (λ ds. IsLibraryAfter ds l) (one_docs trees g.docs h.docs g.declared h.declared) g.is_library) h.is_library
 
--- which it does not where it is refused
-pub refused_gives_none : (trees : List Tree) (o : Offence) (l : Library) → IsChainRefusal trees o → Gives trees l → ⊥
-refused_gives_none trees o l r g = g.unoffended o.file r.at r.is_one
-
--- the first file that is not read yet comes after no other
-not_after : (trees : List Tree) (f g : ℕ) → IsFirstPending trees f → IsFirstPending trees g → f ≤ g
-not_after trees f g a b = elim (stands_around a.earlier a.tree a.later b.earlier b.tree b.later (sym a.parts ∙ b.parts)) [
-  | Stands.before c h ↦ absurd (a.read_before b.tree (b.earlier, c, h) b.is_pending)
-  | Stands.here h e ↦ omega (arith, ap length h)
-  | Stands.after c h ↦ omega (arith, ap length (sym a.parts ∙ b.parts), ap length h, length-append {A = Tree})
-]
-
--- of the files that are not read yet one is the first
-pub one_pending : (trees : List Tree) (f g : ℕ) → IsFirstPending trees f → IsFirstPending trees g → f ≡ g
-one_pending trees f g a b = omega (arith, not_after trees f g a b, not_after trees g f b a)
-
--- and then not all are read
-pub pending_not_read : (trees : List Tree) (f : ℕ) → IsFirstPending trees f → AreAllRead trees → ⊥
-pending_not_read trees f first are = are first.tree (first.earlier, first.later, first.parts) first.is_pending
-
--- where a library is given, all are
-pub gives_all_read : (trees : List Tree) (l : Library) → Gives trees l → AreAllRead trees
-gives_all_read trees l g = declared_read trees g.docs g.declared
+  -- which it does not where it is refused
+  pub refused_gives_none : (trees : List Tree) (o : Offence) (l : Library) → IsChainRefusal aside trees o → Gives aside trees l → ⊥
+  refused_gives_none trees o l r g = g.unoffended o.file r.at r.is_one
 
 -- there are no more docs than files
-pub few_docs : (chain : Chain) (trees : List Tree) → IsChainOf chain trees → length trees < 2 ^ 32 → HasFewDocs chain
-few_docs (chain.Whole docs) trees are few = omega (arith, as_many trees docs are)
-few_docs (chain.Broken docs offence) trees broken few = omega (arith, as_many broken.earlier docs broken.declared, ap length broken.parts, length-append {A = Tree})
-few_docs (chain.Pending file) trees first few = tt
+pub few_docs : (aside : Bool) (chain : Chain) (trees : List Tree) → IsChainOf aside chain trees → length trees < 2 ^ 32 → HasFewDocs chain
+few_docs aside (chain.Whole docs) trees are few = omega (arith, as_many trees docs are)
+few_docs aside (chain.Broken docs offence) trees after few = omega (arith, as_many after.earlier docs after.declared, ap length after.parts, length-append {A = Tree})

@@ -1,3 +1,4 @@
+pub mod Asides
 pub mod Files
 pub mod Merged
 pub mod NothingBroken

@@ -1,12 +1,11 @@
 -- The docs that files declare, one after another, and the library after those so far.
-use Rattle.std.proofs.Common.{◌≡◌, suc, List, [], ◌∷◌, ◌++◌, length, ⊎_elim, refl, ap, subst, ◌⊎◌, ◌≤◌, ◌<◌, ◌+◌, ℕ, get_or, take, drop, inl, inr, sym, ◌∙◌, arith, length-append, append_assoc}
+use Rattle.std.proofs.Common.{◌≡◌, suc, Bool, List, [], ◌∷◌, ◌++◌, length, ⊎_elim, refl, ap, subst, ◌⊎◌, ◌≤◌, ◌<◌, ◌+◌, ℕ, get_or, take, drop, inl, inr, sym, ◌∙◌, arith, length-append, append_assoc}
 use Rattle.std.proofs.Math.Nat.{eq-or-lt_of_le}
 use Rattle.std.proofs.Math.Seq.{get_or-append_seam}
 use Rattle.std.proofs.lemmas.List.{length-take-le, take-append-drop, take_at}
-use Rattle.odd_decls.proofs.OneDoc.{one_doc}
+use Rattle.odd_decls.proofs.OneDeclared.{one_doc}
 use Rattle.odd_decls.specs.Declares.{Declares}
 use Rattle.odd_decls.specs.Offences.{IsRefusal}
-use Rattle.odd_decls.specs.Pending.{IsPending}
 use Rattle.odd_library.specs.declared.library.Library.{Library}
 use Rattle.odd_library.specs.declared.odd.OddDoc.{OddDoc}
 use Rattle.odd_meaning.specs.Rules.{Breaks}
@@ -15,80 +14,75 @@ use Rattle.odd_modes.specs.After.{IsLibraryAfter}
 use Rattle.odd_modes.specs.Offences.{IsFirstOffence, Offends}
 use Rattle.odd_text.specs.declared.key.Key.{Key}
 use Rattle.odd_text.specs.declared.offence.Offence.{Offence}
-use Rattle.odd_tree.proofs.InList.{first_or_later, nothing_stands, begins, ends, stands_push}
+use Rattle.odd_tree.proofs.InList.{begins, ends}
 use Rattle.odd_tree.specs.declared.tree.Tree.{Tree}
-use Rattle.odd_chain.specs.Files.{AreAllRead, AreDeclared, more, none, IsFirstPending}
+use Rattle.odd_chain.specs.Files.{AreDeclared, more, none}
 use Rattle.odd_chain.specs.Offences.{OffendsIn, of_item, of_library}
 use Rattle.odd_chain.specs.Order.{ComesNotAfter, IsFirst, Position, form, held, item}
 use Rattle.odd_chain.specs.Reading.{IsFirstOfLibrary, IsBrokenAfter}
 
--- one file more declares its doc
-pub one_declared_more : (trees : List Tree) (t : Tree) (docs : List OddDoc) (doc : OddDoc) → AreDeclared trees docs → Declares t doc → AreDeclared (trees ++ t ∷ []) (docs ++ doc ∷ [])
-one_declared_more trees t docs doc none d = more d none
-one_declared_more trees t docs doc (more {trees = rest} {docs = others} e are) d = more e (one_declared_more rest t others doc are d)
-
--- there are as many docs as files
-pub as_many : (trees : List Tree) (docs : List OddDoc) → AreDeclared trees docs → length docs ≡ length trees
-as_many trees docs none = refl
-as_many trees docs (more {trees = rest} {docs = others} d are) = ap suc (as_many rest others are)
-
--- files declare one list of docs
-pub one_docs : (trees : List Tree) (docs others : List OddDoc) → AreDeclared trees docs → AreDeclared trees others → docs ≡ others
-one_docs trees docs others none none = refl
-one_docs trees docs others (more {t = t} {trees = rest} {doc = a} {docs = before} d are) (more {doc = b} {docs = after} e also) = cc (one_doc t a b d e, one_docs rest before after are also)
-
--- each of them is read
-pub declared_read : (trees : List Tree) (docs : List OddDoc) → AreDeclared trees docs → AreAllRead trees
-declared_read trees docs none t s p = nothing_stands t s
-declared_read trees docs (more {t = first} {trees = rest} {docs = others} d are) t s p =
-    ⊎_elim (λ e. d.all_read (subst IsPending e p)) (λ later. declared_read rest others are t later p) (first_or_later first t rest s)
-
--- the first of the docs are declared by as many files
-pub first_declared : (trees : List Tree) (docs upto later : List OddDoc) → AreDeclared trees docs → docs ≡ upto ++ later
-    → (files : List Tree) × (others : List Tree) × (trees ≡ files ++ others) × AreDeclared files upto
-first_declared trees docs [] later are e = ([], trees, refl, none)
-first_declared trees docs (doc ∷ upto) later none e = absurd cc
-first_declared trees docs (doc ∷ upto) later (more {t = t} {trees = rest} {doc = first} {docs = others} d are) e =
-    let made = first_declared rest others upto later are cc in
-    let same : first ≡ doc = cc in
-    (t ∷ made.0, made.1, ap (λ ts. t ∷ ts) made.2, more (subst (Declares t) same d) made.3)
-
 -- the file declares no doc
-abbrev DeclaresNone : Tree → Type 0
-DeclaresNone t = (doc : OddDoc) → Declares t doc → ⊥
+abbrev pub DeclaresNone : Bool → Tree → Type 0
+DeclaresNone aside t = (doc : OddDoc) → Declares t aside doc → ⊥
 
 -- the first of the files, where there is one, declares none
-abbrev BeginWithNone : List Tree → Type 0
-BeginWithNone files = (t : Tree) (later : List Tree) → files ≡ t ∷ later → DeclaresNone t
+abbrev pub BeginWithNone : Bool → List Tree → Type 0
+BeginWithNone aside files = (t : Tree) (later : List Tree) → files ≡ t ∷ later → DeclaresNone aside t
 
 -- of the files the first ones declare the docs, and the next, where there is one, declares none
-pub record DeclareFirst (trees : List Tree) (docs : List OddDoc) : Type 0 where
+pub record DeclareFirst (aside : Bool) (trees : List Tree) (docs : List OddDoc) : Type 0 where
   pub files : List Tree
   pub rest : List Tree
   pub parts : trees ≡ files ++ rest
-  pub declared : AreDeclared files docs
-  pub end : BeginWithNone rest
+  pub declared : AreDeclared aside files docs
+  pub end : BeginWithNone aside rest
 
--- then no more files declare docs from the first on
-pub no_more_declared : (files rest upto later : List Tree) (docs others : List OddDoc) → BeginWithNone rest → AreDeclared files docs → AreDeclared upto others
-    → files ++ rest ≡ upto ++ later → (between : List OddDoc) × (docs ≡ others ++ between)
-no_more_declared files rest upto later docs others end are none e = (docs, refl)
-no_more_declared files rest upto later docs others end none (more {t = t} {trees = ts} {doc = doc} d also) e = absurd (end t (ts ++ later) e doc d)
-no_more_declared files rest upto later docs others end (more {t = t} {trees = ts} {doc = a} {docs = before} d are) (more {t = u} {trees = us} {doc = b} {docs = after} f also) e =
-    let made = no_more_declared ts rest us later before after end are also cc in
-    let same : t ≡ u = cc in
-    let docs : a ≡ b = one_doc u a b (subst (λ x. Declares x a) same d) f in
-    (made.0, cc (docs, made.1))
+module _ {aside : Bool} where
+  -- one file more declares its doc
+  pub one_declared_more : (trees : List Tree) (t : Tree) (docs : List OddDoc) (doc : OddDoc) → AreDeclared aside trees docs → Declares t aside doc → AreDeclared aside (trees ++ t ∷ []) (docs ++ doc ∷ [])
+  one_declared_more trees t docs doc none d = more d none
+  one_declared_more trees t docs doc (more {trees = rest} {docs = others} e are) d = more e (one_declared_more rest t others doc are d)
 
--- a file that declares none stands after those that declare docs
-pub stands_after : (files rest before later : List Tree) (docs : List OddDoc) (t : Tree) → AreDeclared files docs → DeclaresNone t → files ++ rest ≡ before ++ t ∷ later
-    → (between : List Tree) × (before ≡ files ++ between) × (rest ≡ between ++ t ∷ later)
-stands_after files rest before later docs t none idle e = (before, refl, e)
-stands_after files rest [] later docs t (more {t = u} {doc = doc} d are) idle e = let same : u ≡ t = cc in absurd (idle doc (subst (λ x. Declares x doc) same d))
-stands_after files rest (v ∷ before) later docs t (more {t = u} {trees = ts} {docs = others} d are) idle e =
-    let made = stands_after ts rest before later others t are idle cc in
-    let same : u ≡ v = cc in
-    (made.0, cc (same, made.1), made.2)
+  -- there are as many docs as files
+  pub as_many : (trees : List Tree) (docs : List OddDoc) → AreDeclared aside trees docs → length docs ≡ length trees
+  as_many trees docs none = refl
+  as_many trees docs (more {trees = rest} {docs = others} d are) = ap suc (as_many rest others are)
+
+  -- files declare one list of docs
+  pub one_docs : (trees : List Tree) (docs others : List OddDoc) → AreDeclared aside trees docs → AreDeclared aside trees others → docs ≡ others
+  one_docs trees docs others none none = refl
+  one_docs trees docs others (more {t = t} {trees = rest} {doc = a} {docs = before} d are) (more {doc = b} {docs = after} e also) = cc (one_doc t a b d e, one_docs rest before after are also)
+
+  -- the first of the docs are declared by as many files
+  pub first_declared : (trees : List Tree) (docs upto later : List OddDoc) → AreDeclared aside trees docs → docs ≡ upto ++ later
+      → (files : List Tree) × (others : List Tree) × (trees ≡ files ++ others) × AreDeclared aside files upto
+  first_declared trees docs [] later are e = ([], trees, refl, none)
+  first_declared trees docs (doc ∷ upto) later none e = absurd cc
+  first_declared trees docs (doc ∷ upto) later (more {t = t} {trees = rest} {doc = first} {docs = others} d are) e =
+      let made = first_declared rest others upto later are cc in
+      let same : first ≡ doc = cc in
+      (t ∷ made.0, made.1, ap (λ ts. t ∷ ts) made.2, more (subst (Declares t aside) same d) made.3)
+
+  -- then no more files declare docs from the first on
+  pub no_more_declared : (files rest upto later : List Tree) (docs others : List OddDoc) → BeginWithNone aside rest → AreDeclared aside files docs → AreDeclared aside upto others
+      → files ++ rest ≡ upto ++ later → (between : List OddDoc) × (docs ≡ others ++ between)
+  no_more_declared files rest upto later docs others end are none e = (docs, refl)
+  no_more_declared files rest upto later docs others end none (more {t = t} {trees = ts} {doc = doc} d also) e = absurd (end t (ts ++ later) e doc d)
+  no_more_declared files rest upto later docs others end (more {t = t} {trees = ts} {doc = a} {docs = before} d are) (more {t = u} {trees = us} {doc = b} {docs = after} f also) e =
+      let made = no_more_declared ts rest us later before after end are also cc in
+      let same : t ≡ u = cc in
+      let docs : a ≡ b = one_doc u a b (subst (λ x. Declares x aside a) same d) f in
+      (made.0, cc (docs, made.1))
+
+  -- a file that declares none stands after those that declare docs
+  pub stands_after : (files rest before later : List Tree) (docs : List OddDoc) (t : Tree) → AreDeclared aside files docs → DeclaresNone aside t → files ++ rest ≡ before ++ t ∷ later
+      → (between : List Tree) × (before ≡ files ++ between) × (rest ≡ between ++ t ∷ later)
+  stands_after files rest before later docs t none idle e = (before, refl, e)
+  stands_after files rest [] later docs t (more {t = u} {doc = doc} d are) idle e = let same : u ≡ t = cc in absurd (idle doc (subst (λ x. Declares x aside doc) same d))
+  stands_after files rest (v ∷ before) later docs t (more {t = u} {trees = ts} {docs = others} d are) idle e =
+      let made = stands_after ts rest before later others t are idle cc in
+      let same : u ≡ v = cc in
+      (made.0, cc (same, made.1), made.2)
 
 -- the library is that after the first docs of a chain, and only later ones have offences
 pub record IsMerged (docs : List OddDoc) (count : ℕ) (library : Library) : Type 0 where
@@ -197,36 +191,27 @@ module _ (docs : List OddDoc) (i : ℕ) (doc : OddDoc) (library : Library) (with
       not_before (item place rule) own = absurd (sound place rule own)
       not_before (held key rule) own = inr (refl, f.is_first.first key rule (subst (λ l. Breaks l key rule) (one_library upto own.0 made own.1 after) own.2))
 
-module _ (trees : List Tree) (t : Tree) where
-  -- one that is read
-  all_read_more : AreAllRead trees → (IsPending t → ⊥) → AreAllRead (trees ++ t ∷ [])
-  all_read_more are read u s p = ⊎_elim (λ before. are u before p) (λ e. read (subst IsPending (sym e) p)) ((stands_push trees t u).0 s)
+module _ {aside : Bool} where
+  module _ (trees : List Tree) (t : Tree) where
+    -- the first with an offence of form
+    pub broken_last : (docs : List OddDoc) (file : ℕ) (offence : Offence) → AreDeclared aside trees docs → file ≡ suc (length trees) → IsRefusal t aside file offence
+        → IsBrokenAfter aside (trees ++ t ∷ []) docs offence
+    broken_last docs file offence are number refused = record {
+      earlier = trees;
+      tree = t;
+      later = [];
+      parts = refl;
+      declared = are;
+      refused = subst (λ n. IsRefusal t aside n offence) number refused;
+    }
 
-  -- the first that is not read
-  pub pending_last : (file : ℕ) → AreAllRead trees → file ≡ suc (length trees) → IsPending t → IsFirstPending (trees ++ t ∷ []) file
-  pending_last file are number p = record { earlier = trees; tree = t; later = []; parts = refl; number = number; read_before = are; is_pending = p }
-
-  -- the first with an offence of form
-  pub broken_last : (docs : List OddDoc) (file : ℕ) (offence : Offence) → AreDeclared trees docs → file ≡ suc (length trees) → IsRefusal t file offence
-      → IsBrokenAfter (trees ++ t ∷ []) docs offence
-  broken_last docs file offence are number refused = record {
-    earlier = trees;
-    tree = t;
-    later = [];
-    parts = refl;
-    declared = are;
-    refused = subst (λ n. IsRefusal t n offence) number refused;
-    all_read = all_read_more (declared_read trees docs are) refused.is_one.all_read;
-  }
-
-  -- one that is read after the first with an offence of form
-  pub broken_more : (docs : List OddDoc) (offence : Offence) → IsBrokenAfter trees docs offence → (IsPending t → ⊥) → IsBrokenAfter (trees ++ t ∷ []) docs offence
-  broken_more docs offence broken read = record {
-    earlier = broken.earlier;
-    tree = broken.tree;
-    later = broken.later ++ t ∷ [];
-    parts = ap (λ ts. ts ++ t ∷ []) broken.parts ∙ append_assoc broken.earlier (broken.tree ∷ broken.later) (t ∷ []);
-    declared = broken.declared;
-    refused = broken.refused;
-    all_read = all_read_more broken.all_read read;
-  }
+    -- one more after the first with an offence of form
+    pub broken_more : (docs : List OddDoc) (offence : Offence) → IsBrokenAfter aside trees docs offence → IsBrokenAfter aside (trees ++ t ∷ []) docs offence
+    broken_more docs offence broken = record {
+      earlier = broken.earlier;
+      tree = broken.tree;
+      later = broken.later ++ t ∷ [];
+      parts = ap (λ ts. ts ++ t ∷ []) broken.parts ∙ append_assoc broken.earlier (broken.tree ∷ broken.later) (t ∷ []);
+      declared = broken.declared;
+      refused = broken.refused;
+    }

@@ -27,7 +27,6 @@ pub fn merge(alloc: Global, docs: &OddDocs) -> Result<Library, OddRefusal>
     ensures formed { All IsFormedDoc docs.now → IfOk result IsFormedLibrary }
     ensures sound { IsOk result → (file : ℕ) (at : Position) → OffendsIn docs.now file at → ⊥ }
     ensures offence { (offence : AnOffence) → result ≡ Err (OddRefusal.Offence offence) → IsFirst (OffendsIn docs.now) offence }
-    ensures read { result ≢ Err OddRefusal.NotYet }
     ensures unbroken { IfOk result (λ library. (key : AKey) (rule : ℕ) → Breaks library key rule → ⊥) }
 {
     let mut library = Library::empty(alloc)?;
@@ -44,7 +43,6 @@ pub fn merge(alloc: Global, docs: &OddDocs) -> Result<Library, OddRefusal>
 fn check(alloc: Global, library: &Library, file: u32) -> Result<(), OddRefusal>
     ensures sound { IsOk result → (key : AKey) (rule : ℕ) → Breaks library.now key rule → ⊥ }
     ensures offence { (offence : AnOffence) → result ≡ Err (OddRefusal.Offence offence) → IsFirstOfLibrary library.now file offence }
-    ensures read { result ≢ Err OddRefusal.NotYet }
 {
     match check_library(alloc, library) {
         Ok(()) => Ok(()),

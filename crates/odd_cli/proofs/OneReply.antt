@@ -1,5 +1,5 @@
 -- Each step of a reply has one outcome, and so have all of them one after another; and where words and files are sound it is no status.
-use Rattle.std.proofs.Common.{◌≡◌, ℕ, List, [], ◌∷◌, ◌++◌, append_assoc, length, arith, refl, sym, ap, subst, subst₂, ◌∙◌, ⊎_elim, suc, inl, inr, ◌≤◌, ◌<◌}
+use Rattle.std.proofs.Common.{◌≡◌, ℕ, Bool, true, false, List, [], ◌∷◌, ◌++◌, append_assoc, length, arith, refl, sym, ap, subst, subst₂, ◌∙◌, ⊎_elim, suc, inl, inr, ◌≤◌, ◌<◌}
 use Rattle.std.proofs.lemmas.Cmp.{nat_list_cmp_total}
 use Rattle.std.proofs.lemmas.List.{append_cancel_right}
 use Rattle.std.proofs.lemmas.Option.{same_Some}
@@ -10,7 +10,7 @@ use Rattle.compile_core.proofs.SchemaText.{one_schema_text}
 use Rattle.compile_core.specs.Schema.{HasLargeSchema, IsLeastMissing, IsSchema, IsTooLarge}
 use Rattle.compile_defines.specs.Compiled.{HoldsStart}
 use Rattle.odd_base.specs.Shelf.{FileMap, IsTooLong, NotHeld}
-use Rattle.odd_chain.proofs.Files.{gives_one, one_chain_refusal, one_pending, pending_not_read, refused_gives_none}
+use Rattle.odd_chain.proofs.Files.{gives_one, one_chain_refusal, refused_gives_none}
 use Rattle.odd_chain.specs.Files.{Gives}
 use Rattle.odd_forms.proofs.SetOf.{neither_below}
 use Rattle.odd_library.specs.declared.library.Library.{Library}
@@ -24,9 +24,9 @@ use Rattle.odd_tree.specs.declared.tree.Tree.{Tree}
 use Rattle.rng_patterns.specs.declared.grammar.Grammar.{Grammar}
 use Rattle.odd_cli.specs.Outcome.{Outcome, Then, IsOne, answers, gives}
 use Rattle.odd_cli.specs.Reading.{IsOfFile, IsOfTrees}
-use Rattle.odd_cli.specs.Reply.{FileGives, FileStops, GiveTrees, IsReached, IsRead, file_bytes, more, none, not_held, not_xml, too_deep, too_long, HasSchema, Merges, NamesFiles, ReadsChain, ReadsForms, Reply, TreesComeTo, WordsComeTo, all_read, all_spelled, answered, done, merged, named, no_job, not_yet, refused, schema, start_missing, start_offence, stops, too_large, too_many}
+use Rattle.odd_cli.specs.Reply.{FileGives, FileStops, GiveTrees, IsReached, IsRead, file_bytes, more, none, not_held, not_xml, too_deep, too_long, HasSchema, Merges, NamesFiles, ChainComesTo, ReadsChain, Reply, TreesComeTo, WordsComeTo, all_spelled, answered, done, merged, named, no_job, refused, schema, start_missing, start_offence, stops, too_large, too_many}
 use Rattle.odd_cli.specs.Running.{IsSilent, IsSound}
-use Rattle.odd_cli.specs.Words.{Compiles, WordsMean, compile}
+use Rattle.odd_cli.specs.Words.{Compiles, WordsMean, compile, with_aside}
 use Rattle.odd_cli.specs.declared.status.LimitKind.TheVariants as limit
 use Rattle.odd_cli.specs.declared.status.Status.{Status}
 use Rattle.odd_cli.specs.declared.status.Status.TheVariants as status
@@ -138,28 +138,38 @@ module _ {X Y Z : Type 0} (R : X → Outcome Y → Type 0) (S : Y → Outcome Z 
   then_one other x (answers s) p (inr r) q = other r.0 (answers s) p r.2 (after x r.0 p r.1 q)
   then_one other x (gives z) p r q = other r.0 (gives z) p r.2 (after x r.0 p r.1 q)
 
--- words name the files of one chain
-pub one_chain : (words f g : List (List ℕ)) → Compiles words f → Compiles words g → f ≡ g
-one_chain words f g p q = let same : codes "compile" ∷ f ≡ codes "compile" ∷ g = sym p.words_are ∙ q.words_are in cc
+-- words ask for one chain, with `aside` or without
+pub one_asked : (words : List (List ℕ)) (a b : Bool) (f g : List (List ℕ)) → Compiles words a f → Compiles words b g → ◌≡◌ {A = Bool × List (List ℕ)} (a, f) (b, g)
+one_asked words a b f g p q = same a b (sym p.words_are ∙ q.words_are)
+  where
+    same : (x y : Bool) → with_aside x (codes "compile" ∷ f) ≡ with_aside y (codes "compile" ∷ g) → ◌≡◌ {A = Bool × List (List ℕ)} (x, f) (y, g)
+    same true true e = let tails : f ≡ g = cc in ap (λ ns. (true, ns)) tails
+    same false false e = let tails : f ≡ g = cc in ap (λ ns. (false, ns)) tails
+    same true false e = let no : codes "aside" ≡ codes "compile" = cc in cc
+    same false true e = let no : codes "compile" ≡ codes "aside" = cc in cc
+
+-- so the words name the files of one chain
+pub one_chain : (words : List (List ℕ)) (a b : Bool) (f g : List (List ℕ)) → Compiles words a f → Compiles words b g → f ≡ g
+one_chain words a b f g p q = ap (λ (x : Bool × List (List ℕ)). x.1) (one_asked words a b f g p q)
 
 -- words that name files have a job
-pub no_job_but : (words chain : List (List ℕ)) → ((job : Job) → WordsMean words job → ⊥) → Compiles words chain → ⊥
-no_job_but words chain without c = without _ (compile chain c refl)
+pub no_job_but : (words : List (List ℕ)) (a : Bool) (chain : List (List ℕ)) → ((job : Job) → WordsMean words job → ⊥) → Compiles words a chain → ⊥
+no_job_but words a chain without c = without _ (compile a chain c refl)
 
 -- and no chain is both too long and not
-many_but : (words f g : List (List ℕ)) → Compiles words f → Compiles words g → 16 < length f → length g ≤ 16 → ⊥
-many_but words f g p q long short = omega (arith, long, short, ap length (one_chain words f g p q))
+many_but : (words : List (List ℕ)) (a b : Bool) (f g : List (List ℕ)) → Compiles words a f → Compiles words b g → 16 < length f → length g ≤ 16 → ⊥
+many_but words a b f g p q long short = omega (arith, long, short, ap length (one_chain words a b f g p q))
 
 pub names_one : IsOne NamesFiles
 names_one words o p (no_job n) (no_job m) = refl
-names_one words o p (no_job n) (too_many g q l) = absurd (no_job_but words g n q)
-names_one words o p (no_job n) (named {chain = g} q l) = absurd (no_job_but words g n q)
-names_one words o p (too_many f c l) (no_job n) = absurd (no_job_but words f n c)
-names_one words o p (too_many f c l) (too_many g q m) = refl
-names_one words o p (too_many f c l) (named {chain = g} q m) = absurd (many_but words f g c q l m)
-names_one words o p (named {chain = f} c l) (no_job n) = absurd (no_job_but words f n c)
-names_one words o p (named {chain = f} c l) (too_many g q m) = absurd (many_but words g f q c m l)
-names_one words o p (named {chain = f} c l) (named {chain = g} q m) = ap gives (one_chain words f g c q)
+names_one words o p (no_job n) (too_many b g q l) = absurd (no_job_but words b g n q)
+names_one words o p (no_job n) (named {aside = b} {chain = g} q l) = absurd (no_job_but words b g n q)
+names_one words o p (too_many a f c l) (no_job n) = absurd (no_job_but words a f n c)
+names_one words o p (too_many a f c l) (too_many b g q m) = refl
+names_one words o p (too_many a f c l) (named {aside = b} {chain = g} q m) = absurd (many_but words a b f g c q l m)
+names_one words o p (named {aside = a} {chain = f} c l) (no_job n) = absurd (no_job_but words a f n c)
+names_one words o p (named {aside = a} {chain = f} c l) (too_many b g q m) = absurd (many_but words b a g f q c m l)
+names_one words o p (named {aside = a} {chain = f} c l) (named {aside = b} {chain = g} q m) = ap gives (one_asked words a b f g c q)
 
 reading_one : (files : FileMap) → IsOne (ReadsChain files)
 reading_one files chain o p (stops {s = s} m name a h) (stops {s = r} n other b k) = ap answers (stops_once files chain m n name other s r a b h k)
@@ -167,35 +177,29 @@ reading_one files chain o p (stops {s = s} n name a h) (all_spelled {trees = ts}
 reading_one files chain o p (all_spelled {trees = ts} g) (stops {s = s} n name a h) = absurd (none_stops files chain ts name n s g (a.earlier, a.later, a.parts) h)
 reading_one files chain o p (all_spelled {trees = ts} g) (all_spelled {trees = us} h) = ap gives (one_trees files chain ts us g h)
 
-forms_one : IsOne ReadsForms
-forms_one trees o p (not_yet {file = f} a) (not_yet {file = g} b) = ap (λ n. answers (status.NotYet n)) (one_pending trees f g a b)
-forms_one trees o p (not_yet {file = f} a) (all_read r) = absurd (pending_not_read trees f a r)
-forms_one trees o p (all_read r) (not_yet {file = f} a) = absurd (pending_not_read trees f a r)
-forms_one trees o p (all_read r) (all_read q) = refl
-
 -- the least of some words is one word
 one_least : (library : Library) (start : List (List ℕ)) (v w : List ℕ) → IsLeastMissing library start v → IsLeastMissing library start w → v ≡ w
 one_least library start v w p q =
     neither_below text_cmp nat_list_cmp_total (slice_cmp-IsAntisymmetric nat_cmp-IsAntisymmetric) v w (q.least v p.among p.missing) (p.least w q.among q.missing)
 
 -- trees have one library, and it has this word
-least_after : (trees : List Tree) (l m : Library) (word : List ℕ) → Gives trees l → Gives trees m → IsLeastMissing l l.start word → IsLeastMissing m m.start word
-least_after trees l m word g k = subst (λ x. IsLeastMissing x x.start word) (gives_one trees l m g k)
+least_after : (aside : Bool) (trees : List Tree) (l m : Library) (word : List ℕ) → Gives aside trees l → Gives aside trees m → IsLeastMissing l l.start word → IsLeastMissing m m.start word
+least_after aside trees l m word g k = subst (λ x. IsLeastMissing x x.start word) (gives_one trees l m g k)
 
 held_but : (l : Library) (word : List ℕ) → IsLeastMissing l l.start word → HoldsStart l l.start → ⊥
 held_but l word least h = h word least.among least.missing
 
-merges_one : IsOne Merges
-merges_one trees o p (refused {offence = a} r) (refused {offence = b} q) = ap (λ x. answers (status.Refused x)) (one_chain_refusal trees a b r q)
-merges_one trees o p (refused {offence = a} r) (start_missing w m k e) = absurd (refused_gives_none trees a m r k)
-merges_one trees o p (refused {offence = a} r) (merged {library = m} k h) = absurd (refused_gives_none trees a m r k)
-merges_one trees o p (start_missing v l g d) (refused {offence = a} r) = absurd (refused_gives_none trees a l r g)
-merges_one trees o p (start_missing v l g d) (start_missing w m k e) =
-    ap (λ x. answers (status.Refused (start_offence (length trees) x))) (one_least m m.start v w (least_after trees l m v g k d) e)
-merges_one trees o p (start_missing v l g d) (merged {library = m} k h) = absurd (held_but m v (least_after trees l m v g k d) h)
-merges_one trees o p (merged {library = l} g h) (refused {offence = a} r) = absurd (refused_gives_none trees a l r g)
-merges_one trees o p (merged {library = l} g h) (start_missing w m k e) = absurd (held_but l w (least_after trees m l w k g e) h)
-merges_one trees o p (merged {library = l} g h) (merged {library = m} k i) = ap gives (gives_one trees l m g k)
+merges_one : (aside : Bool) → IsOne (Merges aside)
+merges_one aside trees o p (refused {offence = a} r) (refused {offence = b} q) = ap (λ x. answers (status.Refused x)) (one_chain_refusal trees a b r q)
+merges_one aside trees o p (refused {offence = a} r) (start_missing w m k e) = absurd (refused_gives_none trees a m r k)
+merges_one aside trees o p (refused {offence = a} r) (merged {library = m} k h) = absurd (refused_gives_none trees a m r k)
+merges_one aside trees o p (start_missing v l g d) (refused {offence = a} r) = absurd (refused_gives_none trees a l r g)
+merges_one aside trees o p (start_missing v l g d) (start_missing w m k e) =
+    ap (λ x. answers (status.Refused (start_offence (length trees) x))) (one_least m m.start v w (least_after aside trees l m v g k d) e)
+merges_one aside trees o p (start_missing v l g d) (merged {library = m} k h) = absurd (held_but m v (least_after aside trees l m v g k d) h)
+merges_one aside trees o p (merged {library = l} g h) (refused {offence = a} r) = absurd (refused_gives_none trees a l r g)
+merges_one aside trees o p (merged {library = l} g h) (start_missing w m k e) = absurd (held_but l w (least_after aside trees m l w k g e) h)
+merges_one aside trees o p (merged {library = l} g h) (merged {library = m} k i) = ap gives (gives_one trees l m g k)
 
 -- a library whose schema passes a limit has none that passes none
 large_but : (l : Library) (g : Grammar) → HasLargeSchema l l.start → IsSchema l l.start g → ⊥
@@ -207,11 +211,14 @@ schema_one l o p (too_large a) (schema g i e) = absurd (large_but l g a i)
 schema_one l o p (schema g i e) (too_large a) = absurd (large_but l g a i)
 schema_one l o p (schema g i e) (schema h j f) = ap gives (one_schema_text l l.start _ _ e f)
 
-pub trees_one : IsOne TreesComeTo
-trees_one = then_one ReadsForms (Then Merges HasSchema) forms_one (then_one Merges HasSchema merges_one schema_one)
+pub trees_one : (aside : Bool) → IsOne (TreesComeTo aside)
+trees_one aside = then_one (Merges aside) HasSchema (merges_one aside) schema_one
+
+chain_comes_one : (files : FileMap) → IsOne (ChainComesTo files)
+chain_comes_one files asked = then_one (ReadsChain files) (TreesComeTo asked.0) (reading_one files) (trees_one asked.0) asked.1
 
 pub words_one : (files : FileMap) → IsOne (WordsComeTo files)
-words_one files = then_one NamesFiles (Then (ReadsChain files) TreesComeTo) names_one (then_one (ReadsChain files) TreesComeTo (reading_one files) trees_one)
+words_one files = then_one NamesFiles (ChainComesTo files) names_one (chain_comes_one files)
 
 -- a file answers with its number
 pub of_file : (files : FileMap) (name : List ℕ) (number : ℕ) (s : Status) → FileStops files name number s → IsOfFile number s
@@ -221,24 +228,23 @@ of_file files name number s (not_xml bytes r x) = refl
 of_file files name number s (too_deep bytes r d) = refl
 
 -- and trees with what is of all of them
-pub of_trees : (trees : List Tree) (s : Status) → TreesComeTo trees (answers s) → IsOfTrees s
-of_trees trees s (inl (not_yet p)) = tt
-of_trees trees s (inr (ts, f, inl (refused r))) = tt
-of_trees trees s (inr (ts, f, inl (start_missing word library g m))) = tt
-of_trees trees s (inr (ts, f, inr (library, m, too_large l))) = tt
+pub of_trees : (aside : Bool) (trees : List Tree) (s : Status) → TreesComeTo aside trees (answers s) → IsOfTrees s
+of_trees aside trees s (inl (refused r)) = tt
+of_trees aside trees s (inl (start_missing word library g m)) = tt
+of_trees aside trees s (inr (library, m, too_large l)) = tt
 
 -- any other status is of the words
 pub of_words : (words : List (List ℕ)) (files : FileMap) (s : Status) → ((number : ℕ) → IsOfFile number s → ⊥) → (IsOfTrees s → ⊥) → WordsComeTo files words (answers s) → NamesFiles words (answers s)
 of_words words files s of_none of_no (inl n) = n
-of_words words files s of_none of_no (inr (chain, n, inl (stops number name r h))) = absurd (of_none number (of_file files name number s h))
-of_words words files s of_none of_no (inr (chain, n, inr (trees, r, t))) = absurd (of_no (of_trees trees s t))
+of_words words files s of_none of_no (inr (asked, n, inl (stops number name r h))) = absurd (of_none number (of_file files name number s h))
+of_words words files s of_none of_no (inr (asked, n, inr (trees, r, t))) = absurd (of_no (of_trees asked.0 trees s t))
 
 -- none is Done
 pub never_done : (words : List (List ℕ)) (files : FileMap) → WordsComeTo files words (answers status.Done) → ⊥
 never_done words files h = elim (of_words words files status.Done (λ number is. is) (λ is. is) h) [ ]
 
 -- merging the trees of sound files answers nothing
-merges_sound : (words : List (List ℕ)) (files : FileMap) (s : Status) (sound : IsSound words files) → Then Merges HasSchema sound.trees (answers s) → ⊥
+merges_sound : (words : List (List ℕ)) (files : FileMap) (s : Status) (sound : IsSound words files) → TreesComeTo sound.aside sound.trees (answers s) → ⊥
 merges_sound words files s sound (inl (refused r)) = sound.unoffended _ r.at r.is_one
 merges_sound words files s sound (inl (start_missing word library g least)) = held_but library word least (sound.holds_start library g)
 merges_sound words files s sound (inr (library, merged g h, too_large l)) = sound.within library l.grammar g l.is_grammar l.too_large
@@ -247,6 +253,5 @@ merges_sound words files s sound (inr (library, merged g h, too_large l)) = soun
 pub sound_replies : (words : List (List ℕ)) (files : FileMap) (text : List ℕ) (s : Status) → IsSound words files → IsSilent s → Reply words files text s → ⊥
 sound_replies words files text s sound silent (done comes) = silent
 sound_replies words files text s sound silent (answered comes) =
-    let read = after NamesFiles (Then (ReadsChain files) TreesComeTo) names_one words sound.chain (answers s) (named sound.compiles sound.few) comes in
-    let trees = after (ReadsChain files) TreesComeTo (reading_one files) sound.chain sound.trees (answers s) (all_spelled sound.given) read in
-    merges_sound words files s sound (after ReadsForms (Then Merges HasSchema) forms_one sound.trees sound.trees (answers s) (all_read sound.all_read) trees)
+    let read = after NamesFiles (ChainComesTo files) names_one words (sound.aside, sound.chain) (answers s) (named sound.compiles sound.few) comes in
+    merges_sound words files s sound (after (ReadsChain files) (TreesComeTo sound.aside) (reading_one files) sound.chain sound.trees (answers s) (all_spelled sound.given) read)

@@ -1,5 +1,5 @@
 -- The line of a status on the note.
-use Rattle.std.specs.Prelude.{◌≡◌, ◌≤◌, ℕ, Bool, true, false, List, [], ◌++◌, Option, Some, length, take, codes, decimal}
+use Rattle.std.specs.Prelude.{◌≡◌, ◌≤◌, ℕ, Bool, true, false, List, [], ◌++◌, Option, None, Some, length, take, codes, decimal}
 use Rattle.odd_text.specs.Count.{HasRisen}
 use Rattle.odd_text.specs.declared.key.Kind.{Kind}
 use Rattle.odd_text.specs.declared.key.Kind.TheVariants as kind
@@ -33,17 +33,21 @@ limit_text (limit.Depth file at) = codes "odd: limit depth file " ++ decimal fil
 limit_text limit.Files = codes "odd: limit files\n"
 limit_text limit.Nodes = codes "odd: limit nodes\n"
 
--- Done has no line
-abbrev pub note_text : Status → List ℕ
-note_text status.Done = []
-note_text (status.Refused offence) = codes "odd: " ++ who_text offence.file offence.who ++ codes ": rule " ++ decimal offence.rule ++ codes "\n"
-note_text (status.NotXml file at) = codes "odd: " ++ place_text file at ++ codes ": not XML\n"
-note_text status.Usage = codes "odd: usage\n"
-note_text (status.Limit kind) = limit_text kind
-note_text (status.ReadFault file) = codes "odd: read fault file " ++ decimal file ++ codes "\n"
-note_text status.WriteFault = codes "odd: write fault\n"
-note_text status.NoMemory = codes "odd: no memory\n"
-note_text (status.NotYet file) = codes "odd: file " ++ decimal file ++ codes ": not yet\n"
+-- how many constraints were taken out, where the words ask for it
+abbrev pub asides_text : Option ℕ → List ℕ
+asides_text None = []
+asides_text (Some count) = codes "odd: set aside " ++ decimal count ++ codes "\n"
+
+-- Done has no line of its own
+abbrev pub note_text : Status → Option ℕ → List ℕ
+note_text status.Done asides = asides_text asides
+note_text (status.Refused offence) asides = codes "odd: " ++ who_text offence.file offence.who ++ codes ": rule " ++ decimal offence.rule ++ codes "\n"
+note_text (status.NotXml file at) asides = codes "odd: " ++ place_text file at ++ codes ": not XML\n"
+note_text status.Usage asides = codes "odd: usage\n"
+note_text (status.Limit kind) asides = limit_text kind
+note_text (status.ReadFault file) asides = codes "odd: read fault file " ++ decimal file ++ codes "\n"
+note_text status.WriteFault asides = codes "odd: write fault\n"
+note_text status.NoMemory asides = codes "odd: no memory\n"
 
 -- the exit codes
 abbrev pub code_of : Status → ℕ
@@ -55,7 +59,6 @@ code_of (status.Limit kind) = 5
 code_of (status.ReadFault file) = 6
 code_of status.WriteFault = 7
 code_of status.NoMemory = 8
-code_of (status.NotYet file) = 10
 
 -- a front of the text, and perhaps all of it, was written after the bytes before
 abbrev pub IsFrontWritten : List ℕ → List ℕ → Option (List ℕ) → Type 0

@@ -1,5 +1,5 @@
 -- What the private functions of a run give: trees and chains that are read, and why there is none.
-use Rattle.std.specs.Prelude.{◌≡◌, ◌≤◌, ◌+◌, ◌*◌, ℕ, List, Option, Some, length}
+use Rattle.std.specs.Prelude.{◌≡◌, ◌≤◌, ◌+◌, ◌*◌, ℕ, Bool, List, Option, Some, length}
 use Rattle.odd_base.specs.Shelf.{FileMap, Held}
 use Rattle.odd_library.specs.declared.library.Library.{Library}
 use Rattle.odd_tree.specs.Formed.{IsFormed}
@@ -23,9 +23,9 @@ pub record IsTreeRead (holds : Option FileMap) (name : List ℕ) (tree : Tree) :
   pub held : (files : FileMap) → holds ≡ Some files → Held files name bytes
 
 -- The chain is that of trees, one for each name, and of the files of these names where the shelf tells what it holds.
-pub record IsChainRead (holds : Option FileMap) (names : List (List ℕ)) (chain : Chain) : Type 0 where
+pub record IsChainRead (aside : Bool) (holds : Option FileMap) (names : List (List ℕ)) (chain : Chain) : Type 0 where
   pub trees : List Tree
-  pub is_chain : IsChainOf chain trees
+  pub is_chain : IsChainOf aside chain trees
   pub many : length trees ≡ length names
   pub formed : AreFormedDocs chain
   pub given : (files : FileMap) → holds ≡ Some files → GiveTrees files names trees
@@ -47,7 +47,6 @@ StopsAt files s begins_old begins_new reads_old reads_new =
 -- all files gave trees, and these have no schema
 abbrev pub IsOfTrees : Status → Type 0
 IsOfTrees (status.Refused offence) = Unit {0}
-IsOfTrees (status.NotYet file) = Unit {0}
 IsOfTrees (status.Limit limit.Nodes) = Unit {0}
 IsOfTrees status.NoMemory = Unit {0}
 IsOfTrees s = ⊥

@@ -1,13 +1,13 @@
 -- What the program answers to words and files: the bytes of the reply and the status. Its steps go one after another, each over the whole chain, and the first
 -- that answers ends them.
-use Rattle.std.specs.Prelude.{◌≡◌, ◌≤◌, ◌<◌, ℕ, suc, List, [], ◌∷◌, ◌++◌, length}
+use Rattle.std.specs.Prelude.{◌≡◌, ◌≤◌, ◌<◌, ℕ, suc, Bool, List, [], ◌∷◌, ◌++◌, length}
 use Rattle.odd_base.specs.Shelf.{FileMap, Held, IsTooLong, NotHeld}
 use Rattle.odd_text.specs.declared.offence.Offence.{Offence}
 use Rattle.odd_text.specs.declared.offence.Who.TheVariants as who
 use Rattle.odd_tree.specs.declared.tree.Tree.{Tree}
 use Rattle.odd_tree.specs.Spelled.{DepthPlace, GivesTree, IsNotXml}
 use Rattle.odd_library.specs.declared.library.Library.{Library}
-use Rattle.odd_chain.specs.Files.{AreAllRead, Gives, IsChainRefusal, IsFirstPending}
+use Rattle.odd_chain.specs.Files.{Gives, IsChainRefusal}
 use Rattle.rng_patterns.specs.declared.grammar.Grammar.{Grammar}
 use Rattle.compile_defines.specs.Compiled.{HoldsStart}
 use Rattle.compile_core.specs.Schema.{HasLargeSchema, IsLeastMissing, IsSchema}
@@ -26,11 +26,11 @@ chain_files = 16
 abbrev pub file_bytes : ℕ
 file_bytes = 16777216
 
--- the words, and the files of the chain that they name
-pub data NamesFiles (words : List (List ℕ)) : Outcome (List (List ℕ)) → Type 0 where
+-- the words, whether they ask for `aside`, and the files of the chain that they name
+pub data NamesFiles (words : List (List ℕ)) : Outcome (Bool × List (List ℕ)) → Type 0 where
   no_job : ((job : Job) → WordsMean words job → ⊥) → NamesFiles words (answers status.Usage)
-  too_many : (chain : List (List ℕ)) → Compiles words chain → chain_files < length chain → NamesFiles words (answers (status.Limit limit.Files))
-  named : {chain : List (List ℕ)} → Compiles words chain → length chain ≤ chain_files → NamesFiles words (gives chain)
+  too_many : (aside : Bool) (chain : List (List ℕ)) → Compiles words aside chain → chain_files < length chain → NamesFiles words (answers (status.Limit limit.Files))
+  named : {aside : Bool} {chain : List (List ℕ)} → Compiles words aside chain → length chain ≤ chain_files → NamesFiles words (gives (aside, chain))
 
 -- the file of the name is held with these bytes, which are within the limit
 pub record IsRead (files : FileMap) (name bytes : List ℕ) : Type 0 where
@@ -70,20 +70,15 @@ pub data ReadsChain (files : FileMap) (chain : List (List ℕ)) : Outcome (List 
   stops : {s : Status} (number : ℕ) (name : List ℕ) → IsReached files chain number name → FileStops files name number s → ReadsChain files chain (answers s)
   all_spelled : {trees : List Tree} → GiveTrees files chain trees → ReadsChain files chain (gives trees)
 
--- trees, where all their forms are read
-pub data ReadsForms (trees : List Tree) : Outcome (List Tree) → Type 0 where
-  not_yet : {file : ℕ} → IsFirstPending trees file → ReadsForms trees (answers (status.NotYet file))
-  all_read : AreAllRead trees → ReadsForms trees (gives trees)
-
 abbrev pub start_offence : ℕ → List ℕ → Offence
 start_offence files word = record { file = files; who = who.Start word; rule = 20 }
 
 -- trees, and the library after them, which holds its start words
-pub data Merges (trees : List Tree) : Outcome Library → Type 0 where
-  refused : {offence : Offence} → IsChainRefusal trees offence → Merges trees (answers (status.Refused offence))
-  start_missing : (word : List ℕ) (library : Library) → Gives trees library → IsLeastMissing library library.start word
-      → Merges trees (answers (status.Refused (start_offence (length trees) word)))
-  merged : {library : Library} → Gives trees library → HoldsStart library library.start → Merges trees (gives library)
+pub data Merges (aside : Bool) (trees : List Tree) : Outcome Library → Type 0 where
+  refused : {offence : Offence} → IsChainRefusal aside trees offence → Merges aside trees (answers (status.Refused offence))
+  start_missing : (word : List ℕ) (library : Library) → Gives aside trees library → IsLeastMissing library library.start word
+      → Merges aside trees (answers (status.Refused (start_offence (length trees) word)))
+  merged : {library : Library} → Gives aside trees library → HoldsStart library library.start → Merges aside trees (gives library)
 
 -- a library, and the text of its schema
 pub data HasSchema (library : Library) : Outcome (List ℕ) → Type 0 where
@@ -91,12 +86,16 @@ pub data HasSchema (library : Library) : Outcome (List ℕ) → Type 0 where
   schema : {text : List ℕ} (grammar : Grammar) → IsSchema library library.start grammar → IsSchemaText library library.start text → HasSchema library (gives text)
 
 -- trees, and the schema of the library after them
-abbrev pub TreesComeTo : List Tree → Outcome (List ℕ) → Type 0
-TreesComeTo = Then ReadsForms (Then Merges HasSchema)
+abbrev pub TreesComeTo : Bool → List Tree → Outcome (List ℕ) → Type 0
+TreesComeTo aside = Then (Merges aside) HasSchema
+
+-- files, and the schema of the library after them
+abbrev pub ChainComesTo : FileMap → Bool × List (List ℕ) → Outcome (List ℕ) → Type 0
+ChainComesTo files asked = Then (ReadsChain files) (TreesComeTo asked.0) asked.1
 
 -- words, and the schema of the library after the files that they name
 abbrev pub WordsComeTo : FileMap → List (List ℕ) → Outcome (List ℕ) → Type 0
-WordsComeTo files = Then NamesFiles (Then (ReadsChain files) TreesComeTo)
+WordsComeTo files = Then NamesFiles (ChainComesTo files)
 
 pub data Reply (words : List (List ℕ)) (files : FileMap) : List ℕ → Status → Type 0 where
   answered : {s : Status} → WordsComeTo files words (answers s) → Reply words files [] s

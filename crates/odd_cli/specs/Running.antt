@@ -1,10 +1,10 @@
 -- What a run leaves of the shelf, the output and the note.
-use Rattle.std.specs.Prelude.{◌≡◌, ◌↔◌, ◌⊎◌, ◌≤◌, ◌+◌, ◌*◌, ℕ, zero, suc, Bool, List, [], ◌++◌, Option, Some, IsTrue, length}
-use Rattle.odd_text.specs.Count.{HasRisen, next_count}
+use Rattle.std.specs.Prelude.{◌≡◌, ◌↔◌, ◌⊎◌, ◌≤◌, ◌+◌, ◌*◌, ℕ, zero, suc, Bool, List, [], ◌++◌, Option, None, Some, IsTrue, length, min, true, false}
+use Rattle.odd_text.specs.Count.{HasRisen, last_count, next_count}
 use Rattle.odd_base.specs.Shelf.{FileMap, Held, NotHeld, LeavesSuffix}
 use Rattle.odd_library.specs.declared.library.Library.{Library}
 use Rattle.odd_tree.specs.declared.tree.Tree.{Tree}
-use Rattle.odd_chain.specs.Files.{AreAllRead, ChainOffends, Gives}
+use Rattle.odd_chain.specs.Files.{ChainOffends, Gives, HasAsides}
 use Rattle.odd_chain.specs.Order.{Position}
 use Rattle.odd_meaning.specs.Admission.{Admits}
 use Rattle.rng_patterns.specs.Acceptance.{Accepts}
@@ -76,7 +76,8 @@ pub record IsFaultPlace (chain : List (List ℕ)) (files : FileMap) (number : �
 -- the file of the number is reached by the words
 pub record IsReadPlace (words : List (List ℕ)) (files : FileMap) (number : ℕ) (rest : Option (List ℕ)) (steady : Bool) : Type 0 where
   pub chain : List (List ℕ)
-  pub compiles : Compiles words chain
+  pub aside : Bool
+  pub compiles : Compiles words aside chain
   pub within : length chain ≤ chain_files
   pub place : IsFaultPlace chain files number rest steady
 
@@ -84,18 +85,18 @@ pub record IsReadPlace (words : List (List ℕ)) (files : FileMap) (number : ℕ
 abbrev pub IsNoted : List ℕ → List ℕ → Option (List ℕ) → ℕ → ℕ → Type 0
 IsNoted before text written old new = (written ≡ Some (before ++ text)) ⊎ (IsFrontWritten before text written × HasRisen old new)
 
--- The words have a job of no more files than a chain may have; each file is held, within its limits, and spells a tree, and its forms are all read; the chain
+-- The words have a job of no more files than a chain may have; each file is held, within its limits, and spells a tree; the chain
 -- has no offence; each start word is a held element; and the schema passes no limit.
 pub record IsSound (words : List (List ℕ)) (files : FileMap) : Type 0 where
   pub chain : List (List ℕ)
-  pub compiles : Compiles words chain
+  pub aside : Bool
+  pub compiles : Compiles words aside chain
   pub few : length chain ≤ chain_files
   pub trees : List Tree
   pub given : GiveTrees files chain trees
-  pub all_read : AreAllRead trees
-  pub unoffended : (file : ℕ) (at : Position) → ChainOffends trees file at → ⊥
-  pub holds_start : (library : Library) → Gives trees library → HoldsStart library library.start
-  pub within : (library : Library) (g : Grammar) → Gives trees library → IsGrammarOf library library.start g → IsTooLarge g → ⊥
+  pub unoffended : (file : ℕ) (at : Position) → ChainOffends aside trees file at → ⊥
+  pub holds_start : (library : Library) → Gives aside trees library → HoldsStart library library.start
+  pub within : (library : Library) (g : Grammar) → Gives aside trees library → IsGrammarOf library library.start g → IsTooLarge g → ⊥
 
 -- the reply is written, or there was no memory
 abbrev pub IsComplete : Status → Type 0
@@ -108,16 +109,31 @@ pub record AcceptsAdmitted (library : Library) (text : List ℕ) : Type 0 where
   pub accepts : (t : Tree) → Accepts grammar t ↔ Admits library library.start t
 
 -- the same of the library after the trees of a chain
-pub record AcceptsOfTrees (trees : List Tree) (text : List ℕ) : Type 0 where
+pub record AcceptsOfTrees (aside : Bool) (trees : List Tree) (text : List ℕ) : Type 0 where
   pub library : Library
-  pub gives : Gives trees library
+  pub gives : Gives aside trees library
   pub right : AcceptsAdmitted library text
 
 -- and of the chain that the words name
 pub record AcceptsOfWords (words : List (List ℕ)) (files : FileMap) (text : List ℕ) : Type 0 where
   pub chain : List (List ℕ)
-  pub compiles : Compiles words chain
+  pub aside : Bool
+  pub compiles : Compiles words aside chain
   pub within : length chain ≤ chain_files
   pub trees : List Tree
   pub given : GiveTrees files chain trees
-  pub right : AcceptsOfTrees trees text
+  pub right : AcceptsOfTrees aside trees text
+
+-- how many constraints were taken out of all files, where the words ask for it; past the last number of 64 bits the count stands still
+abbrev pub AsidesOfTrees : Bool → List Tree → Option ℕ → Type 0
+AsidesOfTrees false trees asides = asides ≡ None
+AsidesOfTrees true trees asides = (count : ℕ) × HasAsides true trees count × (asides ≡ Some (min count last_count))
+
+-- the same of the chain that the words name
+pub record AsidesOfWords (words : List (List ℕ)) (files : FileMap) (asides : Option ℕ) : Type 0 where
+  pub chain : List (List ℕ)
+  pub aside : Bool
+  pub compiles : Compiles words aside chain
+  pub trees : List Tree
+  pub given : GiveTrees files chain trees
+  pub told : AsidesOfTrees aside trees asides

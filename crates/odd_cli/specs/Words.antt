@@ -1,5 +1,6 @@
 -- Which words have a job.
-use Rattle.std.specs.Prelude.{◌≡◌, ◌≢◌, ℕ, All, false, List, [], ◌∷◌, codes, length}
+use Rattle.std.specs.Prelude.{◌≡◌, ◌≢◌, ◌-◌, ℕ, zero, All, Bool, if◌then◌else◌, List, [], ◌∷◌, codes, length}
+use Rattle.odd_tokens.specs.Same.{is_same}
 use Rattle.odd_cli.specs.declared.words.Command.TheVariants as command
 use Rattle.odd_cli.specs.declared.words.Job.{Job}
 
@@ -7,12 +8,21 @@ use Rattle.odd_cli.specs.declared.words.Job.{Job}
 abbrev pub IsFileWord : List ℕ → Type 0
 IsFileWord word = word ≢ codes "--"
 
--- the words ask for the schema of a chain: `compile`, and one or more file words
-pub record Compiles (words chain : List (List ℕ)) : Type 0 where
-  pub words_are : words ≡ codes "compile" ∷ chain
+-- the words after `aside`, or without it
+abbrev pub with_aside : Bool → List (List ℕ) → List (List ℕ)
+with_aside aside rest = if aside then codes "aside" ∷ rest else rest
+
+-- the words ask for the schema of a chain, with `aside` or without: `compile`, and one or more file words
+pub record Compiles (words : List (List ℕ)) (aside : Bool) (chain : List (List ℕ)) : Type 0 where
+  pub words_are : words ≡ with_aside aside (codes "compile" ∷ chain)
   pub some : chain ≢ []
   pub file_words : All IsFileWord chain
 
 pub data WordsMean : List (List ℕ) → Job → Type 0 where
-  compile : {words : List (List ℕ)} {job : Job} (chain : List (List ℕ)) → Compiles words chain
-      → job ≡ record { command = command.Compile; aside = false; files = length chain; number = 0 } → WordsMean words job
+  compile : {words : List (List ℕ)} {job : Job} (aside : Bool) (chain : List (List ℕ)) → Compiles words aside chain
+      → job ≡ record { command = command.Compile; aside = aside; files = length chain; number = 0 } → WordsMean words job
+
+-- how many words come after the command, which are the files of a job
+abbrev pub files_named : List (List ℕ) → ℕ
+files_named [] = zero
+files_named (word ∷ rest) = if is_same word (codes "aside") then length rest - 1 else length rest

@@ -1,17 +1,22 @@
 ghost use Rattle.std.specs.Prelude.{◌≡◌, ◌++◌, is_ok, codes, decimal};
-ghost use Rattle.odd_cli.specs.Note.{Says, kind_word, limit_text, note_text, place_text, who_text};
+ghost use Rattle.odd_cli.specs.Note.{asides_text, Says, kind_word, limit_text, note_text, place_text, who_text};
 
 use crate::status::{LimitKind, Status};
 use itoa::Buffer;
 use odd_base::{Sink, SinkFault, write_whole};
 use odd_text::{Kind, Offence, Who};
 
-/// Writes the line of a status, piece by piece and without memory. Done has no line.
-pub fn write_note<N: Sink>(note: &mut N, status: &Status) -> Result<(), SinkFault>
-    ensures { Says N.written N.faults note.old note.new (note_text status.now) (is_ok result) }
+/// Writes the line of a status, piece by piece and without memory. Done has a line where constraints are taken out, with their
+/// number.
+pub fn write_note<N: Sink>(
+    note: &mut N,
+    status: &Status,
+    asides: Option<u64>,
+) -> Result<(), SinkFault>
+    ensures { Says N.written N.faults note.old note.new (note_text status.now asides) (is_ok result) }
 {
     match status {
-        Status::Done => Ok(()),
+        Status::Done => write_asides(note, asides),
         Status::Refused(offence) => write_offence(note, offence),
         Status::NotXml { file, at } => write_not_xml(note, *file, *at),
         Status::Usage => say(note, "odd: usage\n"),
@@ -19,7 +24,6 @@ pub fn write_note<N: Sink>(note: &mut N, status: &Status) -> Result<(), SinkFaul
         Status::ReadFault { file } => line(note, "odd: read fault file ", *file, "\n"),
         Status::WriteFault => say(note, "odd: write fault\n"),
         Status::NoMemory => say(note, "odd: no memory\n"),
-        Status::NotYet { file } => line(note, "odd: file ", *file, ": not yet\n"),
     }
 }
 
@@ -35,6 +39,16 @@ fn write_limit<N: Sink>(note: &mut N, kind: &LimitKind) -> Result<(), SinkFault>
         }
         LimitKind::Files => say(note, "odd: limit files\n"),
         LimitKind::Nodes => say(note, "odd: limit nodes\n"),
+    }
+}
+
+// How many constraints were taken out, where they are.
+fn write_asides<N: Sink>(note: &mut N, asides: Option<u64>) -> Result<(), SinkFault>
+    ensures { Says N.written N.faults note.old note.new (asides_text asides) (is_ok result) }
+{
+    match asides {
+        Some(count) => between(note, "odd: set aside ", count, "\n"),
+        None => Ok(()),
     }
 }
 
@@ -102,8 +116,15 @@ fn word_of_kind(kind: Kind) -> &'static str
 fn line<N: Sink>(note: &mut N, before: &str, file: u32, after: &str) -> Result<(), SinkFault>
     ensures { Says N.written N.faults note.old note.new (before.now ++ decimal file ++ after.now) (is_ok result) }
 {
+    between(note, before, file as u64, after)
+}
+
+// A number between two texts.
+fn between<N: Sink>(note: &mut N, before: &str, number: u64, after: &str) -> Result<(), SinkFault>
+    ensures { Says N.written N.faults note.old note.new (before.now ++ decimal number ++ after.now) (is_ok result) }
+{
     say(note, before)?;
-    say_number(note, file as u64)?;
+    say_number(note, number)?;
     say(note, after)
 }
 

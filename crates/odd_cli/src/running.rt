@@ -1,4 +1,4 @@
-ghost use Rattle.std.specs.Prelude.{◌≡◌, ◌≢◌, ◌↔◌, ◌⊎◌, ◌≤◌, ◌+◌, ◌-◌, ◌*◌, ◌<◌, ℕ, suc, List, Err, Ok, Some, IsTrue, IfOk, IfErr, OnOk, [], ◌∷◌, ◌++◌, length};
+ghost use Rattle.std.specs.Prelude.{◌≡◌, ◌≢◌, ◌↔◌, ◌⊎◌, ◌≤◌, ◌+◌, ◌*◌, ◌<◌, ℕ, suc, Bool, List, Option, Err, Ok, Some, IsTrue, IfOk, IfErr, OnOk, [], ◌∷◌, ◌++◌, length};
 ghost use Rattle.odd_text.specs.declared.key.Key.{Key as AKey};
 ghost use Rattle.odd_meaning.specs.Rules.{Breaks};
 ghost use Rattle.odd_text.specs.Count.{HasRisen, next_count};
@@ -11,16 +11,16 @@ ghost use Rattle.compile_defines.specs.Compiled.{HoldsStart};
 ghost use Rattle.odd_library.specs.Formed.{IsFormedLibrary};
 ghost use Rattle.odd_cli.specs.Note.{note_text};
 ghost use Rattle.odd_cli.specs.Outcome.{answers, gives};
-ghost use Rattle.odd_cli.specs.Words.{WordsMean};
+ghost use Rattle.odd_cli.specs.Words.{WordsMean, files_named};
 ghost use Rattle.odd_cli.specs.declared.words.Job.{Job as AJob};
 ghost use Rattle.odd_cli.specs.declared.status.Status.{Status as AStatus};
 ghost use Rattle.odd_cli.specs.Reply.{FileStops, HasSchema, NamesFiles, ReadsChain, Reply, TreesComeTo, chain_files, file_bytes};
 ghost use Rattle.odd_cli.specs.Reading.{IsChainRead, IsOfFile, IsOfTrees, IsStartError, IsTreeRead, StopsAt};
-ghost use Rattle.odd_cli.specs.Running.{AcceptsAdmitted, AcceptsOfTrees, AcceptsOfWords, BeginsFiles, GoesOn, IsComplete, IsFaultPlace, IsNoted, IsReadPlace, IsReplied, IsSilent, IsSound, AreReadWhole, counted};
+ghost use Rattle.odd_cli.specs.Running.{AcceptsAdmitted, AcceptsOfTrees, AcceptsOfWords, AsidesOfTrees, AsidesOfWords, BeginsFiles, GoesOn, IsComplete, IsFaultPlace, IsNoted, IsReadPlace, IsReplied, IsSilent, IsSound, AreReadWhole, counted};
 
 use crate::note::write_note;
 use crate::status::{LimitKind, Status};
-use crate::words::job_asked;
+use crate::words::{Asked, job_asked};
 use compile_core::{CompileRefusal, compile};
 use odd_base::{Shelf, Sink, SlurpRefusal, slurp, write_whole};
 use odd_chain::{Chain, ChainRefusal};
@@ -56,11 +56,11 @@ pub fn run<F: Shelf, W: Sink, N: Sink>(
     ensures write_cause { result ≡ Status.WriteFault → HasRisen (W.faults out.old) (W.faults out.new) }
     ensures read_place { (files : FileMap) (file : ℕ) → F.holds shelf.old ≡ Some files → result ≡ Status.ReadFault file → IsReadPlace words.now files file (F.rest shelf.new) (F.steady shelf.old) }
     ensures room { (files : FileMap) (text : List ℕ) (status : AStatus) → F.holds shelf.old ≡ Some files → Reply words.now files text status → IsTrue (W.steady out.old) → length text ≤ W.room out.old → result ≢ Status.WriteFault }
-    ensures few_reads { F.reads shelf.new ≤ F.reads shelf.old + (length words.now - 1) * (file_bytes + 1) }
-    ensures begins { BeginsFiles result (length words.now - 1) (F.begins shelf.old) (F.begins shelf.new) (F.reads shelf.old) (F.reads shelf.new) }
-    ensures to_the_end { (files : FileMap) → F.holds shelf.old ≡ Some files → result ≡ Status.Done → AreReadWhole F.begins F.rest (GoesOn F.holds F.steady F.faults F.begins F.reads) (length words.now - 1) shelf.old shelf.new × (F.rest shelf.new ≡ Some []) }
+    ensures few_reads { F.reads shelf.new ≤ F.reads shelf.old + (files_named words.now) * (file_bytes + 1) }
+    ensures begins { BeginsFiles result (files_named words.now) (F.begins shelf.old) (F.begins shelf.new) (F.reads shelf.old) (F.reads shelf.new) }
+    ensures to_the_end { (files : FileMap) → F.holds shelf.old ≡ Some files → result ≡ Status.Done → AreReadWhole F.begins F.rest (GoesOn F.holds F.steady F.faults F.begins F.reads) (files_named words.now) shelf.old shelf.new × (F.rest shelf.new ≡ Some []) }
     ensures kept { F.holds shelf.new ≡ F.holds shelf.old }
-    ensures note { (before : List ℕ) → N.written note.old ≡ Some before → IsNoted before (note_text result) (N.written note.new) (N.faults note.old) (N.faults note.new) }
+    ensures note { (before : List ℕ) → N.written note.old ≡ Some before → (asides : Option ℕ) × IsNoted before (note_text result asides) (N.written note.new) (N.faults note.old) (N.faults note.new) × ((files : FileMap) → F.holds shelf.old ≡ Some files → result ≡ Status.Done → AsidesOfWords words.now files asides) }
     ensures complete { (files : FileMap) → F.holds shelf.old ≡ Some files → IsSound words.now files → (HasRisen (F.faults shelf.old) (F.faults shelf.new) → ⊥) → (HasRisen (W.faults out.old) (W.faults out.new) → ⊥) → IsComplete result }
     ensures complete_steady { (files : FileMap) → F.holds shelf.old ≡ Some files → IsSound words.now files → IsTrue (F.steady shelf.old) → IsTrue (W.steady out.old) → ((text : List ℕ) → Reply words.now files text Status.Done → length text ≤ W.room out.old) → IsComplete result }
     ensures one { (files : FileMap) (before text : List ℕ) (status : AStatus) → F.holds shelf.old ≡ Some files → W.written out.old ≡ Some before → IsReplied result → Reply words.now files text status → (result ≡ status) × (W.written out.new ≡ Some (before ++ text)) }
@@ -73,70 +73,100 @@ pub fn run<F: Shelf, W: Sink, N: Sink>(
     ensures room_kept { IsSilent result → W.room out.new ≡ W.room out.old }
 {
     match reply_text(alloc, words, shelf) {
-        Ok(text) => match write_whole(out, text.as_str().as_bytes()) {
-            Ok(()) => noted(note, Status::Done),
-            Err(_) => noted(note, Status::WriteFault),
+        Ok(answer) => match write_whole(out, answer.text.as_str().as_bytes()) {
+            Ok(()) => noted(note, Status::Done, answer.asides),
+            Err(_) => noted(note, Status::WriteFault, None),
         },
-        Err(status) => noted(note, status),
+        Err(status) => noted(note, status, None),
     }
 }
 
+// The text of a reply, and how many constraints were taken out, where they are.
+#[derive(Drop)]
+struct Answer {
+    text: Text,
+    asides: Option<u64>,
+}
+
 // Writes the status's line to the note. What the note can't take changes nothing else.
-fn noted<N: Sink>(note: &mut N, status: Status) -> Status
+fn noted<N: Sink>(note: &mut N, status: Status, asides: Option<u64>) -> Status
     ensures same { result ≡ status }
-    ensures note { (before : List ℕ) → N.written note.old ≡ Some before → IsNoted before (note_text status) (N.written note.new) (N.faults note.old) (N.faults note.new) }
+    ensures note { (before : List ℕ) → N.written note.old ≡ Some before → IsNoted before (note_text status asides) (N.written note.new) (N.faults note.old) (N.faults note.new) }
     ensures never_falls { N.faults note.old ≤ N.faults note.new }
 {
-    let _ = write_note(note, &status);
+    let _ = write_note(note, &status, asides);
     status
 }
 
 // The text of the reply, or the status where there is none.
-fn reply_text<F: Shelf>(alloc: Global, words: &Words, shelf: &mut F) -> Result<Text, Status>
-    ensures ok { (files : FileMap) → F.holds shelf.old ≡ Some files → IfOk result (λ text. Reply words.now files text Status.Done) }
-    ensures accepts { (files : FileMap) → F.holds shelf.old ≡ Some files → IfOk result (AcceptsOfWords words.now files) }
+fn reply_text<F: Shelf>(alloc: Global, words: &Words, shelf: &mut F) -> Result<Answer, Status>
+    ensures ok { (files : FileMap) → F.holds shelf.old ≡ Some files → IfOk result (λ answer. Reply words.now files answer.text Status.Done) }
+    ensures accepts { (files : FileMap) → F.holds shelf.old ≡ Some files → IfOk result (λ answer. AcceptsOfWords words.now files answer.text) }
+    ensures asides { (files : FileMap) → F.holds shelf.old ≡ Some files → IfOk result (λ answer. AsidesOfWords words.now files answer.asides) }
     ensures err { (files : FileMap) → F.holds shelf.old ≡ Some files → IfErr result (λ status. IsReplied status → Reply words.now files [] status) }
     ensures early { IfErr result IsSilent }
     ensures usage { (result ≡ Err Status.Usage) ↔ ((job : AJob) → WordsMean words.now job → ⊥) }
     ensures files { (result ≡ Err (Status.Limit LimitKind.Files)) ↔ NamesFiles words.now (answers (Status.Limit LimitKind.Files)) }
     ensures read_cause { (file : ℕ) → result ≡ Err (Status.ReadFault file) → HasRisen (F.faults shelf.old) (F.faults shelf.new) }
     ensures read_place { (files : FileMap) (file : ℕ) → F.holds shelf.old ≡ Some files → result ≡ Err (Status.ReadFault file) → IsReadPlace words.now files file (F.rest shelf.new) (F.steady shelf.old) }
-    ensures few_reads { F.reads shelf.new ≤ F.reads shelf.old + (length words.now - 1) * (file_bytes + 1) }
-    ensures begins { OnOk result (F.begins shelf.new ≡ counted (F.begins shelf.old) (length words.now - 1)) }
-    ensures begins_err { IfErr result (λ status. BeginsFiles status (length words.now - 1) (F.begins shelf.old) (F.begins shelf.new) (F.reads shelf.old) (F.reads shelf.new)) }
-    ensures to_the_end { (files : FileMap) → F.holds shelf.old ≡ Some files → OnOk result (AreReadWhole F.begins F.rest (GoesOn F.holds F.steady F.faults F.begins F.reads) (length words.now - 1) shelf.old shelf.new × (F.rest shelf.new ≡ Some [])) }
+    ensures few_reads { F.reads shelf.new ≤ F.reads shelf.old + (files_named words.now) * (file_bytes + 1) }
+    ensures begins { OnOk result (F.begins shelf.new ≡ counted (F.begins shelf.old) (files_named words.now)) }
+    ensures begins_err { IfErr result (λ status. BeginsFiles status (files_named words.now) (F.begins shelf.old) (F.begins shelf.new) (F.reads shelf.old) (F.reads shelf.new)) }
+    ensures to_the_end { (files : FileMap) → F.holds shelf.old ≡ Some files → OnOk result (AreReadWhole F.begins F.rest (GoesOn F.holds F.steady F.faults F.begins F.reads) (files_named words.now) shelf.old shelf.new × (F.rest shelf.new ≡ Some [])) }
     ensures goes_on { GoesOn F.holds F.steady F.faults F.begins F.reads shelf.old shelf.new }
 {
-    let names = match chain_names(words) {
-        Ok(names) => names,
+    let asked = match chain_asked(words) {
+        Ok(asked) => asked,
         Err(status) => return Err(status),
     };
-    match read_chain(alloc, names, shelf) {
-        Ok(chain) => schema_of_chain(alloc, chain, names.len() as u32),
+    match read_chain(alloc, asked.chain, asked.job.aside, shelf) {
+        Ok(chain) => answer_of(alloc, chain, asked.job.aside, asked.chain.len() as u32),
+        Err(status) => Err(status),
+    }
+}
+
+// The schema of the library after the files of a chain, of which there are so many, with the number of constraints that were
+// taken out, or why it has none.
+fn answer_of(alloc: Global, chain: Chain, aside: bool, files: u32) -> Result<Answer, Status>
+    requires few { HasFewDocs chain }
+    requires formed { AreFormedDocs chain }
+    ensures ok { IfOk result (λ answer. (trees : List ATree) → IsChainOf aside chain trees → TreesComeTo aside trees (gives answer.text)) }
+    ensures accepts { IfOk result (λ answer. (trees : List ATree) → IsChainOf aside chain trees → AcceptsOfTrees aside trees answer.text) }
+    ensures asides { IfOk result (λ answer. (trees : List ATree) → IsChainOf aside chain trees → AsidesOfTrees aside trees answer.asides) }
+    ensures err { IfErr result (λ status. (trees : List ATree) → IsChainOf aside chain trees → files ≡ length trees → IsReplied status → TreesComeTo aside trees (answers status)) }
+    ensures of_trees { IfErr result IsOfTrees }
+{
+    let asides = if aside { Some(chain.asides()) } else { None };
+    match schema_of_chain(alloc, chain, files) {
+        Ok(text) => Ok(Answer { text, asides }),
         Err(status) => Err(status),
     }
 }
 
 // The files of the chain that the words name.
-fn chain_names(words: &Words) -> Result<&[Text], Status>
-    ensures ok { IfOk result (λ names. NamesFiles words.now (gives names.now)) }
+fn chain_asked(words: &Words) -> Result<Asked<'_>, Status>
+    ensures ok { IfOk result (λ asked. NamesFiles words.now (gives (asked.job.aside, asked.chain.now))) }
     ensures err { IfErr result (λ status. NamesFiles words.now (answers status)) }
 {
     let Some(asked) = job_asked(words) else {
         return Err(Status::Usage);
     };
-    let chain = asked.chain;
-    if chain.len() > CHAIN_FILES {
+    if asked.chain.len() > CHAIN_FILES {
         return Err(Status::Limit(LimitKind::Files));
     }
-    Ok(chain)
+    Ok(asked)
 }
 
 // The files of these names, one after the other. Each is read whole before the next is begun, and its tree is given up
 // once it is read.
-fn read_chain<F: Shelf>(alloc: Global, names: &[Text], shelf: &mut F) -> Result<Chain, Status>
+fn read_chain<F: Shelf>(
+    alloc: Global,
+    names: &[Text],
+    aside: bool,
+    shelf: &mut F,
+) -> Result<Chain, Status>
     requires { length names.now ≤ chain_files }
-    ensures ok { IfOk result (IsChainRead (F.holds shelf.old) names.now) }
+    ensures ok { IfOk result (IsChainRead aside (F.holds shelf.old) names.now) }
     ensures err { (files : FileMap) → F.holds shelf.old ≡ Some files → IfErr result (λ status. IsReplied status → ReadsChain files names.now (answers status)) }
     ensures read_cause { (file : ℕ) → result ≡ Err (Status.ReadFault file) → HasRisen (F.faults shelf.old) (F.faults shelf.new) }
     ensures read_place { (files : FileMap) (file : ℕ) → F.holds shelf.old ≡ Some files → result ≡ Err (Status.ReadFault file) → IsFaultPlace names.now files file (F.rest shelf.new) (F.steady shelf.old) }
@@ -152,7 +182,7 @@ fn read_chain<F: Shelf>(alloc: Global, names: &[Text], shelf: &mut F) -> Result<
     for name in names {
         file += 1;
         let read = read_file(alloc, name, file, shelf);
-        chain = match with_file(alloc, chain, read, file) {
+        chain = match with_file(alloc, chain, read, file, aside) {
             Ok(made) => made,
             Err(status) => return Err(status),
         };
@@ -193,13 +223,14 @@ fn with_file(
     chain: Chain,
     read: Result<Tree, Status>,
     file: u32,
+    aside: bool,
 ) -> Result<Chain, Status>
-    ensures ok { IfOk result (λ made. (tree : ATree) × (read ≡ Ok tree) × ((trees : List ATree) (first end : ℕ) → IsFormedTree first end tree → IsChainOf chain trees → file ≡ suc (length trees) → IsChainOf made (trees ++ tree ∷ []))) }
+    ensures ok { IfOk result (λ made. (tree : ATree) × (read ≡ Ok tree) × ((trees : List ATree) (first end : ℕ) → IsFormedTree first end tree → IsChainOf aside chain trees → file ≡ suc (length trees) → IsChainOf aside made (trees ++ tree ∷ []))) }
     ensures formed { (first end : ℕ) → IfOk read (IsFormedTree first end) → AreFormedDocs chain → IfOk result AreFormedDocs }
     ensures err { IfErr result (λ status. (read ≡ Err status) ⊎ (status ≡ Status.NoMemory)) }
 {
     let tree = read?;
-    match chain.with(alloc, &tree, file) {
+    match chain.with(alloc, &tree, file, aside) {
         Ok(made) => Ok(made),
         Err(NoMemory) => Err(Status::NoMemory),
     }
@@ -209,15 +240,14 @@ fn with_file(
 fn schema_of_chain(alloc: Global, chain: Chain, files: u32) -> Result<Text, Status>
     requires few { HasFewDocs chain }
     requires formed { AreFormedDocs chain }
-    ensures ok { IfOk result (λ text. (trees : List ATree) → IsChainOf chain trees → TreesComeTo trees (gives text)) }
-    ensures accepts { IfOk result (λ text. (trees : List ATree) → IsChainOf chain trees → AcceptsOfTrees trees text) }
-    ensures err { IfErr result (λ status. (trees : List ATree) → IsChainOf chain trees → files ≡ length trees → IsReplied status → TreesComeTo trees (answers status)) }
+    ensures ok { IfOk result (λ text. (aside : Bool) (trees : List ATree) → IsChainOf aside chain trees → TreesComeTo aside trees (gives text)) }
+    ensures accepts { IfOk result (λ text. (aside : Bool) (trees : List ATree) → IsChainOf aside chain trees → AcceptsOfTrees aside trees text) }
+    ensures err { IfErr result (λ status. (aside : Bool) (trees : List ATree) → IsChainOf aside chain trees → files ≡ length trees → IsReplied status → TreesComeTo aside trees (answers status)) }
     ensures of_trees { IfErr result IsOfTrees }
 {
     match chain.library(alloc) {
         Ok(library) => schema_of_library(alloc, &library, files),
         Err(ChainRefusal::Offence(offence)) => Err(Status::Refused(offence)),
-        Err(ChainRefusal::NotYet { file }) => Err(Status::NotYet { file }),
         Err(ChainRefusal::NoMemory) => Err(Status::NoMemory),
     }
 }

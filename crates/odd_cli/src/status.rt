@@ -34,8 +34,6 @@ pub enum Status {
     WriteFault,
     /// There was no memory.
     NoMemory,
-    /// A file has a form that is not read yet.
-    NotYet { file: u32 },
 }
 
 impl Status {
@@ -54,7 +52,6 @@ impl Status {
             Status::ReadFault { file: _ } => 6,
             Status::WriteFault => 7,
             Status::NoMemory => 8,
-            Status::NotYet { file: _ } => 10,
         }
     }
 }

@@ -1,5 +1,5 @@
-ghost use Rattle.std.specs.Prelude.{◌≡◌, ◌↔◌, All, IsTrue, IfSome, IsNone};
-ghost use Rattle.odd_cli.specs.Words.{Compiles, IsFileWord, WordsMean};
+ghost use Rattle.std.specs.Prelude.{◌≡◌, ◌≢◌, ◌↔◌, ◌∷◌, ℕ, All, false, List, codes, IsTrue, IfSome, IsNone};
+ghost use Rattle.odd_cli.specs.Words.{Compiles, IsFileWord, WordsMean, with_aside};
 ghost use Rattle.odd_cli.specs.declared.words.Job.{Job as AJob};
 
 use odd_text::{Text, Words};
@@ -41,19 +41,31 @@ pub struct Asked<'a> {
     pub chain: &'a [Text],
 }
 
+// Whether words begin with `aside`, and the words without it.
+fn after_aside(words: &[Text]) -> (bool, &[Text])
+    ensures words { words.now ≡ with_aside result.0 result.1.now }
+    ensures without { result.0 ≡ false → (rest : List (List ℕ)) → words.now ≢ codes "aside" ∷ rest }
+{
+    match words.split_first() {
+        Some((first, rest)) if is_word(first, "aside") => (true, rest),
+        _ => (false, words),
+    }
+}
+
 /// What the words ask for, where they have a job.
 pub fn job_asked(words: &Words) -> Option<Asked<'_>>
     ensures job { IfSome result (λ asked. WordsMean words.now asked.job) }
-    ensures chain { IfSome result (λ asked. Compiles words.now asked.chain.now) }
+    ensures chain { IfSome result (λ asked. Compiles words.now asked.job.aside asked.chain.now) }
     ensures none { IsNone result → (job : AJob) → WordsMean words.now job → ⊥ }
 {
-    let (command, chain) = words.as_slice().split_first()?;
+    let (aside, rest) = after_aside(words.as_slice());
+    let (command, chain) = rest.split_first()?;
     if !is_word(command, "compile") || chain.is_empty() || !are_files(chain) {
         return None;
     }
     let job = Job {
         command: Command::Compile,
-        aside: false,
+        aside,
         files: chain.len(),
         number: 0,
     };

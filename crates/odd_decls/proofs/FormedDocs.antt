@@ -1,11 +1,11 @@
 -- What the tree of a formed file declares is formed.
 use Rattle.std.proofs.Common.{◌≡◌, ◌++◌, ◌||◌, ℕ, Bool, true, false, List, [], ◌∷◌, Option, Some, None, if◌then◌else◌, inl, inr, refl, sym, ap, subst, ◌∙◌, get_or, codes, ⊎_elim, is_some}
 use Rattle.std.proofs.lemmas.Bool.{both_ways, cases_Bool, false_from_ne_true}
-use Rattle.std.proofs.lemmas.List.Elements.{All-append, All-cons, All-contains, All-contains_itself, All-head, All-nil, All-weaker}
+use Rattle.std.proofs.lemmas.List.Elements.{All-cons, All-contains, All-contains_itself, All-nil, All-weaker}
 use Rattle.std.proofs.lemmas.Option.{same_Some}
 use Rattle.std.specs.List.{Contains}
 use Rattle.std.specs.Option.{IfSome, option_map}
-use Rattle.std.specs.Prelude.{All, IsSome, IsTrue, unwrap_or}
+use Rattle.std.specs.Prelude.{IsSome, IsTrue, unwrap_or}
 use Rattle.odd_attributes.proofs.FormedReading.{attlist_formed, by_child, is_kind, kind_named}
 use Rattle.odd_attributes.specs.Formed.{AreFormedEdits}
 use Rattle.odd_attributes.specs.Giving.{AreEditsGiven, alt_given}
@@ -31,6 +31,9 @@ use Rattle.odd_forms.specs.Texts.{collapsed_in}
 use Rattle.odd_forms.specs.Words.{is_among, is_given_among, words_of}
 use Rattle.odd_forms.specs.declared.element.Element.{Element}
 use Rattle.odd_forms.specs.declared.element.Element.TheVariants as element
+use Rattle.odd_items.proofs.Standing.{StandsUnder, found_under, item_under}
+use Rattle.odd_items.specs.Groups.{IsItemIn, schema_names}
+use Rattle.odd_items.specs.Search.{Finds, Found}
 use Rattle.odd_library.specs.Formed.{AreStartWords, HasFieldsOf, IsFormedContentOf, IsFormedDoc, IsFormedEntry, IsFormedSpec, IsModule, IsWholeIn, StandsAlone}
 use Rattle.odd_library.specs.declared.odd.Entry.{Entry}
 use Rattle.odd_library.specs.declared.odd.OddDoc.{OddDoc}
@@ -55,11 +58,9 @@ use Rattle.odd_tree.specs.declared.tree.Tree.{Tree}
 use Rattle.odd_decls.proofs.FaultsAnywhere.{fault_anywhere}
 use Rattle.odd_decls.proofs.ItemElements.{each_item}
 use Rattle.odd_decls.proofs.KeysOnce.{keys_once}
-use Rattle.odd_decls.proofs.Searched.{found_formed}
-use Rattle.odd_decls.specs.Declares.{AreAttsDeclared, Declares, IsEntryOf, IsReadAs, alt_declared, content_of, kind_taken, mode_given, mode_named, namespace_around, namespace_by, namespace_declared, start_of, type_given}
-use Rattle.odd_decls.specs.Offences.{IsItem, ItemFault, ItemOffends, Offends, kind_declared}
-use Rattle.odd_decls.specs.Search as search
-use Rattle.odd_decls.specs.Search.{Finds, FindsAmong, Found}
+use Rattle.odd_decls.specs.Declares.{AreAttsDeclared, DeclaresWhole, IsEntryOf, IsReadAs, alt_declared, content_of, ident_in, kind_taken, mode_given, mode_named, namespace_by, namespace_of, namespace_with, start_in, start_of, type_given}
+use Rattle.odd_decls.specs.Items.{IsItem, kind_declared}
+use Rattle.odd_decls.specs.Offences.{ItemFault, ItemsOffend, Offends, SchemasOffend}
 
 -- a text that can't but be a name is one
 sure_name : (value : List ℕ) → ((IsNCName value → ⊥) → ⊥) → IsNCName value
@@ -155,10 +156,10 @@ mode_told (Some word) new = by (is_same word (codes "delete")) (is_same word (co
     by false false h = refl
 
 -- an element that does gives a namespace
-namespace_some : (m : Mode) (schema item : Tree) → IsTrue (is_new m) → IsSome (namespace_by m (namespace_around schema) item)
-namespace_some mode.Add schema item new = refl
-namespace_some mode.Replace schema item new = refl
-namespace_some m schema item new = cc
+namespace_some : (m : Mode) (ns : List ℕ) (item : Tree) → IsTrue (is_new m) → IsSome (namespace_by m ns item)
+namespace_some mode.Add ns item new = refl
+namespace_some mode.Replace ns item new = refl
+namespace_some m ns item new = cc
 
 -- and a class its type
 type_some : (binds : List Bind) (item : Tree) → ((rule : ℕ) → OwnFault (form_at element.ClassSpec) binds item rule → ⊥) → IsTrue (is_new (mode_given item)) → IsSome (type_given kind.Class item)
@@ -181,180 +182,194 @@ whole_in mode.Add spec alone = alone refl
 whole_in mode.Replace spec alone = alone refl
 whole_in m spec alone = tt
 
--- the declarations around what is found are bound
-abbrev AroundBound : Found → Type 0
-AroundBound f = AreBound f.around
-
-own_bound : (around : List Bind) (t : Tree) → AreBound around → All AroundBound (search.own around t)
-own_bound around t bound =
-    elim (is_one_of (codes "schemaSpec" ∷ []) t) as (λ b. All AroundBound (if b then (record { around = around; schema = t } ∷ []) else [])) [
-      | true ↦ All-cons AroundBound (record { around = around; schema = t }) [] bound (All-nil AroundBound)
-      | false ↦ All-nil AroundBound
-    ]
-
-mutual
-  -- in a formed element
-  found_bound : {around : List Bind} {t : Tree} {found : List Found} → Finds around t found → AreBound around → IsFormedSomewhere t → All AroundBound found
-  found_bound (search.foreign other) bound f = All-nil AroundBound
-  found_bound {around = around} {t = t} (search.through inner tei among is) bound f =
-      subst (All AroundBound) (sym is)
-      (All-append AroundBound (search.own around t) inner (own_bound around t bound) (among_bound among (within_bound around t bound f.2) (child_formed f.2)))
-
-  -- and among formed elements
-  among_bound : {around : List Bind} {ts : List Tree} {found : List Found} → FindsAmong around ts found → AreBound around → ((u : Tree) → StandsIn ts u → IsFormedSomewhere u)
-      → All AroundBound found
-  among_bound search.nothing bound f = All-nil AroundBound
-  among_bound (search.element {t = t} {ts = ts} first later one rest is) bound f =
-      subst (All AroundBound) (sym is) (All-append AroundBound first later (found_bound one bound (f t (stands_first t ts))) (among_bound rest bound (λ u s. f u (stands_later t u ts s))))
+-- what stands in a formed element is formed, and the declarations around it may be so, where those around the element may
+under_formed : {outer : List Bind} {t : Tree} {f : Found} → StandsUnder outer t f → AreBound outer → IsFormedSomewhere t → AreBound f.around × IsFormedSomewhere f.element
+under_formed StandsUnder.itself bound formed = (bound, formed)
+under_formed {outer = outer} {t = t} (StandsUnder.inside child s deep) bound formed = under_formed deep (within_bound outer t bound formed.2) (child_formed formed.2 child s)
 
 -- the namespace of an element in documents
-legal_namespace : (schema item : Tree) → IsFormedTag schema → IsFormedTag item → IsLegal (unwrap_or (given item (codes "ns")) (namespace_around schema))
-legal_namespace schema item f g =
-    by_value (λ o. IsLegal (unwrap_or o (unwrap_or (given schema (codes "ns")) tei_namespace))) (given item (codes "ns"))
-    (λ _. by_value (λ o. IsLegal (unwrap_or o tei_namespace)) (given schema (codes "ns")) (λ _. ascii.ascii_legal tei_namespace refl) (λ value is. legal_given schema (codes "ns") value f is))
-    (λ value is. legal_given item (codes "ns") value g is)
+legal_namespace : (ns : List ℕ) (item : Tree) → IsLegal ns → IsFormedTag item → IsLegal (unwrap_or (given item (codes "ns")) ns)
+legal_namespace ns item legal g = by_value (λ o. IsLegal (unwrap_or o ns)) (given item (codes "ns")) (λ _. legal) (λ value is. legal_given item (codes "ns") value g is)
 
 -- the one that its declaration gives
-legal_in : (m : Mode) (schema item : Tree) → IsFormedTag schema → IsFormedTag item → IfSome (namespace_by m (namespace_around schema) item) IsLegal
-legal_in mode.Add schema item f g = legal_namespace schema item f g
-legal_in mode.Replace schema item f g = legal_namespace schema item f g
-legal_in m schema item f g = by_value (λ o. IfSome o IsLegal) (given item (codes "ns")) (λ _. tt) (λ value is. legal_given item (codes "ns") value g is)
+legal_in : (m : Mode) (ns : List ℕ) (item : Tree) → IsLegal ns → IsFormedTag item → IfSome (namespace_by m ns item) IsLegal
+legal_in mode.Add ns item legal g = legal_namespace ns item legal g
+legal_in mode.Replace ns item legal g = legal_namespace ns item legal g
+legal_in m ns item legal g = by_value (λ o. IfSome o IsLegal) (given item (codes "ns")) (λ _. tt) (λ value is. legal_given item (codes "ns") value g is)
 
-module _ (t : Tree) (doc : OddDoc) (first end : ℕ) (is_formed : IsFormed first end t) (d : Declares t doc) where
-  abbrev inside : List Bind
-  inside = within d.first.around d.first.schema
+-- the namespace of elements that give none themselves
+legal_around : (schemas : List Found) → ((f : Found) → StandsIn schemas f → IsFormedSomewhere f.element) → IsLegal (namespace_of schemas)
+legal_around [] formed = ascii.ascii_legal tei_namespace refl
+legal_around (schema ∷ others) formed = legal_namespace tei_namespace schema.element (ascii.ascii_legal tei_namespace refl) (tag_formed (formed schema (stands_first schema others)).2)
 
-  schema_formed : IsFormedSomewhere d.first.schema
-  schema_formed = found_formed [] t (d.first ∷ []) first end is_formed d.found d.first (stands_first d.first [])
+-- the first `schemaSpec` breaks nothing by its attributes
+abbrev FirstKept : List Found → Type 0
+FirstKept [] = Unit {0}
+FirstKept (schema ∷ others) = (a : AttributeForm) → StandsIn (form_at element.SchemaSpec).attributes a → IsKept a schema.element
 
-  inside_bound : AreBound inside
-  inside_bound =
-      within_bound d.first.around d.first.schema
-      (All-head AroundBound d.first [] (found_bound d.found (All-nil IsBinding, All-nil (λ (b : Bind). IsLegal b.ns)) (first, end, is_formed))) schema_formed.2
+-- so the ident of a file is a name
+ident_named : (schemas : List Found) (ident : List ℕ) → FirstKept schemas → ident_in schemas ≡ Some ident → IsNCName ident
+ident_named [] ident kept is = subst IsNCName (same_Some _ _ is) (ascii.is_name (codes "bare") refl)
+ident_named (schema ∷ others) ident kept is = sure_name ident (kept_suits (needed (codes "ident") name) schema.element ident (kept _ (stands_first _ _)) refl is)
+
+-- and so are its start words
+start_all_named : (schemas : List Found) → FirstKept schemas → AreNames (start_in schemas)
+start_all_named [] kept = record { some = λ none. cc; named = All-cons IsNCName (codes "TEI") [] (ascii.is_name (codes "TEI") refl) (All-nil IsNCName) }
+start_all_named (schema ∷ others) kept = start_named schema.element (kept _ (stands_later _ _ _ (stands_first _ _)))
+
+module _ (t : Tree) (doc : OddDoc) (first end : ℕ) (is_formed : IsFormed first end t) (d : DeclaresWhole t doc) where
+  -- each `schemaSpec` is formed
+  schema_formed : (f : Found) → StandsIn d.schemas f → IsFormedSomewhere f.element
+  schema_formed f s = (under_formed (found_under schema_names false [] t d.schemas d.found f s) (All-nil IsBinding, All-nil (λ (b : Bind). IsLegal b.ns)) (first, end, is_formed)).1
 
   -- the `schemaSpec` breaks nothing by its attributes
-  schema_kept : (a : AttributeForm) → StandsIn (form_at element.SchemaSpec).attributes a → IsKept a d.first.schema
-  schema_kept a s rule f = d.unoffended _ rule (record { first = d.first; others = []; found = d.found; offends = Offends.itself (OwnFault.attribute a s f) refl })
+  schema_kept : (schemas : List Found) → d.schemas ≡ schemas → FirstKept schemas
+  schema_kept [] is = tt
+  schema_kept (schema ∷ others) is = λ a s rule f.
+      d.unoffended _ rule (record {
+        schemas = schema ∷ others;
+        found = subst (Finds schema_names false [] t) is d.found;
+        offends = Offends.schema (SchemasOffend.itself (OwnFault.attribute a s f) refl);
+      })
 
-  module _ (item : Tree) (stands : StandsIn (children_of d.first.schema) item) (e : Element) (is : IsItem e item) where
-    -- an item breaks nothing at any depth
-    item_sound : (rule : ℕ) → DeepFault e 60 inside item rule → ⊥
-    item_sound rule f =
-        d.unoffended _ rule (record { first = d.first; others = []; found = d.found; offends = Offends.items (ItemOffends.alone item stands (ItemFault.deep e is f) refl) })
+  module _ (item : Found) (stands : IsItemIn t d.schemas item) where
+    abbrev tree : Tree
+    tree = item.element
 
-    own_sound : (rule : ℕ) → OwnFault (form_at e) (within inside item) item rule → ⊥
-    own_sound rule f = item_sound rule (DeepFault.itself (FormFault.own f))
+    abbrev inside : List Bind
+    inside = within item.around tree
 
-    item_kept : (a : AttributeForm) → StandsIn (form_at e).attributes a → IsKept a item
-    item_kept a s rule f = own_sound rule (OwnFault.attribute a s f)
+    -- an item is formed, and the declarations in it are bound
+    item_under_formed : AreBound item.around × IsFormedSomewhere tree
+    item_under_formed = under_formed (item_under t d.schemas d.found item stands) (All-nil IsBinding, All-nil (λ (b : Bind). IsLegal b.ns)) (first, end, is_formed)
 
-    -- nor does a child, since an item is no level
-    child_sound : (kind : Element) (child : Tree) → StandsIn (children_of item) child → IsChild e kind child → (rule : ℕ) → DeepFault kind 60 (within inside item) child rule → ⊥
-    child_sound kind child s of rule f =
-        let never : is_level (form_at e) item ≡ false = each_item (λ k. is_level (form_at k) item ≡ false) refl refl refl refl refl refl refl refl refl item e is in
-        item_sound rule (DeepFault.inside kind child s of (subst (λ b. DeepFault kind (left_inside b 60) (within inside item) child rule) (sym never) f))
+    item_formed : IsFormedSomewhere tree
+    item_formed = item_under_formed.1
 
-    item_formed : IsFormedSomewhere item
-    item_formed = child_formed schema_formed.2 item stands
+    inside_bound : AreBound inside
+    inside_bound = within_bound item.around tree item_under_formed.0 item_formed.2
 
-    -- what is made of a child that breaks nothing
-    given_formed : {X : Type 0} (kind : Element) (IsOf : Tree → X → Type 0) (P : X → Type 0) (o : Option X)
-        → ((child : Tree) (x : X) → IsFormedSomewhere child → ((rule : ℕ) → DeepFault kind 60 (within inside item) child rule → ⊥) → IsOf child x → P x)
-        → GivesOne e kind IsOf (children_of item) o → IfSome o P
-    given_formed kind IsOf P None h gives = tt
-    given_formed kind IsOf P (Some x) h (GivesOne.some child s of made) = h child x (child_formed item_formed.2 child s) (child_sound kind child s of) made
+    module _ (e : Element) (is : IsItem e tree) where
+      -- an item breaks nothing at any depth
+      item_sound : (rule : ℕ) → DeepFault e 60 item.around tree rule → ⊥
+      item_sound rule f =
+          d.unoffended _ rule (record { schemas = d.schemas; found = d.found; offends = Offends.item (ItemsOffend.alone item stands (ItemFault.deep e is f) refl) })
 
-    -- the edits of attributes that an element or a class gives
-    atts_formed : (edits : List (List ℕ × AttEdit)) → kind_named e (tei (codes "attList")) ≡ Some element.AttList → AreEditsGiven (first_named (codes "attList") item) edits → AreFormedEdits edits
-    atts_formed edits known =
-        by_child (codes "attList") item (λ o. AreEditsGiven o edits → AreFormedEdits edits) (no_edits_formed edits)
-        (λ list s of. attlist_formed list edits (λ rule f. child_sound element.AttList list s (is_kind e element.AttList (codes "attList") list known of) rule (fault_anywhere (within inside item) refl f))
-        (child_formed item_formed.2 list s).2)
+      own_sound : (rule : ℕ) → OwnFault (form_at e) inside tree rule → ⊥
+      own_sound rule f = item_sound rule (DeepFault.itself (FormFault.own f))
 
-  -- the name in documents that an element gives
-  alt_named : (item : Tree) → StandsIn (children_of d.first.schema) item → IsItem element.ElementSpec item → IfSome (alt_given item) IsNCName
-  alt_named item s is =
-      by_child (codes "altIdent") item (λ o. IfSome (option_map collapsed_in o) IsNCName) tt
-      (λ alt t of. sure_name (collapsed_in alt) (λ no.
-      child_sound item s element.ElementSpec is element.AltIdent alt t (is_kind element.ElementSpec element.AltIdent (codes "altIdent") alt refl of) 1
-      (DeepFault.itself (FormFault.own (OwnFault.demand (own_text name) (stands_first _ _) (DemandFault.not_of_kind no))))))
+      item_kept : (a : AttributeForm) → StandsIn (form_at e).attributes a → IsKept a tree
+      item_kept a s rule f = own_sound rule (OwnFault.attribute a s f)
 
-  spec_formed : (item : Tree) (spec : Spec) → StandsIn (children_of d.first.schema) item → IsReadAs d.first item spec → IsFormedSpec spec
-  spec_formed item spec s r =
-      let e = r.is_spec.element in
-      let is = r.is_spec.is_item in
-      let schema = d.first.schema in
-      let children = children_of item in
-      let inner = within inside item in
-      let formed = item_formed item s e is in
-      let each : (P : Element → Kind → Type 0) → P element.ElementSpec kind.Element → P element.ClassSpec kind.Class → P element.MacroSpec kind.Macro → P element.DataSpec kind.Datatype
-      → P e spec.key.kind =
-      λ P es cs ms ds. each_declared P es cs ms ds e spec.key.kind r.is_spec.of_kind in
-      let content : GivesOne e element.Content (IsContentOf inner) children spec.content → IfSome spec.content IsFormedContent =
-      given_formed item s e is element.Content (IsContentOf inner) IsFormedContent spec.content
-      (λ child c f sound made. subst IsFormedContent (sym made) (content_formed inner child (within_bound inside item inside_bound formed.2) f.2 sound)) in
-      let of_data : GivesOne e element.DataContent (IsContentOf inner) children spec.content → IfSome spec.content (IsFormedContentOf kind.Datatype) =
-      given_formed item s e is element.DataContent (IsContentOf inner) (IsFormedContentOf kind.Datatype) spec.content
-      (λ child c f sound made. subst (IsFormedContentOf kind.Datatype) (sym made) (data_content_formed inner child f.2 sound)) in
-      let legal = legal_in (mode_given item) schema item (tag_formed schema_formed.2) (tag_formed formed.2) in
-      let no_edits : spec.atts ≡ [] → AreFormedEdits spec.atts = no_edits_formed spec.atts in
-      record {
-        named = r.is_spec.named;
-        of_module = subst IsModule (sym r.of_module)
-            (module_named item (item_kept item s e is (optional (codes "module") name)
-            (each (λ x k. StandsIn (form_at x).attributes (optional (codes "module") name)) (stands_later _ _ _ (stands_first _ _)) (stands_later _ _ _ (stands_first _ _))
-            (stands_later _ _ _ (stands_first _ _)) (stands_later _ _ _ (stands_first _ _)))));
-        ns = subst (λ o. IfSome o IsLegal) (sym r.ns) (each (λ x k. IfSome (namespace_declared k schema item) IsLegal) legal tt tt tt);
-        alt = subst (λ o. IfSome o IsNCName) (sym r.alt) (each (λ x k. IsItem x item → IfSome (alt_declared k item) IsNCName) (alt_named item s) (λ _. tt) (λ _. tt) (λ _. tt) is);
-        classes = given_formed item s e is element.Classes IsMembershipOf IsFormedMembership spec.classes
-            (λ child m f sound made. membership_formed child m (λ rule g. sound rule (fault_anywhere inner refl g)) made) r.children.classes;
-        atts = each (λ x k. IsItem x item → AreAttsDeclared k item spec.atts → AreFormedEdits spec.atts) (λ h. atts_formed item s element.ElementSpec h spec.atts refl)
-            (λ h. atts_formed item s element.ClassSpec h spec.atts refl) (λ h. no_edits) (λ h. no_edits) is r.atts;
-        content = each (λ x k. GivesOne e (content_of x) (IsContentOf inner) children spec.content → IfSome spec.content (IsFormedContentOf k)) content content content of_data r.children.content;
-        fields = each (λ x k. GivesOne x (content_of x) (IsContentOf inner) children spec.content → GivesOne x element.Classes IsMembershipOf children spec.classes
-            → spec.ns ≡ namespace_declared k schema item → spec.alt ≡ alt_declared k item → spec.gives ≡ type_given k item → AreAttsDeclared k item spec.atts → HasFieldsOf k spec)
-            (λ c m ns alt gives atts. gives)
-            (λ c m ns alt gives atts. (
-              ns,
-              alt,
-              gives_nothing element.ClassSpec element.Content _ _ _
-                  (λ t. ⊎_elim (λ one. (let no : element.Content ≡ element.Classes = one in cc)) (λ later. (let no : element.Content ≡ element.AttList = only_item _ _ later in cc)) (first_or_later _ _ _ t)) c,
-            ))
-            (λ c m ns alt gives atts. record {
-              no_ns = ns;
-              no_alt = alt;
-              no_type = gives;
-              no_classes = gives_nothing element.MacroSpec element.Classes _ _ _ (λ t. (let no : element.Classes ≡ element.Content = only_item _ _ t in cc)) m;
-              no_atts = atts;
-            })
-            (λ c m ns alt gives atts. record {
-              no_ns = ns;
-              no_alt = alt;
-              no_type = gives;
-              no_classes = gives_nothing element.DataSpec element.Classes _ _ _ (λ t. (let no : element.Classes ≡ element.DataContent = only_item _ _ t in cc)) m;
-              no_atts = atts;
-            })
-            r.children.content r.children.classes r.ns r.alt r.gives r.atts;
-        whole = subst (λ m. IsWholeIn m spec) (sym r.of_mode) (whole_in (mode_given item) spec (λ new.
-            each (λ x k. ((rule : ℕ) → OwnFault (form_at x) inner item rule → ⊥) → spec.ns ≡ namespace_declared k schema item → spec.gives ≡ type_given k item
-            → GivesOne x (content_of x) (IsContentOf inner) children spec.content → StandsAlone k spec)
-            (λ sound ns gives c. ap is_some ns ∙ namespace_some (mode_given item) schema item new)
-            (λ sound ns gives c. ap is_some gives ∙ type_some inner item sound new)
-            (λ sound ns gives c. tt) (λ sound ns gives c. content_some inner item (IsContentOf inner) spec.content sound new c) (own_sound item s e is) r.ns r.gives r.children.content));
-      }
+      -- nor does a child, since an item is no level
+      child_sound : (kind : Element) (child : Tree) → StandsIn (children_of tree) child → IsChild e kind child → (rule : ℕ) → DeepFault kind 60 inside child rule → ⊥
+      child_sound kind child s of rule f =
+          let never : is_level (form_at e) tree ≡ false = each_item (λ k. is_level (form_at k) tree ≡ false) refl refl refl refl refl refl refl refl refl refl tree e is in
+          item_sound rule (DeepFault.inside kind child s of (subst (λ b. DeepFault kind (left_inside b 60) inside child rule) (sym never) f))
 
-  entry_formed : (item : Tree) (e : Entry) → StandsIn (children_of d.first.schema) item → IsEntryOf d.first item e → IsFormedEntry e
-  entry_formed item _ s (IsEntryOf.«module» {key = word} is keyed) =
-      let kept = item_kept item s element.ModuleRef is in
-      (key_named item word (kept key (stands_first _ _)) keyed, pick_formed item (kept include (stands_later _ _ _ (stands_first _ _))) (kept except (stands_later _ _ _ (stands_later _ _ _ (stands_first _ _)))))
-  entry_formed item _ s (IsEntryOf.take {of_kind = k} {ident = word} e is takes keyed) = key_named item word (item_kept item s e is key (takes_keyed e k takes)) keyed
-  entry_formed item _ s (IsEntryOf.spec {spec = spec} r) = spec_formed item spec s r
+      -- what is made of a child that breaks nothing
+      given_formed : {X : Type 0} (kind : Element) (IsOf : Tree → X → Type 0) (P : X → Type 0) (o : Option X)
+          → ((child : Tree) (x : X) → IsFormedSomewhere child → ((rule : ℕ) → DeepFault kind 60 inside child rule → ⊥) → IsOf child x → P x)
+          → GivesOne e kind IsOf (children_of tree) o → IfSome o P
+      given_formed kind IsOf P None h gives = tt
+      given_formed kind IsOf P (Some x) h (GivesOne.some child s of made) = h child x (child_formed item_formed.2 child s) (child_sound kind child s of) made
+
+      -- the edits of attributes that an element or a class gives
+      atts_formed : (edits : List (List ℕ × AttEdit)) → kind_named e (tei (codes "attList")) ≡ Some element.AttList → AreEditsGiven (first_named (codes "attList") tree) edits → AreFormedEdits edits
+      atts_formed edits known =
+          by_child (codes "attList") tree (λ o. AreEditsGiven o edits → AreFormedEdits edits) (no_edits_formed edits)
+          (λ list s of. attlist_formed list edits (λ rule f. child_sound element.AttList list s (is_kind e element.AttList (codes "attList") list known of) rule (fault_anywhere inside refl f))
+          (child_formed item_formed.2 list s).2)
+
+    -- the name in documents that an element gives
+    alt_named : IsItem element.ElementSpec tree → IfSome (alt_given tree) IsNCName
+    alt_named is =
+        by_child (codes "altIdent") tree (λ o. IfSome (option_map collapsed_in o) IsNCName) tt
+        (λ alt s of. sure_name (collapsed_in alt) (λ no.
+        child_sound element.ElementSpec is element.AltIdent alt s (is_kind element.ElementSpec element.AltIdent (codes "altIdent") alt refl of) 1
+        (DeepFault.itself (FormFault.own (OwnFault.demand (own_text name) (stands_first _ _) (DemandFault.not_of_kind no))))))
+
+    spec_formed : (spec : Spec) → IsReadAs (namespace_of d.schemas) item spec → IsFormedSpec spec
+    spec_formed spec r =
+        let e = r.is_spec.element in
+        let is = r.is_spec.is_item in
+        let ns = namespace_of d.schemas in
+        let m = mode_given tree in
+        let children = children_of tree in
+        let each : (P : Element → Kind → Type 0) → P element.ElementSpec kind.Element → P element.ClassSpec kind.Class → P element.MacroSpec kind.Macro → P element.DataSpec kind.Datatype
+        → P e spec.key.kind =
+        λ P es cs ms ds. each_declared P es cs ms ds e spec.key.kind r.is_spec.of_kind in
+        let content : GivesOne e element.Content (IsContentOf inside) children spec.content → IfSome spec.content IsFormedContent =
+        given_formed e is element.Content (IsContentOf inside) IsFormedContent spec.content
+        (λ child c f sound made. subst IsFormedContent (sym made) (content_formed inside child inside_bound f.2 sound)) in
+        let of_data : GivesOne e element.DataContent (IsContentOf inside) children spec.content → IfSome spec.content (IsFormedContentOf kind.Datatype) =
+        given_formed e is element.DataContent (IsContentOf inside) (IsFormedContentOf kind.Datatype) spec.content
+        (λ child c f sound made. subst (IsFormedContentOf kind.Datatype) (sym made) (data_content_formed inside child f.2 sound)) in
+        let legal = legal_in m ns tree (legal_around d.schemas schema_formed) (tag_formed item_formed.2) in
+        let no_edits : spec.atts ≡ [] → AreFormedEdits spec.atts = no_edits_formed spec.atts in
+        record {
+          named = r.is_spec.named;
+          of_module = subst IsModule (sym r.of_module)
+              (module_named tree (item_kept e is (optional (codes "module") name)
+              (each (λ x k. StandsIn (form_at x).attributes (optional (codes "module") name)) (stands_later _ _ _ (stands_first _ _)) (stands_later _ _ _ (stands_first _ _))
+              (stands_later _ _ _ (stands_first _ _)) (stands_later _ _ _ (stands_first _ _)))));
+          ns = subst (λ o. IfSome o IsLegal) (sym r.ns) (each (λ x k. IfSome (namespace_with k m ns tree) IsLegal) legal tt tt tt);
+          alt = subst (λ o. IfSome o IsNCName) (sym r.alt) (each (λ x k. IsItem x tree → IfSome (alt_declared k tree) IsNCName) alt_named (λ _. tt) (λ _. tt) (λ _. tt) is);
+          classes = given_formed e is element.Classes IsMembershipOf IsFormedMembership spec.classes
+              (λ child c f sound made. membership_formed child c (λ rule g. sound rule (fault_anywhere inside refl g)) made) r.children.classes;
+          atts = each (λ x k. IsItem x tree → AreAttsDeclared k tree spec.atts → AreFormedEdits spec.atts) (λ h. atts_formed element.ElementSpec h spec.atts refl)
+              (λ h. atts_formed element.ClassSpec h spec.atts refl) (λ h. no_edits) (λ h. no_edits) is r.atts;
+          content = each (λ x k. GivesOne e (content_of x) (IsContentOf inside) children spec.content → IfSome spec.content (IsFormedContentOf k)) content content content of_data r.children.content;
+          fields = each (λ x k. GivesOne x (content_of x) (IsContentOf inside) children spec.content → GivesOne x element.Classes IsMembershipOf children spec.classes
+              → spec.ns ≡ namespace_with k m ns tree → spec.alt ≡ alt_declared k tree → spec.gives ≡ type_given k tree → AreAttsDeclared k tree spec.atts → HasFieldsOf k spec)
+              (λ c m ns alt gives atts. gives)
+              (λ c m ns alt gives atts. (
+                ns,
+                alt,
+                gives_nothing element.ClassSpec element.Content _ _ _
+                    (λ t. ⊎_elim (λ one. (let no : element.Content ≡ element.Classes = one in cc)) (λ later. (let no : element.Content ≡ element.AttList = only_item _ _ later in cc)) (first_or_later _ _ _ t)) c,
+              ))
+              (λ c m ns alt gives atts. record {
+                no_ns = ns;
+                no_alt = alt;
+                no_type = gives;
+                no_classes = gives_nothing element.MacroSpec element.Classes _ _ _ (λ t. (let no : element.Classes ≡ element.Content = only_item _ _ t in cc)) m;
+                no_atts = atts;
+              })
+              (λ c m ns alt gives atts. record {
+                no_ns = ns;
+                no_alt = alt;
+                no_type = gives;
+                no_classes = gives_nothing element.DataSpec element.Classes _ _ _ (λ t. (let no : element.Classes ≡ element.DataContent = only_item _ _ t in cc)) m;
+                no_atts = atts;
+              })
+              r.children.content r.children.classes r.ns r.alt r.gives r.atts;
+          whole = subst (λ m. IsWholeIn m spec) (sym r.of_mode) (whole_in m spec (λ new.
+              each (λ x k. ((rule : ℕ) → OwnFault (form_at x) inside tree rule → ⊥) → spec.ns ≡ namespace_with k m ns tree → spec.gives ≡ type_given k tree
+              → GivesOne x (content_of x) (IsContentOf inside) children spec.content → StandsAlone k spec)
+              (λ sound ns gives c. ap is_some ns ∙ namespace_some m (namespace_of d.schemas) tree new)
+              (λ sound ns gives c. ap is_some gives ∙ type_some inside tree sound new)
+              (λ sound ns gives c. tt) (λ sound ns gives c. content_some inside tree (IsContentOf inside) spec.content sound new c) (own_sound e is) r.ns r.gives r.children.content));
+        }
+
+    entry_formed : (e : Entry) → IsEntryOf (namespace_of d.schemas) item e → IsFormedEntry e
+    entry_formed _ (IsEntryOf.«module» {key = word} is keyed) =
+        let kept = item_kept element.ModuleRef is in
+        (key_named tree word (kept key (stands_first _ _)) keyed, pick_formed tree (kept include (stands_later _ _ _ (stands_first _ _))) (kept except (stands_later _ _ _ (stands_later _ _ _ (stands_first _ _)))))
+    entry_formed _ (IsEntryOf.take {of_kind = k} {ident = word} e is takes keyed) = key_named tree word (item_kept e is key (takes_keyed e k takes)) keyed
+    entry_formed _ (IsEntryOf.spec {spec = spec} r) = spec_formed spec r
 
   -- what the tree declares
-  pub doc_formed : IsFormedDoc doc
-  doc_formed = record {
-    ident = sure_name doc.ident (kept_suits (needed (codes "ident") name) d.first.schema doc.ident (schema_kept _ (stands_first _ _)) refl d.is_doc.ident);
-    start = start_formed (start_of d.first.schema) doc.start (start_named d.first.schema (schema_kept _ (stands_later _ _ _ (stands_first _ _)))) d.is_doc.start;
-    entries = λ e s. (let from = d.is_doc.entries.none_else e s in entry_formed from.0 e from.1 from.2);
-    once = keys_once t doc d;
-  }
+  doc_formed : IsFormedDoc doc
+  doc_formed =
+      let kept = schema_kept d.schemas refl in
+      record {
+        ident = ident_named d.schemas doc.ident kept d.ident;
+        start = start_formed (start_in d.schemas) doc.start (start_all_named d.schemas kept) d.start;
+        entries = λ e s. (let from = d.entries.none_else e s in entry_formed from.0 from.1 e from.2);
+        once = keys_once t doc d;
+      }
+
+-- what a formed file declares is formed
+pub formed_doc : (first end : ℕ) (t : Tree) (doc : OddDoc) → IsFormed first end t → DeclaresWhole t doc → IsFormedDoc doc
+formed_doc first end t doc is_formed d = doc_formed t doc first end is_formed d

@@ -1,9 +1,8 @@
 -- A file that breaks nothing declares at most one component for each key.
-use Rattle.std.proofs.Common.{◌≡◌, ◌<◌, List, [], ◌∷◌, ◌++◌, Some, inl, inr, refl, sym, ap, subst, ◌∙◌, append_assoc, arith}
+use Rattle.std.proofs.Common.{◌≡◌, ◌<◌, ℕ, List, [], ◌∷◌, Some, inl, inr, refl, sym, ap, subst, arith}
 use Rattle.std.proofs.lemmas.Option.{same_Some}
 use Rattle.std.specs.List.{filter_map}
-use Rattle.odd_forms.proofs.Children.{twice_with}
-use Rattle.odd_forms.specs.Standing.{StandsTwice}
+use Rattle.odd_items.specs.Search.{Found}
 use Rattle.odd_library.specs.Formed.{key_of}
 use Rattle.odd_library.specs.Odd.{place_of}
 use Rattle.odd_library.specs.declared.odd.Entry.{Entry}
@@ -12,14 +11,13 @@ use Rattle.odd_library.specs.declared.odd.OddDoc.{OddDoc}
 use Rattle.odd_text.specs.declared.key.Key.{Key}
 use Rattle.odd_tokens.proofs.Characters.{Distinct, Lacks, none_twice}
 use Rattle.odd_tokens.specs.Tokens.{NoneTwice}
-use Rattle.odd_tree.proofs.InList.{first_or_later, nothing_stands, stands_around, stands_first, stands_later}
-use Rattle.odd_tree.proofs.InList as standing
-use Rattle.odd_tree.specs.Elements.{StandsIn, children_of}
-use Rattle.odd_tree.specs.declared.tree.Tree.{Tree, out-Tree}
+use Rattle.odd_tree.proofs.InList.{first_or_later, nothing_stands, stands_first, stands_later}
+use Rattle.odd_tree.specs.Elements.{StandsIn}
+use Rattle.odd_tree.specs.declared.tree.Tree.{Tree}
 use Rattle.odd_decls.proofs.ItemsRead.{entry_place}
-use Rattle.odd_decls.specs.Declares.{Declares, IsEntryOf, PlacesRise}
-use Rattle.odd_decls.specs.Offences.{IsSpecOf, ItemOffends, Offends}
-use Rattle.odd_decls.specs.Search.{Found}
+use Rattle.odd_decls.specs.Declares.{DeclaresWhole, IsEntryOf, PlacesRise, namespace_of}
+use Rattle.odd_decls.specs.Items.{IsSpecOf, at_of}
+use Rattle.odd_decls.specs.Offences.{ItemsOffend, Offends}
 
 -- without the first of them entries rise
 rest_rises : (e : Entry) (es : List Entry) → PlacesRise (e ∷ es) → PlacesRise es
@@ -60,34 +58,22 @@ keys_distinct (entry.Spec at spec ∷ es) rise none =
 keys_distinct (other ∷ es) rise none = keys_distinct es (rest_rises other es rise) (none_later other es none)
 
 -- an entry with a key is of an item that declares it
-declares_key : (first : Found) (item : Tree) (e : Entry) (key : Key) → IsEntryOf first item e → key_of e ≡ Some key → IsSpecOf key item
-declares_key first item _ key (IsEntryOf.«module» is keyed) h = cc
-declares_key first item _ key (IsEntryOf.take e is kind keyed) h = cc
-declares_key first item _ key (IsEntryOf.spec read) h = subst (λ k. IsSpecOf k item) (same_Some _ _ h) read.is_spec
+declares_key : (ns : List ℕ) (item : Found) (e : Entry) (key : Key) → IsEntryOf ns item e → key_of e ≡ Some key → IsSpecOf key item.element
+declares_key ns item _ key (IsEntryOf.«module» is keyed) h = cc
+declares_key ns item _ key (IsEntryOf.take e is kind keyed) h = cc
+declares_key ns item _ key (IsEntryOf.spec read) h = subst (λ k. IsSpecOf k item.element) (same_Some _ _ h) read.is_spec
 
--- two elements that are such
-two_stand : (Is : Tree → Type 0) (items : List Tree) (t u : Tree) → StandsIn items t → StandsIn items u → (t ≡ u → ⊥) → Is t → Is u → StandsTwice Is items
-two_stand Is items t u s r other is also = subst (StandsTwice Is) (sym s.2) (elim (stands_around s.0 t s.1 r.0 u r.1 (sym s.2 ∙ r.2)) [
-  | standing.before c h ↦ twice_with Is s.0 s.1 t (u, (r.0, c, h), also) is
-  | standing.here h same ↦ absurd (other same)
-  | standing.after c h ↦ subst (StandsTwice Is) (append_assoc s.0 (t ∷ c) (u ∷ r.1) ∙ ap (λ ts. s.0 ++ t ∷ ts) (sym h)) (twice_with Is (s.0 ++ t ∷ c) r.1 u (t, (s.0, c, refl), is) also)
-])
-
-pub keys_once : (t : Tree) (doc : OddDoc) → Declares t doc → NoneTwice (filter_map key_of doc.entries)
-keys_once t doc d = none_twice (filter_map key_of doc.entries) (keys_distinct doc.entries d.is_doc.rising none)
+pub keys_once : (t : Tree) (doc : OddDoc) → DeclaresWhole t doc → NoneTwice (filter_map key_of doc.entries)
+keys_once t doc d = none_twice (filter_map key_of doc.entries) (keys_distinct doc.entries d.rising none)
   where
     none : NoneAgain doc.entries
     none e f key s r less is also =
-        let one = d.is_doc.entries.none_else e s in
-        let two = d.is_doc.entries.none_else f r in
-        let apart : one.0 ≡ two.0 → ⊥ = λ same. (
-        let at : (out-Tree one.0).at ≡ (out-Tree two.0).at = ap (λ u. (out-Tree u).at) same in
-        omega (arith, at, less, entry_place d.first one.0 e one.2, entry_place d.first two.0 f two.2)
-        ) in
+        let ns = namespace_of d.schemas in
+        let one = d.entries.none_else e s in
+        let two = d.entries.none_else f r in
+        let before : at_of one.0 < at_of two.0 = omega (arith, less, entry_place ns one.0 e one.2, entry_place ns two.0 f two.2) in
         d.unoffended _ 4 (record {
-          first = d.first;
-          others = [];
+          schemas = d.schemas;
           found = d.found;
-          offends = Offends.items (ItemOffends.twice key
-              (two_stand (IsSpecOf key) (children_of d.first.schema) one.0 two.0 one.1 two.1 apart (declares_key d.first one.0 e key one.2 is) (declares_key d.first two.0 f key two.2 also)) refl);
+          offends = Offends.item (ItemsOffend.twice key one.0 two.0 one.1 two.1 before (declares_key ns one.0 e key one.2 is) (declares_key ns two.0 f key two.2 also) refl);
         })

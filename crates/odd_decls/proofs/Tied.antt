@@ -15,53 +15,17 @@ use Rattle.odd_text.specs.KeyOrder.{key_exact, key_total, tied_is_same}
 use Rattle.odd_text.specs.declared.key.Key.{Key}
 use Rattle.odd_keyed.specs.Keyed.{key_of, keyed_cmp}
 use Rattle.odd_keyed.specs.declared.keyed.Keyed.{Keyed}
-use Rattle.odd_tree.proofs.InList.{StandsOnce, nothing_stands, once_push, stands_around}
-use Rattle.odd_tree.proofs.InList as standing
+use Rattle.odd_tree.proofs.InList.{StandsOnce, nothing_stands, once_push}
 use Rattle.odd_tree.specs.Elements.{StandsIn}
 use Rattle.odd_forms.proofs.Children.{twice_with}
 use Rattle.odd_forms.proofs.Least.{least_if, least_or, least_same, lesser_rule}
 use Rattle.odd_decls.proofs.Rising.{one_key}
+use Rattle.odd_decls.proofs.Where.{StandsWhere, nowhere, where_push}
 use Rattle.odd_decls.specs.Faults.{IsAgain, IsKeyIn}
-use Rattle.odd_decls.specs.Items.{trees_of}
-use Rattle.odd_decls.specs.Offences.{IsSpecOf}
+use Rattle.odd_decls.specs.Items.{IsSpecOf}
 use Rattle.odd_forms.specs.Least.{IsLeast}
-use Rattle.odd_decls.specs.Repeats.{AreSorted, IsRepeat, IsTied, TellRepeats}
-use Rattle.odd_decls.specs.declared.items.Item.{Item}
-
--- somewhere in a list stands what is such after those before it
-pub record StandsWhere {A : Type 0} (Is : List A → A → Type 0) (xs : List A) : Type 0 where
-  pub before : List A
-  pub item : A
-  pub after : List A
-  pub parts : xs ≡ before ++ item ∷ after
-  pub is : Is before item
-
--- nothing does in an empty list
-nowhere : {A : Type 0} (Is : List A → A → Type 0) → StandsWhere Is [] → ⊥
-nowhere Is s = nothing_stands s.item (s.before, s.after, s.parts)
-
--- with one item more something does where it did before, or where that is such after all others
-where_push : {A : Type 0} (Is : List A → A → Type 0) (xs : List A) (x : A) → StandsWhere Is (xs ++ x ∷ []) ↔ (StandsWhere Is xs ⊎ Is xs x)
-where_push {A} Is xs x = (there, λ f. ⊎_elim earlier last f)
-  where
-    there : StandsWhere Is (xs ++ x ∷ []) → StandsWhere Is xs ⊎ Is xs x
-    there s = elim (stands_around xs x [] s.before s.item s.after s.parts) [
-      | standing.before c h ↦ inl (record { before = s.before; item = s.item; after = c; parts = h; is = s.is })
-      | standing.here h e ↦ inr (subst (λ ys. Is ys x) (sym h) (subst (Is s.before) (sym e) s.is))
-      | standing.after c h ↦ absurd (nothing_stands s.item (c, s.after, h))
-    ]
-
-    earlier : StandsWhere Is xs → StandsWhere Is (xs ++ x ∷ [])
-    earlier s = record {
-      before = s.before;
-      item = s.item;
-      after = s.after ++ x ∷ [];
-      parts = ap (λ ys. ys ++ x ∷ []) s.parts ∙ append_assoc s.before (s.item ∷ s.after) (x ∷ []);
-      is = s.is;
-    }
-
-    last : Is xs x → StandsWhere Is (xs ++ x ∷ [])
-    last is = record { before = xs; item = x; after = []; parts = refl; is = is }
+use Rattle.odd_decls.specs.Repeats.{AreSorted, IsRepeat, IsTied, TellRepeats, trees_of}
+use Rattle.odd_items.specs.declared.listing.Item.{Item}
 
 -- one of the values has the key
 abbrev pub HasKey : Key → List (Keyed ℕ) → Type 0

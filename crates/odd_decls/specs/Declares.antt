@@ -1,5 +1,5 @@
--- What the tree of an ODD file declares, where it has no form that is not read yet and no offence of form.
-use Rattle.std.specs.Prelude.{◌≡◌, ◌<◌, ℕ, Bool, List, [], ◌∷◌, ◌++◌, Option, Some, None, if◌then◌else◌, codes, unwrap_or}
+-- What the tree of an ODD file declares, where it has no offence of form.
+use Rattle.std.specs.Prelude.{◌≡◌, ◌<◌, ℕ, Bool, false, List, [], ◌∷◌, ◌++◌, Option, Some, None, if◌then◌else◌, codes, unwrap_or}
 use Rattle.std.specs.Option.{option_map}
 use Rattle.odd_text.specs.Text.{text_cmp}
 use Rattle.odd_text.specs.declared.key.Kind.{Kind}
@@ -21,9 +21,11 @@ use Rattle.odd_forms.specs.declared.element.Element.TheVariants as element
 use Rattle.odd_members.specs.Members.{IsMembershipOf}
 use Rattle.odd_members.specs.declared.membership.Membership.{Membership}
 use Rattle.odd_library.specs.Odd.{place_of}
-use Rattle.odd_decls.specs.Offences.{HasOffence, IsItem, IsSpecOf}
-use Rattle.odd_decls.specs.Pending.{IsPending}
-use Rattle.odd_decls.specs.Search.{Finds, Found}
+use Rattle.odd_decls.specs.Aside.{IsReadOf}
+use Rattle.odd_decls.specs.Items.{IsItem, IsSpecOf}
+use Rattle.odd_decls.specs.Offences.{OffendsWhole}
+use Rattle.odd_items.specs.Groups.{IsItemIn, schema_names}
+use Rattle.odd_items.specs.Search.{Finds, Found}
 use Rattle.odd_library.specs.declared.odd.Entry.TheVariants as entry
 use Rattle.odd_library.specs.declared.odd.Entry.{Entry}
 use Rattle.odd_library.specs.declared.odd.OddDoc.{OddDoc}
@@ -55,8 +57,10 @@ abbrev pub namespace_with : Kind → Mode → List ℕ → Tree → Option (List
 namespace_with kind.Element m around item = namespace_by m around item
 namespace_with k m around item = None
 
-abbrev pub namespace_declared : Kind → Tree → Tree → Option (List ℕ)
-namespace_declared k schema item = namespace_with k (mode_given item) (namespace_around schema) item
+-- the namespace around the items of a file: that of its `schemaSpec`, or TEI's
+abbrev pub namespace_of : List Found → List ℕ
+namespace_of [] = tei_namespace
+namespace_of (first ∷ others) = namespace_around first.element
 
 -- whether a class is of type `atts`, where its declaration gives a type
 abbrev pub type_given : Kind → Tree → Option Bool
@@ -84,16 +88,16 @@ AreAttsDeclared kind.Element item edits = AreEditsGiven (first_named (codes "att
 AreAttsDeclared kind.Class item edits = AreEditsGiven (first_named (codes "attList") item) edits
 AreAttsDeclared k item edits = edits ≡ []
 
--- a declaration is read as the spec
-pub record IsReadAs (first : Found) (item : Tree) (spec : Spec) : Type 0 where
-  pub is_spec : IsSpecOf spec.key item
-  pub of_mode : spec.mode ≡ mode_given item
-  pub of_module : spec.«module» ≡ unwrap_or (given item (codes "module")) []
-  pub ns : spec.ns ≡ namespace_declared spec.key.kind first.schema item
-  pub alt : spec.alt ≡ alt_declared spec.key.kind item
-  pub gives : spec.gives ≡ type_given spec.key.kind item
-  pub atts : AreAttsDeclared spec.key.kind item spec.atts
-  pub children : ChildrenGive (within first.around first.schema) is_spec.element item spec.content spec.classes
+-- a declaration is read as the spec, where elements that give no namespace have this one
+pub record IsReadAs (unnamed : List ℕ) (item : Found) (spec : Spec) : Type 0 where
+  pub is_spec : IsSpecOf spec.key item.element
+  pub of_mode : spec.mode ≡ mode_given item.element
+  pub of_module : spec.«module» ≡ unwrap_or (given item.element (codes "module")) []
+  pub ns : spec.ns ≡ namespace_with spec.key.kind (mode_given item.element) unnamed item.element
+  pub alt : spec.alt ≡ alt_declared spec.key.kind item.element
+  pub gives : spec.gives ≡ type_given spec.key.kind item.element
+  pub atts : AreAttsDeclared spec.key.kind item.element spec.atts
+  pub children : ChildrenGive item.around is_spec.element item.element spec.content spec.classes
 
 -- the kind of the component that an item refers to
 abbrev pub kind_taken : Element → Option Kind
@@ -104,16 +108,17 @@ kind_taken element.DataRefItem = Some kind.Datatype
 kind_taken e = None
 
 -- an item is read as the entry, at the byte where it begins
-pub data IsEntryOf (first : Found) (item : Tree) : Entry → Type 0 where
-  «module» : {key : List ℕ} → IsItem element.ModuleRef item → given item (codes "key") ≡ Some key → IsEntryOf first item (entry.Module (out-Tree item).at key (pick_given item))
-  take : {of_kind : Kind} {ident : List ℕ} (e : Element) → IsItem e item → kind_taken e ≡ Some of_kind → given item (codes "key") ≡ Some ident
-      → IsEntryOf first item (entry.Take (out-Tree item).at (record { kind = of_kind; ident = ident }))
-  spec : {spec : Spec} → IsReadAs first item spec → IsEntryOf first item (entry.Spec (out-Tree item).at spec)
+pub data IsEntryOf (ns : List ℕ) (item : Found) : Entry → Type 0 where
+  «module» : {key : List ℕ} → IsItem element.ModuleRef item.element → given item.element (codes "key") ≡ Some key
+      → IsEntryOf ns item (entry.Module (out-Tree item.element).at key (pick_given item.element))
+  take : {of_kind : Kind} {ident : List ℕ} (e : Element) → IsItem e item.element → kind_taken e ≡ Some of_kind → given item.element (codes "key") ≡ Some ident
+      → IsEntryOf ns item (entry.Take (out-Tree item.element).at (record { kind = of_kind; ident = ident }))
+  spec : {spec : Spec} → IsReadAs ns item spec → IsEntryOf ns item (entry.Spec (out-Tree item.element).at spec)
 
--- The entries of items: one stands exactly where an item is read as it.
-pub record AreEntriesOf (first : Found) (items : List Tree) (entries : List Entry) : Type 0 where
-  pub none_else : (e : Entry) → StandsIn entries e → (item : Tree) × StandsIn items item × IsEntryOf first item e
-  pub each : (item : Tree) (e : Element) → StandsIn items item → IsItem e item → (made : Entry) × StandsIn entries made × IsEntryOf first item made
+-- The entries of items: one stands exactly where an item is read as it; groups and references to them are read as none.
+pub record AreEntriesOf (t : Tree) (schemas : List Found) (entries : List Entry) : Type 0 where
+  pub none_else : (e : Entry) → StandsIn entries e → (item : Found) × IsItemIn t schemas item × IsEntryOf (namespace_of schemas) item e
+  pub each : (item : Found) (made : Entry) → IsItemIn t schemas item → IsEntryOf (namespace_of schemas) item made → StandsIn entries made
 
 -- by place
 abbrev pub PlacesRise : List Entry → Type 0
@@ -123,16 +128,27 @@ PlacesRise entries = (before after : List Entry) (e next : Entry) → entries �
 abbrev pub start_of : Tree → List (List ℕ)
 start_of schema = words_of (unwrap_or (given schema (codes "start")) (codes "TEI"))
 
--- what a `schemaSpec` without an offence declares
-pub record IsDocOf (first : Found) (doc : OddDoc) : Type 0 where
-  pub ident : given first.schema (codes "ident") ≡ Some doc.ident
-  pub start : IsSet text_cmp (StandsIn (start_of first.schema)) doc.start
-  pub entries : AreEntriesOf first (children_of first.schema) doc.entries
+-- the ident and the start words of a file: of its `schemaSpec`, or those of a file without one
+abbrev pub ident_in : List Found → Option (List ℕ)
+ident_in [] = Some (codes "bare")
+ident_in (first ∷ others) = given first.element (codes "ident")
+
+abbrev pub start_in : List Found → List (List ℕ)
+start_in [] = codes "TEI" ∷ []
+start_in (first ∷ others) = start_of first.element
+
+-- what a file without an offence declares as it stands
+pub record DeclaresWhole (t : Tree) (doc : OddDoc) : Type 0 where
+  pub unoffended : (place rule : ℕ) → OffendsWhole t place rule → ⊥
+  pub schemas : List Found
+  pub found : Finds schema_names false [] t schemas
+  pub ident : ident_in schemas ≡ Some doc.ident
+  pub start : IsSet text_cmp (StandsIn (start_in schemas)) doc.start
+  pub entries : AreEntriesOf t schemas doc.entries
   pub rising : PlacesRise doc.entries
 
-pub record Declares (t : Tree) (doc : OddDoc) : Type 0 where
-  pub all_read : IsPending t → ⊥
-  pub unoffended : (place rule : ℕ) → HasOffence t place rule → ⊥
-  pub first : Found
-  pub found : Finds [] t (first ∷ [])
-  pub is_doc : IsDocOf first doc
+-- what a file declares that is read with `aside` or without
+pub record Declares (t : Tree) (aside : Bool) (doc : OddDoc) : Type 0 where
+  pub read : Tree
+  pub is_read : IsReadOf t aside read doc.asides
+  pub declares : DeclaresWhole read doc

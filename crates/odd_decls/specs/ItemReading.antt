@@ -5,7 +5,7 @@ use Rattle.std.specs.Option.{option_map}
 use Rattle.odd_text.specs.declared.key.Key.{Key}
 use Rattle.odd_text.specs.declared.key.Kind.{Kind}
 use Rattle.odd_text.specs.declared.name.Bind.{Bind}
-use Rattle.odd_tree.specs.Elements.{given, within}
+use Rattle.odd_tree.specs.Elements.{given}
 use Rattle.odd_tree.specs.declared.tree.Tree.{Tree, out-Tree}
 use Rattle.odd_content.specs.declared.content.Content.{Content}
 use Rattle.odd_forms.specs.declared.element.Element.{Element}
@@ -14,8 +14,8 @@ use Rattle.odd_content.specs.Giving.{pick_given}
 use Rattle.odd_members.specs.declared.membership.Membership.{Membership}
 use Rattle.odd_attributes.specs.declared.att_edit.AttEdit.{AttEdit}
 use Rattle.odd_decls.specs.Declares.{namespace_with, AreAttsDeclared, ChildrenGive, alt_declared, IsEntryOf, kind_taken, mode_given, type_given}
-use Rattle.odd_decls.specs.Offences.{IsItem, IsSpecOf}
-use Rattle.odd_decls.specs.Search.{Found}
+use Rattle.odd_decls.specs.Items.{IsSpecOf}
+use Rattle.odd_items.specs.Search.{Found}
 use Rattle.odd_library.specs.declared.odd.Entry.TheVariants as entry
 use Rattle.odd_library.specs.declared.odd.Entry.{Entry}
 
@@ -60,10 +60,10 @@ abbrev pub reference_of : Element → Tree → Option Entry
 reference_of element.ModuleRef item = option_map (λ key. entry.Module (out-Tree item).at key (pick_given item)) (given item (codes "key"))
 reference_of e item = taken_of (kind_taken e) item
 
--- an item is read as the entry, and one that declares nothing gives none
-abbrev pub GivesEntry : Tree → List Bind → Tree → Option Entry → Type 0
-GivesEntry schema inside item None = (e : Element) → IsItem e item → ⊥
-GivesEntry schema inside item (Some made) = (first : Found) → first.schema ≡ schema → within first.around first.schema ≡ inside → IsEntryOf first item made
+-- an item is read as the entry, or as none
+abbrev pub GivesEntry : List ℕ → Found → Option Entry → Type 0
+GivesEntry ns item None = (made : Entry) → IsEntryOf ns item made → ⊥
+GivesEntry ns item (Some made) = IsEntryOf ns item made
 
 -- the key of what the element declares, where it declares a component whose ident is a name
 abbrev pub IsKeyOf : Tree → Option Key → Type 0

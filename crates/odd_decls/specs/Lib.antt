@@ -1,12 +1,12 @@
+pub mod Aside
 pub mod Declares
 pub mod Faults
+pub mod FileItems
 pub mod ItemReading
 pub mod Items
 pub mod Offences
-pub mod Pending
 pub mod Reading
 pub mod Repeats
-pub mod Search
 pub use Rattle.odd_library.specs.First
 pub use Rattle.odd_library.specs.Library
 pub use Rattle.odd_library.specs.Odd

@@ -1,13 +1,17 @@
 -- The items whose key an earlier one has, and how they are found among the keys in order.
-use Rattle.std.specs.Prelude.{◌≡◌, ◌↔◌, ℕ, List, ◌∷◌, ◌++◌, length}
+use Rattle.std.specs.Prelude.{◌≡◌, ◌↔◌, ℕ, List, ◌∷◌, ◌++◌, length, map}
 use Rattle.std.specs.List.Sorted.{IsSorted}
 use Rattle.odd_text.specs.declared.key.Key.{Key}
+use Rattle.odd_tree.specs.declared.tree.Tree.{Tree}
 use Rattle.odd_keyed.specs.Keyed.{key_of, keyed_cmp}
 use Rattle.odd_keyed.specs.declared.keyed.Keyed.{Keyed}
 use Rattle.odd_forms.specs.Standing.{StandsTwice}
 use Rattle.odd_decls.specs.Faults.{IsAgain}
-use Rattle.odd_decls.specs.Items.{trees_of}
-use Rattle.odd_decls.specs.declared.items.Item.{Item}
+use Rattle.odd_items.specs.declared.listing.Item.{Item}
+
+-- the trees of items
+abbrev pub trees_of : List Item → List Tree
+trees_of items = map (λ i. i.tree.now) items
 
 -- the item after so many others has the key of one of them
 pub record IsRepeat (items : List Item) (place : ℕ) : Type 0 where

@@ -4,14 +4,14 @@ ghost use Rattle.odd_tree.specs.Elements.{all_binds, children_of, within};
 ghost use Rattle.odd_forms.specs.declared.element.Element.TheVariants as the_element;
 ghost use Rattle.odd_content.specs.Giving.{IsContentOf};
 ghost use Rattle.odd_decls.specs.Declares.{AreAttsDeclared, alt_declared as the_alt_declared, content_of as the_content_of, mode_given, mode_named as the_mode_named, namespace_around as the_namespace_around, namespace_by, namespace_with, type_given};
-ghost use Rattle.odd_decls.specs.Offences.{kind_declared as the_kind_declared};
+ghost use Rattle.odd_decls.specs.Items.{IsTold, kind_declared as the_kind_declared};
 ghost use Rattle.odd_decls.specs.ItemReading.{IsEntryMade, IsSpecRead};
-ghost use Rattle.odd_decls.specs.Items.{IsTold};
 
-use crate::items::{Item, key_given};
+use crate::items::key_given;
 use odd_attributes::{AttEdits, edits_given, read_alt};
 use odd_content::{Content, content_in};
 use odd_forms::{Element, TEI, child_of_kind};
+use odd_items::Item;
 use odd_library::{Entry, Mode, Spec};
 use odd_members::{Membership, classes_given};
 use odd_text::{Key, Kind, NoMemory, Text, TryCopy};
@@ -27,8 +27,7 @@ pub fn spec_entry(
     spec: &Item<'_>,
     around: &[&Bindings],
 ) -> Result<Option<Entry>, NoMemory>
-    requires { IsTold spec.now }
-    ensures { IfOk result (IsSpecRead ns.now (all_binds (map (λ b. b.now) around.now)) element spec.now.tree.now) }
+    ensures { IsTold spec.now → IfOk result (IsSpecRead ns.now (all_binds (map (λ b. b.now) around.now)) element spec.now.tree.now) }
 {
     let content = content_given(alloc, element, spec.tree, around)?;
     let classes = classes_given(alloc, element, spec.tree)?;
@@ -73,8 +72,7 @@ fn entry(
     content: Option<Content>,
     classes: Option<Membership>,
 ) -> Result<Option<Entry>, NoMemory>
-    requires { IsTold spec.now }
-    ensures { IfOk result (IsEntryMade ns.now spec.now.tree.now content classes) }
+    ensures { IsTold spec.now → IfOk result (IsEntryMade ns.now spec.now.tree.now content classes) }
 {
     let Some((kind, ident)) = key_given(spec) else {
         return Ok(None);

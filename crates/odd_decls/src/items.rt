@@ -1,44 +1,25 @@
-ghost use Rattle.std.specs.Prelude.{◌≡◌, ℕ, map, IfOk};
+ghost use Rattle.std.specs.Prelude.{◌≡◌, Some, map, IfOk};
 ghost use Rattle.odd_tree.specs.Elements.{all_binds};
+ghost use Rattle.odd_forms.specs.Faults.{child_in};
 ghost use Rattle.odd_forms.specs.Least.{IsLeast};
-ghost use Rattle.odd_decls.specs.Declares.{namespace_around};
-ghost use Rattle.odd_decls.specs.Items.{AreItemsOf, IsTold};
+ghost use Rattle.odd_forms.specs.Table.{form_at};
+ghost use Rattle.odd_forms.specs.declared.element.Element.TheVariants as the_element;
+ghost use Rattle.odd_decls.specs.Items.{IsTold};
 ghost use Rattle.odd_decls.specs.Offences.{ItemFault};
 ghost use Rattle.odd_decls.specs.ItemReading.{GivesEntry, IsKeyOf, seen_key};
-ghost use Rattle.odd_tree.specs.declared.tree.Tree.{Tree as ATree};
 
 use crate::declarations::{kind_declared, spec_entry};
-use crate::references::reference_entry;
-use odd_forms::{Element, LEVELS, child_of, deep_fault, stray_fault};
+use crate::taken::reference_entry;
+use odd_forms::{Element, LEVELS, deep_fault, stray_fault};
+use odd_items::Item;
 use odd_library::Entry;
 use odd_text::{Kind, NoMemory, Text};
-use odd_tree::{Bindings, Tree, attribute, elements, is_ncname};
+use odd_tree::{Bindings, Tree, attribute, is_ncname};
 use std::alloc::Global;
-
-/// An item of a `schemaSpec`, and the element of the table that it is.
-#[derive(Clone, Copy)]
-pub struct Item<'a> {
-    pub tree: &'a Tree,
-    pub element: Option<Element>,
-}
-
-/// The items of a `schemaSpec`.
-pub fn items_of<'a>(alloc: Global, schema: &'a Tree) -> Result<Vec<Item<'a>>, NoMemory>
-    ensures { IfOk result (λ made. AreItemsOf schema.entry.now made.items) }
-{
-    let form = Element::SchemaSpec.form();
-    let mut items = Vec::new(alloc);
-    for tree in elements(schema) {
-        let element = child_of(form, tree);
-        items.push(Item { tree, element })?;
-    }
-    Ok(items)
-}
 
 /// The kind and the ident of the component that an item declares, where it declares one and its ident is an NCName.
 pub fn key_given<'a>(item: &Item<'a>) -> Option<(Kind, &'a Text)>
-    requires { IsTold item.now }
-    ensures { IsKeyOf item.now.tree.now (seen_key result) }
+    ensures { IsTold item.now → IsKeyOf item.now.tree.now (seen_key result) }
 {
     let kind = kind_declared(item.element?)?;
     let ident = attribute(&item.tree.attrs, "ident")?;
@@ -52,12 +33,26 @@ pub fn item_fault(
     item: &Item<'_>,
     around: &[&Bindings],
 ) -> Result<Option<u8>, NoMemory>
-    requires { IsTold item.now }
-    ensures { IfOk result (IsLeast (ItemFault (all_binds (map (λ b. b.now) around.now)) item.now.tree.now)) }
+    ensures { IsTold item.now → IfOk result (IsLeast (ItemFault (all_binds (map (λ b. b.now) around.now)) item.now.tree.now)) }
 {
     match item.element {
-        Some(element) => deep_fault(alloc, element, item.tree, LEVELS, around),
+        Some(element) => element_fault(alloc, element, item.tree, around),
         None => Ok(stray_fault(Element::SchemaSpec.form(), item.tree)),
+    }
+}
+
+// The least rule that an item breaks that is an element of the table. A group breaks none: what it holds are items by themselves.
+fn element_fault(
+    alloc: Global,
+    element: Element,
+    item: &Tree,
+    around: &[&Bindings],
+) -> Result<Option<u8>, NoMemory>
+    ensures { child_in (form_at the_element.SchemaSpec) item.now ≡ Some element → IfOk result (IsLeast (ItemFault (all_binds (map (λ b. b.now) around.now)) item.now)) }
+{
+    match element {
+        Element::SpecGrp => Ok(None),
+        _ => deep_fault(alloc, element, item, LEVELS, around),
     }
 }
 
@@ -69,8 +64,7 @@ pub fn item_entry(
     item: &Item<'_>,
     around: &[&Bindings],
 ) -> Result<Option<Entry>, NoMemory>
-    requires { IsTold item.now }
-    ensures { (schema : ATree) → ns.now ≡ namespace_around schema → ((rule : ℕ) → ItemFault (all_binds (map (λ b. b.now) around.now)) item.now.tree.now rule → ⊥) → IfOk result (GivesEntry schema (all_binds (map (λ b. b.now) around.now)) item.now.tree.now) }
+    ensures { IsTold item.now → IfOk result (GivesEntry ns.now (record { around = all_binds (map (λ b. b.now) around.now); element = item.now.tree.now })) }
 {
     let Some(element) = item.element else {
         return Ok(None);

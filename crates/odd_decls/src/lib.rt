@@ -2,13 +2,15 @@
 //! `odd_library` and `odd_members`.
 #![tactic(auto)]
 
+mod aside;
 mod declarations;
+mod faults;
+mod file_items;
 mod items;
-mod pending;
 pub mod reading;
 mod references;
 mod repeats;
-mod searching;
+mod taken;
 
 pub use odd_library::{
     ClassPart, Component, ElementPart, Entries, Entry, Library, Mode, OddDoc, OddRefusal,

@@ -4,15 +4,15 @@ ghost use Rattle.odd_forms.specs.Least.{IsLeast};
 ghost use Rattle.odd_decls.specs.Items.{IsTold};
 ghost use Rattle.odd_decls.specs.Repeats.{AreSorted, IsRepeat, IsTied, TellRepeats};
 
-use crate::items::{Item, key_given};
+use crate::items::key_given;
+use odd_items::Item;
 use odd_keyed::Keyed;
 use odd_text::{NoMemory, lesser};
 use std::alloc::Global;
 
 /// How many items stand before the first whose key one of them has, where there is such an item.
 pub fn first_repeat(alloc: Global, items: &[Item<'_>]) -> Result<Option<usize>, NoMemory>
-    requires { All IsTold items.now }
-    ensures { IfOk result (IsLeast (IsRepeat items.now)) }
+    ensures { All IsTold items.now → IfOk result (IsLeast (IsRepeat items.now)) }
 {
     let mut keyed = keyed_places(alloc, items)?;
     keyed.sort()?;
@@ -21,8 +21,7 @@ pub fn first_repeat(alloc: Global, items: &[Item<'_>]) -> Result<Option<usize>, 
 
 // The places of the items that declare components, counted from 0, by what they declare.
 fn keyed_places<'a>(alloc: Global, items: &[Item<'a>]) -> Result<Vec<Keyed<'a, usize>>, NoMemory>
-    requires { All IsTold items.now }
-    ensures { IfOk result (λ keyed. TellRepeats items.now keyed.items) }
+    ensures { All IsTold items.now → IfOk result (λ keyed. TellRepeats items.now keyed.items) }
 {
     let mut keyed = Vec::new(alloc);
     for (place, item) in items.iter().enumerate() {

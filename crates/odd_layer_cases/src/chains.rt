@@ -269,7 +269,6 @@ fn add_refusal(alloc: Global, out: &mut Text, refusal: &OddRefusal) -> Result<()
             }
             out.push_str(format!(in alloc; " rule {rule}")?.as_str())
         }
-        OddRefusal::NotYet => out.push_str("not yet"),
         OddRefusal::NoMemory => Err(NoMemory),
     }
 }

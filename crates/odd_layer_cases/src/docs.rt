@@ -32,6 +32,7 @@ pub fn read_docs(alloc: Global, text: &[u8]) -> Result<OddDocs, CaseFault> {
 fn add_line(alloc: Global, docs: &mut Vec<OddDoc>, words: &[&str]) -> Result<(), CaseFault> {
     if let ["doc", ident, start @ ..] = words {
         docs.push(OddDoc {
+            asides: 0,
             ident: Text::from_str(alloc, ident)?,
             start: texts_of(alloc, start)?,
             entries: Entries::new(alloc),

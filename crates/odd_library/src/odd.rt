@@ -22,4 +22,6 @@ pub struct OddDoc {
     pub ident: Text,
     pub start: Words,
     pub entries: Entries,
+    /// How many constraints were taken out.
+    pub asides: u64,
 }

@@ -7,8 +7,6 @@ use odd_text::{NoMemory, Offence};
 pub enum OddRefusal {
     /// The first offence: of form where a file is read, of any rule where files are merged.
     Offence(Offence),
-    /// The file has a form that is not read yet.
-    NotYet,
     NoMemory,
 }
 

@@ -24,7 +24,6 @@ pub fn select(alloc: Global, library: &Library, doc: &OddDoc, file: u32) -> Resu
     ensures keys { IfOk result (IsSet key_cmp (IsChosen library.now doc.now)) }
     ensures sound { IsOk result → (place rule : ℕ) → RefersWrongly library.now doc.now place rule → ⊥ }
     ensures offence { (offence : AnOffence) → result ≡ Err (OddRefusal.Offence offence) → IsFirstOffence (RefersWrongly library.now doc.now) file offence }
-    ensures read { result ≢ Err OddRefusal.NotYet }
 {
     if let Some(fault) = first_reference_fault(alloc, library, doc)? {
         return Err(OddRefusal::Offence(fault.in_file(file)));

@@ -37,7 +37,6 @@ pub fn step(
     ensures formed { IsFormedLibrary library.now → IsFormedDoc doc.now → IfOk result IsFormedLibrary }
     ensures sound { IsOk result → (place rule : ℕ) → Offends library.now doc.now place rule → ⊥ }
     ensures offence { (offence : AnOffence) → result ≡ Err (OddRefusal.Offence offence) → IsFirstOffence (Offends library.now doc.now) file offence }
-    ensures read { result ≢ Err OddRefusal.NotYet }
 {
     step_into(alloc, library.copy(alloc)?, doc, file)
 }
@@ -53,7 +52,6 @@ pub fn step_into(
     ensures formed { IsFormedLibrary library → IsFormedDoc doc.now → IfOk result IsFormedLibrary }
     ensures sound { IsOk result → (place rule : ℕ) → Offends library doc.now place rule → ⊥ }
     ensures offence { (offence : AnOffence) → result ≡ Err (OddRefusal.Offence offence) → IsFirstOffence (Offends library doc.now) file offence }
-    ensures read { result ≢ Err OddRefusal.NotYet }
 {
     let references = References::among(alloc, doc.entries.as_slice())?;
     if let Some(fault) = first_fault(alloc, &library, &references, doc)? {

@@ -1,19 +1,22 @@
--- Names of which two are one, looked for one after the other.
-use Rattle.std.proofs.Common.{◌≡◌, ◌↔◌, ◌⊎◌, Bool, true, false, cond, not, List, [], ◌∷◌, ◌++◌, inl, inr, ⊎_elim, IsTrue, refl, sym, ap, subst, ◌∙◌, append_assoc}
+-- Names of which two are one, looked for one after the other; and names that rise, of which no two are.
+use Rattle.std.proofs.Common.{◌≡◌, ◌↔◌, ◌⊎◌, ◌+◌, suc, length, get_or, arith, Bool, true, false, cond, not, List, [], ◌∷◌, ◌++◌, inl, inr, ⊎_elim, IsTrue, refl, sym, ap, subst, ◌∙◌, append_assoc}
 use Rattle.std.proofs.Math.Bool.{not-not}
 use Rattle.std.proofs.lemmas.Bool.{both_ways}
 use Rattle.std.proofs.lemmas.List.{append-nil}
 use Rattle.std.proofs.lemmas.Map.Views.{tells_apart}
 use Rattle.std.specs.BTreeSet.{BTreeSet, contains_by}
 use Rattle.std.specs.Cmp.{tied_itself}
-use Rattle.std.specs.List.{list_any}
-use Rattle.std.specs.Ordering.{eq_by_cmp, is_eq}
+use Rattle.std.specs.List.{AllAdjacentBelow, IsAllAdjacentAnswer, list_any}
+use Rattle.std.specs.Ordering.{eq_by_cmp, is_eq, is_lt}
+use Rattle.std.specs.declared.cmp.Ordering.TheVariants.{Equal, Less}
+use Rattle.odd_text.proofs.Entries.{as_T, is_less}
 use Rattle.odd_text.specs.NameOrder.{name_cmp, name_exact}
 use Rattle.odd_text.specs.declared.name.Name.{Name}
 use Rattle.odd_tree.proofs.InList.{StandsOnce, nothing_stands, once_push}
 use Rattle.odd_content.specs.ConditionOrder.{name_total}
 use Rattle.odd_forms.specs.Standing.{StandsTwice}
 use Rattle.odd_forms.proofs.Children.{twice_push, twice_with}
+use Rattle.odd_offers.specs.Names.{IsNamedTwice}
 
 -- whether the set holds the name
 abbrev holds : BTreeSet Name → Name → Bool
@@ -80,3 +83,33 @@ module _ (all : List Name) where
   pub none_alike : (rest : List Name) (values : BTreeSet Name) → ApartSoFar rest values → rest ≡ [] → (name : Name) → StandsTwice (Is name) all → ⊥
   none_alike rest values before is name w =
       before.apart name (subst (StandsTwice (Is name)) (before.parted ∙ ap (λ xs. before.passed ++ xs) is ∙ append-nil before.passed) w)
+
+-- each name comes after the one before it
+abbrev Rise : List Name → Type 0
+Rise names = AllAdjacentBelow (λ before name. true ≡ is_lt (name_cmp before name)) names (length names)
+
+-- so do those after the first
+later_rise : (name : Name) (names : List Name) → Rise (name ∷ names) → Rise names
+later_rise name names h k d within =
+    let next : suc k + 1 ≡ suc (k + 1) = omega arith in
+    subst (λ n. true ≡ is_lt (name_cmp (get_or names k d) (get_or (name ∷ names) n d))) next (h (suc k) d (omega arith))
+
+-- and those after some
+rest_rise : (passed names : List Name) → Rise (passed ++ names) → Rise names
+rest_rise [] names h = h
+rest_rise (name ∷ passed) names h = rest_rise passed names (later_rise name (passed ++ names) h)
+
+-- the first is below each of the others
+first_below : (first : Name) (between : List Name) (later : Name) (after : List Name) → Rise (first ∷ (between ++ later ∷ after)) → name_cmp first later ≡ Less
+first_below first [] later after h = is_less _ (as_T _ (sym (h 0 first (omega arith))))
+first_below first (name ∷ between) later after h =
+    name_total.trans first name later (is_less _ (as_T _ (sym (h 0 first (omega arith))))) (first_below name between later after (later_rise first (name ∷ (between ++ later ∷ after)) h))
+
+-- of names that were found to rise no two are one
+pub none_rise_alike : (names : List Name) (b : Bool) → IsAllAdjacentAnswer (λ before name b. b ≡ is_lt (name_cmp before name)) names b → IsTrue b → IsNamedTwice names → ⊥
+none_rise_alike names false told h w = cc
+none_rise_alike names true told h w =
+    let s = w.1 in
+    let less = first_below s.first s.between s.later s.after (rest_rise s.before (s.first ∷ (s.between ++ s.later ∷ s.after)) (subst Rise s.parts told)) in
+    let tied : name_cmp s.first s.later ≡ Equal = ap (name_cmp s.first) (s.later_is ∙ sym s.first_is) ∙ tied_itself name_total s.first in
+    cc

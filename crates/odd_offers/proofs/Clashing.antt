@@ -1,13 +1,13 @@
 -- Whether what is inherited differs.
-use Rattle.std.proofs.Common.{◌≡◌, ◌≢◌, ⊎_elim, ℕ, Bool, true, false, not, cond, List, [], ◌∷◌, Option, Some, None, refl, sym, ap, subst, ◌∙◌}
-use Rattle.std.specs.Cmp.{Equal-is}
-use Rattle.std.specs.FinMap.{find, slice_cmp-IsAntisymmetric, nat_cmp-IsAntisymmetric}
+use Rattle.std.proofs.Common.{◌≡◌, ◌≢◌, ⊎_elim, ℕ, Bool, true, false, not, List, [], ◌∷◌, Option, Some, None, IsTrue, T, refl, sym, ap, subst, ◌∙◌}
+use Rattle.std.proofs.lemmas.Cmp.{nat_list_cmp_total}
+use Rattle.std.specs.FinMap.{find, is_sorted, slice_cmp-IsAntisymmetric, nat_cmp-IsAntisymmetric}
 use Rattle.std.specs.List.{list_any}
-use Rattle.std.specs.Ordering.{eq_by_cmp}
+use Rattle.odd_text.proofs.Entries.{as_T, found_contained}
 use Rattle.odd_text.specs.Text.{text_cmp}
 use Rattle.odd_text.specs.declared.key.Key.{Key}
 use Rattle.odd_tree.specs.Elements.{StandsIn}
-use Rattle.odd_tree.proofs.InList.{first_or_later, nothing_stands, stands_first, stands_later}
+use Rattle.odd_tree.proofs.InList.{first_or_later, nothing_stands, standing, stands_first, stands_later}
 use Rattle.odd_attributes.specs.Attributes.{def_changed}
 use Rattle.odd_attributes.specs.declared.att_def.AttDef.{AttDef}
 use Rattle.odd_attributes.specs.declared.att_edit.AttEdit.{AttEdit}
@@ -17,9 +17,10 @@ use Rattle.odd_library.specs.declared.library.Library.{Library}
 use Rattle.odd_meaning.specs.Links.{class_key}
 use Rattle.odd_meaning.specs.Offering.{Inherits, Passes}
 use Rattle.odd_offers.specs.Same.{both, def_same, def_test, first as first_true, second as second_true}
-use Rattle.odd_offers.specs.Tables.{ClashesBy, IsInherited, StandsAt, Table, clashes_at, differ, differ_at, passes_at}
+use Rattle.odd_offers.specs.Tables.{ClashesBy, IsInherited, StandsAt, Table, clashes_with, differ, passes_at}
 use Rattle.odd_offers.specs.declared.table.Offer.{Offer}
 use Rattle.odd_offers.proofs.Lists.{any_stands, stands_any}
+use Rattle.odd_offers.proofs.Named.{found_in}
 use Rattle.odd_offers.proofs.TableOf.{giver_is_class}
 
 -- what is not so is false
@@ -69,24 +70,14 @@ some_passes (Some (Set x)) d r p = elim p [ ]
 some_passes (Some Delete) d r p = elim p [ ]
 some_passes (Some (Change f)) d r p = refl
 
--- what is found is the value of an entry
-find_entry : {V : Type 0} (q : List ℕ) (v : V) (es : List (List ℕ × V)) → find text_cmp q es ≡ Some v → (e : List ℕ × V) × StandsIn es e × (e.0 ≡ q)
-find_entry q v [] h = cc
-find_entry {V = V} q v (e ∷ es) h =
-    elim (eq_by_cmp text_cmp q e.0) as (λ b. eq_by_cmp text_cmp q e.0 ≡ b → cond b (Some e.1) (find text_cmp q es) ≡ Some v → (f : List ℕ × V) × StandsIn (e ∷ es) f × (f.0 ≡ q)) [
-      | true ↦ λ t k. (e, stands_first e es, sym (slice_cmp-IsAntisymmetric nat_cmp-IsAntisymmetric q e.0 ((Equal-is (text_cmp q e.0)).0 t)))
-      | false ↦ λ t k. let r = find_entry q v es k in (r.0, stands_later e r.0 es r.1, r.2)
-    ] refl h
+-- an entry of a table is what is found at its ident
+entry_found : (table : Table) (entry : List ℕ × List Offer) → IsTrue (is_sorted text_cmp table) → StandsIn table entry → find text_cmp entry.0 table ≡ Some entry.1
+entry_found table entry up s =
+    subst (λ es. find text_cmp entry.0 es ≡ Some entry.1) (sym s.2) (found_in s.0 s.1 entry (subst (λ es. T (is_sorted text_cmp es)) s.2 (as_T _ up)))
 
--- what differs at an ident
-differ_of : (o : Option (List Offer)) → differ_at o ≡ true → (one other : AttDef) × (giver other_giver : List ℕ) × StandsAt o one giver × StandsAt o other other_giver × (one ≢ other)
-differ_of None h = cc
-differ_of (Some os) h = let r = differ_two os h in (r.0.def, r.1.def, r.0.giver, r.1.giver, r.2, r.3, r.4)
-
--- two that differ
-of_differ : (o : Option (List Offer)) (one other : AttDef) (giver other_giver : List ℕ) → StandsAt o one giver → StandsAt o other other_giver → one ≢ other → differ_at o ≡ true
-of_differ None one other giver other_giver m n h = absurd m
-of_differ (Some os) one other giver other_giver m n h = two_differ os (record { def = one; giver = giver }) (record { def = other; giver = other_giver }) m n h
+-- and what is found at an ident is an entry
+found_entry : (table : Table) (ident : List ℕ) (offers : List Offer) → find text_cmp ident table ≡ Some offers → StandsIn table (ident, offers)
+found_entry table ident offers h = standing table (ident, offers) (found_contained text_cmp nat_list_cmp_total (slice_cmp-IsAntisymmetric nat_cmp-IsAntisymmetric) ident offers table h)
 
 -- where an offer stands there are offers
 some_of : (o : Option (List Offer)) (d : AttDef) (g : List ℕ) → StandsAt o d g → (os : List Offer) × (o ≡ Some os)
@@ -101,24 +92,27 @@ stands_inherited library part inherited all ident def giver i =
     (g.0, (all ident def g.0).1 (subst (λ k. Inherits library part ident def k) g.1 i))
 
 -- the answer tells whether some attribute clashes
-pub clash_told : (edits : List (List ℕ × AttEdit)) (inherited : Table) (b : Bool) → b ≡ list_any (λ entry. clashes_at edits inherited entry.0) inherited → ClashesBy edits inherited b
-clash_told edits inherited b e library part same all = (
+pub clash_told : (edits : List (List ℕ × AttEdit)) (inherited : Table) (b : Bool) → IsTrue (is_sorted text_cmp inherited) → b ≡ list_any (λ entry. clashes_with edits entry) inherited
+    → ClashesBy edits inherited b
+clash_told edits inherited b up e library part same all = (
   λ h.
-      let r = any_stands (λ (entry : List ℕ × List Offer). clashes_at edits inherited entry.0) inherited (sym e ∙ h) in
+      let r = any_stands (λ (entry : List ℕ × List Offer). clashes_with edits entry) inherited (sym e ∙ h) in
       let ident = r.0.0 in
-      let p = passes_at (find text_cmp ident edits) in
-      let q = differ_at (find text_cmp ident inherited) in
-      let d = differ_of (find text_cmp ident inherited) (second_true p q r.2) in (
+      let p = differ r.0.1 in
+      let q = passes_at (find text_cmp ident edits) in
+      let found = entry_found inherited r.0 up r.1 in
+      let d = differ_two r.0.1 (first_true p q r.2) in
+      let passed = passes_some (find text_cmp ident edits) d.0.def (second_true p q r.2) in (
         ident,
         record {
-          one = d.0;
-          other = d.1;
-          giver = class_key d.2;
-          other_giver = class_key d.3;
-          passes = subst (λ (es : List (List ℕ × AttEdit)). (result : AttDef) × Passes (find text_cmp ident es) d.0 result) (sym same) (passes_some (find text_cmp ident edits) d.0 (first_true p q r.2));
-          first = (all ident d.0 d.2).0 d.4;
-          second = (all ident d.1 d.3).0 d.5;
-          differ = d.6;
+          one = d.0.def;
+          other = d.1.def;
+          giver = class_key d.0.giver;
+          other_giver = class_key d.1.giver;
+          passes = subst (λ (es : List (List ℕ × AttEdit)). (result : AttDef) × Passes (find text_cmp ident es) d.0.def result) (sym same) passed;
+          first = (all ident d.0.def d.0.giver).0 (subst (λ o. StandsAt o d.0.def d.0.giver) (sym found) d.2);
+          second = (all ident d.1.def d.1.giver).0 (subst (λ o. StandsAt o d.1.def d.1.giver) (sym found) d.3);
+          differ = d.4;
         },
       ),
   λ c.
@@ -127,10 +121,10 @@ clash_told edits inherited b e library part same all = (
       let one = stands_inherited library part inherited all ident clash.one clash.giver clash.first in
       let other = stands_inherited library part inherited all ident clash.other clash.other_giver clash.second in
       let os = some_of (find text_cmp ident inherited) clash.one one.0 one.1 in
-      let entry = find_entry ident os.0 inherited os.1 in
+      let differs =
+      two_differ os.0 (record { def = clash.one; giver = one.0 }) (record { def = clash.other; giver = other.0 }) (subst (λ o. StandsAt o clash.one one.0) os.1 one.1)
+      (subst (λ o. StandsAt o clash.other other.0) os.1 other.1) clash.differ in
       let passed = subst (λ (es : List (List ℕ × AttEdit)). Passes (find text_cmp ident es) clash.one clash.passes.0) same clash.passes.1 in
-      e ∙ stands_any (λ (entry : List ℕ × List Offer). clashes_at edits inherited entry.0) inherited entry.0 entry.1
-      (ap (clashes_at edits inherited) entry.2
-      ∙ both (passes_at (find text_cmp ident edits)) (differ_at (find text_cmp ident inherited)) (some_passes (find text_cmp ident edits) clash.one clash.passes.0 passed)
-      (of_differ (find text_cmp ident inherited) clash.one clash.other one.0 other.0 one.1 other.1 clash.differ)),
+      e ∙ stands_any (λ (entry : List ℕ × List Offer). clashes_with edits entry) inherited (ident, os.0) (found_entry inherited ident os.0 os.1)
+      (both (differ os.0) (passes_at (find text_cmp ident edits)) differs (some_passes (find text_cmp ident edits) clash.one clash.passes.0 passed)),
 )

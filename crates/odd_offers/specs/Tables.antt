@@ -96,14 +96,9 @@ abbrev pub differ : List Offer → Bool
 differ [] = false
 differ (offer ∷ offers) = list_any (λ other. not (def_same offer.def other.def)) offers
 
--- there are offers, and they differ
-abbrev pub differ_at : Option (List Offer) → Bool
-differ_at None = false
-differ_at (Some offers) = differ offers
-
--- what is inherited at the ident differs, and the own edit does not set or delete it
-abbrev pub clashes_at : List (List ℕ × AttEdit) → Table → List ℕ → Bool
-clashes_at edits inherited ident = passes_at (find text_cmp ident edits) && differ_at (find text_cmp ident inherited)
+-- the offers of an entry differ, and the own edit does not set or delete what stands at its ident
+abbrev pub clashes_with : List (List ℕ × AttEdit) → List ℕ × List Offer → Bool
+clashes_with edits entry = differ entry.1 && passes_at (find text_cmp entry.0 edits)
 
 -- it is true just where some attribute clashes, in each component that has these edits and inherits just what the table has
 abbrev pub ClashesBy : List (List ℕ × AttEdit) → Table → Bool → Type 0

@@ -5,10 +5,11 @@ ghost use Rattle.std.specs.Option.{option_copied};
 ghost use Rattle.odd_text.specs.Text.{text_cmp};
 ghost use Rattle.odd_meaning.specs.Offering.{edits_of as the_edits_of};
 ghost use Rattle.odd_offers.specs.Same.{def_same};
-ghost use Rattle.odd_offers.specs.Tables.{ClashesBy, clashes_at, differ as the_differ};
+ghost use Rattle.odd_offers.specs.Tables.{ClashesBy, clashes_with, differ as the_differ, passes_at};
 
 use crate::links::edits_of;
-use crate::table::{Offer, Table, have_same_def};
+use crate::shared::Shared;
+use crate::table::{Offer, Offers, Table, have_same_def};
 use odd_attributes::AttEdit;
 use odd_library::Component;
 use odd_text::Text;
@@ -18,32 +19,29 @@ use odd_text::Text;
 pub fn clashes(part: &Component, inherited: &Table) -> bool
     ensures { ClashesBy (the_edits_of part.now) inherited.now result }
 {
-    any_clashes(part, inherited)
+    any_clashes(part, inherited.entries())
 }
 
-// Whether the offers differ at any ident of the table, where the own edit does not set or delete it.
-fn any_clashes(part: &Component, inherited: &Table) -> bool
-    ensures { result ≡ list_any (λ entry. clashes_at (the_edits_of part.now) inherited.now entry.0) inherited.now }
+// Whether the offers differ at any ident of the entries, where the own edit does not set or delete it.
+fn any_clashes(part: &Component, entries: &[(Text, Shared<Offers>)]) -> bool
+    ensures { result ≡ list_any (λ entry. clashes_with (the_edits_of part.now) entry) entries.now }
 {
-    for entry in inherited.entries() {
-        if clashes_for(part, inherited, &entry.0) {
+    for (ident, offers) in entries {
+        if differ(offers.get().as_slice()) && passes(part, ident) {
             return true;
         }
     }
     false
 }
 
-// Whether they differ at the ident.
-fn clashes_for(part: &Component, inherited: &Table, ident: &Text) -> bool
-    ensures { result ≡ clashes_at (the_edits_of part.now) inherited.now ident.now }
+// Whether the own edit of the attribute lets each definition pass.
+fn passes(part: &Component, ident: &Text) -> bool
+    ensures { result ≡ passes_at (find text_cmp ident.now (the_edits_of part.now)) }
 {
-    match edit_of(part, ident) {
-        Some(AttEdit::Set(_)) | Some(AttEdit::Delete) => false,
-        _ => match inherited.find(ident) {
-            Some(offers) => differ(offers.get().as_slice()),
-            None => false,
-        },
-    }
+    !matches!(
+        edit_of(part, ident),
+        Some(AttEdit::Set(_) | AttEdit::Delete)
+    )
 }
 
 // The own edit of the attribute.

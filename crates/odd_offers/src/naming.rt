@@ -32,10 +32,13 @@ fn names_of(alloc: Global, givens: &Givens) -> Result<Names, NoMemory>
     Ok(names)
 }
 
-// Whether a name stands twice among these.
+// Whether a name stands twice among these. Most often they rise, and then none does.
 fn has_twice(alloc: Global, names: Names) -> Result<bool, NoMemory>
     ensures { IfOk result (λ twice. IsTrue twice ↔ IsNamedTwice names) }
 {
+    if do_rise(names.as_slice()) {
+        return Ok(false);
+    }
     let mut seen = BTreeSet::new(alloc);
     for name in names.into_items() {
         if !seen.insert(name)? {
@@ -43,6 +46,13 @@ fn has_twice(alloc: Global, names: Names) -> Result<bool, NoMemory>
         }
     }
     Ok(false)
+}
+
+// Whether each name comes after the one before it.
+fn do_rise(names: &[Name]) -> bool
+    ensures { IsTrue result → IsNamedTwice names.now → ⊥ }
+{
+    names.is_sorted_by(|before, name| before.cmp(name).is_lt())
 }
 
 /// The name of an attribute in documents: its `altIdent`, or else its ident, in its namespace; after `xml:` in that of XML. The

@@ -52,7 +52,7 @@ pub fn doc_of(alloc: Global, text: &str) -> Result<OddDoc, Fault> {
 impl From<OddRefusal> for Fault {
     fn from(refusal: OddRefusal) -> Fault {
         match refusal {
-            OddRefusal::Offence(_) | OddRefusal::NotYet => Fault::Wrong,
+            OddRefusal::Offence(_) => Fault::Wrong,
             OddRefusal::NoMemory => Fault::NoMemory,
         }
     }

@@ -39,6 +39,7 @@ fn library_with(alloc: Global, idents: Words) -> Result<Library, NoMemory> {
         at = at.saturating_add(1);
     }
     let doc = OddDoc {
+        asides: 0,
         ident: text(alloc, "s")?,
         start: words_of(alloc, "a")?,
         entries,

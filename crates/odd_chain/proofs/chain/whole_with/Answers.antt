@@ -3,12 +3,12 @@ use Rattle.std.proofs.lemmas.List.Elements.{All-push}
 use Rattle.std.specs.Prelude.{All}
 use Rattle.odd_library.specs.Formed.{IsFormedDoc}
 use Rattle.odd_chain.specs.Files.{AreDeclared}
-use Rattle.odd_chain.proofs.Merged.{declared_read, one_declared_more, broken_last, pending_last}
+use Rattle.odd_chain.proofs.Merged.{one_declared_more, broken_last}
 use Rattle.odd_chain.proofs.chain.whole_with.Goals as goal
 
 pub returns-in_ok-push-in-Ok-clause-chain : goal.returns-in_ok-push-in-Ok-clause-chain
 returns-in_ok-push-in-Ok-clause-chain c = λ trees first end formed are number.
-    subst (AreDeclared (trees ++ c.args.tree.now ∷ [])) (sym c.in_ok-push-in-Ok.ensures.ok)
+    subst (AreDeclared c.args.aside (trees ++ c.args.tree.now ∷ [])) (sym c.in_ok-push-in-Ok.ensures.ok)
     (one_declared_more trees c.args.tree.now c.args.docs c.in-Ok.doc are (c.in-Ok.ensures.ok first end formed))
 
 pub returns-in_ok-push-in-Ok-clause-formed : goal.returns-in_ok-push-in-Ok-clause-formed
@@ -18,7 +18,3 @@ returns-in_ok-push-in-Ok-clause-formed c = λ first end formed all.
 pub returns-in-Err-Offence-clause-chain : goal.returns-in-Err-Offence-clause-chain
 returns-in-Err-Offence-clause-chain c = λ trees first end formed are number.
     broken_last trees c.args.tree.now c.args.docs c.args.file c.in-Err-Offence.offence are number (c.in-Err-Offence.ensures.offence c.in-Err-Offence.offence first end formed (ap Err c.in-Err-Offence.field-0-is))
-
-pub returns-in-Err-NotYet-clause-chain : goal.returns-in-Err-NotYet-clause-chain
-returns-in-Err-NotYet-clause-chain c = λ trees first end formed are number.
-    pending_last trees c.args.tree.now c.args.file (declared_read trees c.args.docs are) number (c.in-Err-NotYet.ensures.not_yet (ap Err c.in-Err-NotYet.field-0-is))

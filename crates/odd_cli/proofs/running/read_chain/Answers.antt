@@ -15,7 +15,7 @@ use Rattle.odd_cli.proofs.running.read_chain.Goals as goal
 pub loop-name-init : goal.loop-name-init
 loop-name-init g c = record {
   numbered = refl;
-  read = record { trees = []; is_chain = c.new-chain.ensures.empty; many = refl; formed = c.new-chain.ensures.formed; given = λ files h. GiveTrees.none };
+  read = record { trees = []; is_chain = c.new-chain.ensures.empty c.args.aside; many = refl; formed = c.new-chain.ensures.formed; given = λ files h. GiveTrees.none };
   begun = refl;
   few_reads = omega arith;
   whole = λ files h file first last. absurd (omega arith);

@@ -1,23 +1,24 @@
-use Rattle.std.proofs.Common.{◌≡◌, ◌≤◌, ◌+◌, ◌++◌, Some, length, false, true, ap, sym, subst, ◌∙◌, Err, []}
+use Rattle.std.proofs.Common.{◌≡◌, ◌≤◌, ◌+◌, ◌++◌, None, Some, length, false, true, ap, sym, subst, ◌∙◌, Err, []}
 use Rattle.std.proofs.lemmas.List.{append-nil}
 use Rattle.odd_cli.proofs.Answering.{one_text, one_status, silent_complete, silent_text, reads_steady}
 use Rattle.odd_cli.specs.Reply.{Reply}
 use Rattle.odd_cli.specs.declared.status.Status.TheVariants as status
-use Rattle.odd_cli.specs.Running.{IsReplied, IsSilent, IsComplete}
+use Rattle.odd_cli.specs.Note.{note_text}
+use Rattle.odd_cli.specs.Running.{IsReplied, IsSilent, IsComplete, IsNoted}
 use Rattle.odd_cli.proofs.running.run.Goals as goal
 
 pub returns-in-Ok-clause-room : goal.returns-in-Ok-clause-room
 returns-in-Ok-clause-room g c = λ files text s h reply steady fits is.
-    let is_done : status.Done ≡ s = one_status c.args.words.now files c.in-Ok.text text status.Done s (c.in-Ok.ensures.ok files h) reply in
+    let is_done : status.Done ≡ s = one_status c.args.words.now files c.in-Ok.answer.text text status.Done s (c.in-Ok.ensures.ok files h) reply in
     let same : text ≡ c.as_bytes.result.now =
-    one_text c.args.words.now files text c.in-Ok.text (subst (Reply c.args.words.now files text) (sym is_done) reply) (c.in-Ok.ensures.ok files h)
+    one_text c.args.words.now files text c.in-Ok.answer.text (subst (Reply c.args.words.now files text) (sym is_done) reply) (c.in-Ok.ensures.ok files h)
     ∙ sym (c.as_bytes.ensures.value ∙ c.as_str.ensures) in
     let wrong : false ≡ true = c.in-Err-write_whole.ensures.room steady (subst (λ x. length x ≤ g.W.Sink.room c.args.out.now) same fits) in
     cc
 
 pub returns-in-Ok-write_whole-clause-room_taken : goal.returns-in-Ok-write_whole-clause-room_taken
 returns-in-Ok-write_whole-clause-room_taken g c = λ files text h reply steady is.
-    let same : text ≡ c.as_bytes.result.now = one_text c.args.words.now files text c.in-Ok.text reply (c.in-Ok.ensures.ok files h) ∙ sym (c.as_bytes.ensures.value ∙ c.as_str.ensures) in
+    let same : text ≡ c.as_bytes.result.now = one_text c.args.words.now files text c.in-Ok.answer.text reply (c.in-Ok.ensures.ok files h) ∙ sym (c.as_bytes.ensures.value ∙ c.as_str.ensures) in
     subst (λ x. g.W.Sink.room c.write_whole.new.out + length x ≡ g.W.Sink.room c.args.out.now) (sym same) (c.in-Ok-write_whole.ensures.room_taken steady)
 
 pub returns-clause-read_place : goal.returns-clause-read_place
@@ -25,15 +26,15 @@ returns-clause-read_place g c = λ files file h is. c.in-Err.ensures.read_place 
 
 pub returns-in-Ok-write_whole-clause-one : goal.returns-in-Ok-write_whole-clause-one
 returns-in-Ok-write_whole-clause-one g c = λ files before text s h b replied reply.
-    let is_done : status.Done ≡ s = one_status c.args.words.now files c.in-Ok.text text status.Done s (c.in-Ok.ensures.ok files h) reply in
+    let is_done : status.Done ≡ s = one_status c.args.words.now files c.in-Ok.answer.text text status.Done s (c.in-Ok.ensures.ok files h) reply in
     let same : c.as_bytes.result.now ≡ text =
-    c.as_bytes.ensures.value ∙ c.as_str.ensures ∙ one_text c.args.words.now files c.in-Ok.text text (c.in-Ok.ensures.ok files h) (subst (Reply c.args.words.now files text) (sym is_done) reply) in
+    c.as_bytes.ensures.value ∙ c.as_str.ensures ∙ one_text c.args.words.now files c.in-Ok.answer.text text (c.in-Ok.ensures.ok files h) (subst (Reply c.args.words.now files text) (sym is_done) reply) in
     (c.noted.ensures.same ∙ is_done, c.in-Ok-write_whole.ensures.whole before b ∙ ap (λ t. Some (before ++ t)) same)
 
 pub returns-in-Ok-clause-complete_steady : goal.returns-in-Ok-clause-complete_steady
 returns-in-Ok-clause-complete_steady g c = λ files h sound shelf_steady steady fits.
-    let same : c.in-Ok.text ≡ c.as_bytes.result.now = sym (c.as_bytes.ensures.value ∙ c.as_str.ensures) in
-    let wrong : false ≡ true = c.in-Err-write_whole.ensures.room steady (subst (λ x. length x ≤ g.W.Sink.room c.args.out.now) same (fits c.in-Ok.text (c.in-Ok.ensures.ok files h))) in
+    let same : c.in-Ok.answer.text ≡ c.as_bytes.result.now = sym (c.as_bytes.ensures.value ∙ c.as_str.ensures) in
+    let wrong : false ≡ true = c.in-Err-write_whole.ensures.room steady (subst (λ x. length x ≤ g.W.Sink.room c.args.out.now) same (fits c.in-Ok.answer.text (c.in-Ok.ensures.ok files h))) in
     cc
 
 pub returns-clause-complete : goal.returns-clause-complete
@@ -55,3 +56,22 @@ returns-clause-one g c = λ files before text s h b replied reply.
     one_status c.args.words.now files [] text c.in-Err.status s (c.in-Err.ensures.err files h (subst IsReplied c.noted-in-Err.ensures.same replied)) reply in
     let empty : text ≡ [] = silent_text c.args.words.now files text s (subst IsSilent same c.in-Err.ensures.early) reply in
     (c.noted-in-Err.ensures.same ∙ same, b ∙ ap Some (sym (ap (λ t. before ++ t) empty ∙ append-nil before)))
+
+pub returns-in-Ok-write_whole-clause-accepts : goal.returns-in-Ok-write_whole-clause-accepts
+returns-in-Ok-write_whole-clause-accepts g c = λ files before h b is.
+    let same : c.as_bytes.result.now ≡ c.in-Ok.answer.text = c.as_bytes.ensures.value ∙ c.as_str.ensures in
+    (c.in-Ok.answer.text, c.in-Ok-write_whole.ensures.whole before b ∙ ap (λ t. Some (before ++ t)) same, c.in-Ok.ensures.accepts files h)
+
+pub returns-in-Ok-write_whole-clause-note : goal.returns-in-Ok-write_whole-clause-note
+returns-in-Ok-write_whole-clause-note g c = λ before e. (
+  c.in-Ok.answer.asides,
+  subst (λ s. IsNoted before (note_text s c.in-Ok.answer.asides) (g.N.Sink.written c.noted.new.note) (g.N.Sink.faults c.args.note.now) (g.N.Sink.faults c.noted.new.note)) (sym c.noted.ensures.same) (c.noted.ensures.note before e),
+  λ files h is. c.in-Ok.ensures.asides files h,
+)
+
+pub returns-clause-note : goal.returns-clause-note
+returns-clause-note g c = λ before e. (
+  None,
+  subst (λ s. IsNoted before (note_text s None) (g.N.Sink.written c.noted-in-Err.new.note) (g.N.Sink.faults c.args.note.now) (g.N.Sink.faults c.noted-in-Err.new.note)) (sym c.noted-in-Err.ensures.same) (c.noted-in-Err.ensures.note before e),
+  λ files h is. absurd (subst IsSilent (sym c.noted-in-Err.ensures.same ∙ is) c.in-Err.ensures.early),
+)

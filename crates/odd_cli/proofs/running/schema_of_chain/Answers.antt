@@ -1,6 +1,6 @@
 use Rattle.std.proofs.Common.{ap, Err}
 use Rattle.std.proofs.lemmas.Result.{IfErr-weaker}
-use Rattle.odd_cli.proofs.Coming.{error_comes, pending_come, refused_come, schema_accepts, schema_comes}
+use Rattle.odd_cli.proofs.Coming.{error_comes, refused_come, schema_accepts, schema_comes}
 use Rattle.odd_cli.proofs.running.schema_of_chain.Goals as goal
 
 pub returns-in-Ok-clause-ok : goal.returns-in-Ok-clause-ok
@@ -17,9 +17,4 @@ returns-in-Err-Offence-clause-err c =
     let o = c.in-Err-Offence.offence in
     let is = ap Err c.in-Err-Offence.field-0-is in
     rw c.in-Err-Offence.field-0-is
-    (λ trees of many replied. refused_come trees o (c.in-Err-Offence.ensures.all_read o is trees of) (c.in-Err-Offence.ensures.offence o is trees of))
-
-pub returns-in-Err-NotYet-clause-err : goal.returns-in-Err-NotYet-clause-err
-returns-in-Err-NotYet-clause-err c =
-    let file = c.in-Err-NotYet.file in
-    rw c.in-Err-NotYet.field-0-is (λ trees of many replied. pending_come trees file (c.in-Err-NotYet.ensures.not_yet file (ap Err c.in-Err-NotYet.field-0-is) trees of))
+    (λ aside trees of many replied. refused_come aside trees o (c.in-Err-Offence.ensures.offence o is aside trees of))

@@ -1,43 +1,56 @@
-use Rattle.std.proofs.Common.{◌≡◌, subst}
-use Rattle.std.proofs.lemmas.Bool.{both_ways}
-use Rattle.odd_decls.specs.Pending.{form}
-use Rattle.odd_decls.specs.declared.reading.Read.TheVariants as read
-use Rattle.odd_decls.proofs.FormedDocs.{doc_formed}
-use Rattle.odd_decls.proofs.Refusing.{IsFileRead, declares_of, file_read, none_pending, offence_of, refusal_of, told_as}
+use Rattle.std.proofs.Common.{◌≡◌, ℕ, ap, arith, length, subst, sym}
+use Rattle.std.proofs.lemmas.Result.{IfOk-weaker}
+use Rattle.odd_tree.specs.Formed.{IsFormed}
+use Rattle.odd_items.specs.Groups.{IsItemIn}
+use Rattle.odd_items.specs.Listing.{AreItems}
+use Rattle.odd_decls.specs.Aside.{IsReadOf, whole}
+use Rattle.odd_decls.specs.Declares.{Declares}
+use Rattle.odd_decls.proofs.ReadWith.{declares_with, formed_read, places_left, refused_with}
 use Rattle.odd_decls.proofs.reading.read_odd.Goals as goal
 
-pub returns-then-is_pending-clause-not_yet : goal.returns-then-is_pending-clause-not_yet
-returns-then-is_pending-clause-not_yet c e = form (c.is_pending.ensures.0 c.if-is_pending.true)
+pub returns-then-not-aside-clause-ok : goal.returns-then-not-aside-clause-ok
+returns-then-not-aside-clause-ok c = λ first end formed.
+    let t = c.args.tree.now in
+    let is : IsReadOf t c.args.aside t 0 = subst (λ b. IsReadOf t b t 0) (sym c.if-not-aside.true) whole in
+    IfOk-weaker c.read_whole.result _ (Declares t c.args.aside) (declares_with t t c.args.aside 0 is) (c.read_whole.ensures.ok first end formed)
 
-pub returns-in_default-clause-not_yet : goal.returns-in_default-clause-not_yet
-returns-in_default-clause-not_yet c e =
-    none_pending c.args.tree.now c.new-schemas.result.items c.find_schemas.new.found.items c.as_slice.result.now c.new-schemas.ensures.items c.in_ok-find_schemas.ensures c.as_slice.ensures.value
-    c.in_default.len_below
+pub returns-then-not-aside-clause-offence : goal.returns-then-not-aside-clause-offence
+returns-then-not-aside-clause-offence c = λ offence first end formed e.
+    let t = c.args.tree.now in
+    let is : IsReadOf t c.args.aside t 0 = subst (λ b. IsReadOf t b t 0) (sym c.if-not-aside.true) whole in
+    refused_with t t c.args.aside 0 c.args.file offence is (c.read_whole.ensures.offence offence first end formed e)
 
-pub returns-in-Doc-clause-ok : goal.returns-in-Doc-clause-ok
-returns-in-Doc-clause-ok c first end formed =
-    let file = file_read c.args.tree.now c.in_ok-doc.field-0 c.new-schemas.result.items c.find_schemas.new.found.items c.as_slice.result.now c.schema-item.result
-    (λ h. both_ways c.is_pending.result c.if-is_pending.false (c.is_pending.ensures.1 h)) c.new-schemas.ensures.items c.in_ok-find_schemas.ensures c.as_slice.ensures.value
-    c.in-len1-up.len_at_least c.schema-item.is c.in_ok-doc.ensures in
-    declares_of first end c.args.tree.now c.in-Doc.doc formed (subst (IsFileRead c.args.tree.now) c.in-Doc.is file)
+-- with `aside` a formed file is read as what is left of it
+left_read : (c : goal.After-drop-of-6) → (first end : ℕ) → IsFormed first end c.args.tree.now → IsReadOf c.args.tree.now c.args.aside c.in_ok-left.left c.len.result
+left_read c first end formed =
+    let t = c.args.tree.now in
+    let left = c.in_ok-left.left in
+    let of = c.in_ok-of.of in
+    let are = c.in_ok-of.ensures first end formed in
+    let items = subst (λ items. AreItems of.levels.items items (IsItemIn t are.schemas)) (sym c.as_slice.ensures.value) are.items in
+    let adds = c.in_ok-places.ensures t are.schemas of.levels.items items in
+    let gone = c.in_ok-left.ensures in
+    let counted : gone.0 ≡ c.len.result = omega (arith, c.len.ensures, gone.2, ap length c.new-gone.ensures.items) in
+    let is = places_left first end t left are.schemas c.in_ok-places.places.keys gone.0 formed are.finds adds gone.1 in
+    subst (IsReadOf t c.args.aside left) counted (subst (λ b. IsReadOf t b left gone.0) (sym c.if-not-aside.false) is)
 
-pub returns-in-Doc-clause-formed : goal.returns-in-Doc-clause-formed
-returns-in-Doc-clause-formed c first end formed = doc_formed c.args.tree.now c.in-Doc.doc first end formed (returns-in-Doc-clause-ok c first end formed)
-
--- what is read where a rule is broken
-broken_file : (c : goal.After-drop-schemas-2) → IsFileRead c.args.tree.now (read.Broken c.in-Broken.fault)
-broken_file c =
-    subst (IsFileRead c.args.tree.now) c.in-Broken.is
-    (file_read c.args.tree.now c.in_ok-doc.field-0 c.new-schemas.result.items c.find_schemas.new.found.items c.as_slice.result.now c.schema-item.result
-    (λ h. both_ways c.is_pending.result c.if-is_pending.false (c.is_pending.ensures.1 h)) c.new-schemas.ensures.items c.in_ok-find_schemas.ensures c.as_slice.ensures.value
-    c.in-len1-up.len_at_least c.schema-item.is c.in_ok-doc.ensures)
-
-pub returns-clause-offends : goal.returns-clause-offends
-returns-clause-offends c offence e =
-    let same : told_as c.args.file c.in-Broken.fault ≡ offence = cc in
-    offence_of c.args.tree.now c.args.file c.in-Broken.fault offence (broken_file c) same
+pub returns-clause-ok : goal.returns-clause-ok
+returns-clause-ok c = λ first end formed.
+    let t = c.args.tree.now in
+    let left = c.in_ok-left.left in
+    let is = left_read c first end formed in
+    IfOk-weaker c.read_whole-2.result _ (Declares t c.args.aside) (declares_with t left c.args.aside c.len.result is)
+    (c.read_whole-2.ensures.ok first end (formed_read first end t left c.args.aside c.len.result formed is))
 
 pub returns-clause-offence : goal.returns-clause-offence
-returns-clause-offence c offence first end formed e =
-    let same : told_as c.args.file c.in-Broken.fault ≡ offence = cc in
-    refusal_of first end c.args.tree.now c.args.file c.in-Broken.fault offence formed (broken_file c) same
+returns-clause-offence c = λ offence first end formed e.
+    let t = c.args.tree.now in
+    let left = c.in_ok-left.left in
+    let is = left_read c first end formed in
+    refused_with t left c.args.aside c.len.result c.args.file offence is
+    (c.read_whole-2.ensures.offence offence first end (formed_read first end t left c.args.aside c.len.result formed is) e)
+
+pub returns-clause-formed : goal.returns-clause-formed
+returns-clause-formed c = λ first end formed.
+    c.read_whole-2.ensures.formed first end
+    (formed_read first end c.args.tree.now c.in_ok-left.left c.args.aside c.len.result formed (left_read c first end formed))

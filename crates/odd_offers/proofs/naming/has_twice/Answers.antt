@@ -1,7 +1,11 @@
-use Rattle.std.proofs.Common.{◌≡◌, [], refl, sym, ◌∙◌}
+use Rattle.std.proofs.Common.{◌≡◌, [], refl, subst, sym, ◌∙◌}
 use Rattle.std.proofs.lemmas.List.{nil_from_length}
+use Rattle.odd_offers.specs.Names.{IsNamedTwice}
 use Rattle.odd_offers.proofs.AlikeNames.{alike_seen, none_alike, none_seen, value_seen}
 use Rattle.odd_offers.proofs.naming.has_twice.Goals as goal
+
+pub returns-then-do_rise : goal.returns-then-do_rise
+returns-then-do_rise c = (λ h. cc, λ s. absurd (c.do_rise.ensures c.if-do_rise.true (subst IsNamedTwice (sym c.as_slice.ensures) s)))
 
 pub loop-name-init : goal.loop-name-init
 loop-name-init c = none_seen c.args.names _ _ (cc) c.new-seen.ensures.empty

@@ -2,4 +2,4 @@ use Rattle.odd_chain.specs.Files.{none}
 use Rattle.odd_chain.proofs.chain.Chain.new.Goals as goal
 
 pub returns-clause-empty : goal.returns-clause-empty
-returns-clause-empty c = rw c.new.ensures none
+returns-clause-empty c = λ aside. rw c.new.ensures none

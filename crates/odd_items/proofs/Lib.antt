@@ -1,0 +1,13 @@
+pub mod Added
+pub mod ByNames
+pub mod Grown
+pub mod Held
+pub mod Holders
+pub mod Levels
+pub mod MarksSet
+pub mod Placed
+pub mod Places
+pub mod Referring
+pub mod Remaining
+pub mod SoFar
+pub mod Standing

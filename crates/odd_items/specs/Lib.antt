@@ -1,0 +1,12 @@
+pub mod Adding
+pub mod Arrows
+pub mod Groups
+pub mod Held
+pub mod Holding
+pub mod Ids
+pub mod Left
+pub mod Listing
+pub mod Search
+pub mod Searching
+pub mod Steps
+pub mod Without
