@@ -1145,6 +1145,12 @@ def refusal(files):
     return None
 
 
+def done(files, aside, root):
+    """The answer that this is written."""
+    note = f"odd: set aside {sum(file.asides for file in files)}\n" if aside else ""
+    return Answer(0, note, '<?xml version="1.0" encoding="UTF-8"?>\n' + written(root))
+
+
 def compiled(files, aside):
     """The answer to a chain that has no offence."""
     start, library, kept = library_of(files)
@@ -1154,18 +1160,17 @@ def compiled(files, aside):
     grammar = grammar_of(start, library, kept)
     if grammar.size > MOST_NODES:
         return Answer(5, "odd: limit nodes\n", "")
-    note = f"odd: set aside {sum(file.asides for file in files)}\n" if aside else ""
-    return Answer(0, note, '<?xml version="1.0" encoding="UTF-8"?>\n' + written(grammar))
+    return done(files, aside, grammar)
 
 
-def answer(chain, aside):
-    """What the documents say of the chain, with the word `aside` before `compile` or without it."""
+def answer(chain, aside, command=compiled):
+    """What the documents say of the chain, with the word `aside` before the command or without it. The command answers where there is no offence."""
     if len(chain) > 16:
         return Answer(5, "odd: limit files\n", "")
     if missing := unread(chain):
         return missing
     files = [read(data, aside) for data in chain]
-    return refusal(files) or compiled(files, aside)
+    return refusal(files) or command(files, aside)
 
 
 # The comparison.

@@ -1,4 +1,5 @@
-//! A chain of ODD files: what its files declare, and the library after all of them, or the first offence.
+//! A chain of ODD files: what its files declare, and the library after all of them, or the first offence; and the merged ODD that
+//! stands for the chain.
 #![tactic(auto)]
 
 mod chain;
@@ -6,3 +7,4 @@ mod merging;
 
 pub use chain::{Chain, ChainRefusal};
 pub use merging::{OddDocs, merge};
+pub use odd_emit::print_odd;

@@ -2,7 +2,7 @@
 use Rattle.std.proofs.Common.{◌≡◌, ◌<◌, ◌+◌, ℕ, suc, List, [], ◌∷◌, ◌++◌, length, get_or, take, drop, Option, Some, Result, Ok, Err, ◌⊎◌, inl, inr, sym, ap, subst, ◌∙◌, add-one, arith, below_more, length-append, ◌≤◌, ◌*◌, refl}
 use Rattle.std.proofs.lemmas.List.{length-take-le, take-append-drop}
 use Rattle.std.proofs.lemmas.Result.{IfErr-weaker, IfOk-weaker}
-use Rattle.std.specs.Prelude.{Bool, true, false, codes, IfErr, IfOk, IsTrue, OnOk}
+use Rattle.std.specs.Prelude.{Bool, true, false, IfErr, IfOk, IsTrue, OnOk}
 use Rattle.odd_base.specs.Shelf.{FileMap, Held, LeavesSuffix, NotHeld}
 use Rattle.odd_chain.proofs.Files.{few_docs}
 use Rattle.odd_chain.specs.Reading.{AreFormedDocs, IsChainOf, HasFewDocs}
@@ -15,8 +15,10 @@ use Rattle.odd_cli.proofs.OneReply.{names_one, none_stops, one_chain, words_one,
 use Rattle.odd_cli.specs.Outcome.{answers, gives}
 use Rattle.odd_cli.specs.Reading.{IsChainRead, IsOfFile, IsOfTrees, IsTreeRead, StopsAt}
 use Rattle.odd_cli.specs.Reply.{FileGives, FileStops, GiveTrees, IsReached, ReadsChain, stops, NamesFiles, Reply, TreesComeTo, answered, chain_files, done, file_bytes, WordsComeTo}
-use Rattle.odd_cli.specs.Running.{AreBegun, AreReadWhole, BeginsFiles, GoesOn, IsFaultPlace, IsReplied, counted, AcceptsOfTrees, AcceptsOfWords, AsidesOfTrees, AsidesOfWords, IsReadPlace, IsComplete, IsSilent, IsSound}
-use Rattle.odd_cli.specs.Words.{Compiles, WordsMean, compile, files_named, with_aside}
+use Rattle.odd_cli.specs.Running.{AreBegun, AreReadWhole, BeginsFiles, GoesOn, IsFaultPlace, IsReplied, counted, AcceptsIfSchema, AcceptsOfWords, AsidesOfTrees, AsidesOfWords, IsReadPlace, IsComplete, IsSilent, IsSound}
+use Rattle.odd_cli.specs.Words.{Asks, WordsMean, command_word, files_named, of_chain, with_aside}
+use Rattle.odd_cli.specs.declared.words.Command.{Command}
+use Rattle.odd_cli.specs.declared.words.Command.TheVariants as command
 use Rattle.odd_cli.specs.declared.running.Answer.{Answer}
 use Rattle.odd_cli.specs.declared.status.LimitKind.TheVariants as limit
 use Rattle.odd_cli.specs.declared.status.Status.{Status}
@@ -130,56 +132,61 @@ module _ {S : Type 0} (holds : S → Option FileMap) (steady : S → Bool) (faul
       (λ from. (new, count, ended, goes_later old between new p q, (refl, refl, omega arith, omega arith, omega arith))) file (omega arith) first
 
 -- the words after the command are the files
-files_are : (aside : Bool) (names : List (List ℕ)) → files_named (with_aside aside (codes "compile" ∷ names)) ≡ length names
-files_are true names = omega arith
-files_are false names = refl
+files_are : (asked : Command) (aside : Bool) (names : List (List ℕ)) → files_named (with_aside aside (command_word asked ∷ names)) ≡ length names
+files_are command.Merge true names = omega arith
+files_are command.Merge false names = refl
+files_are command.Compile true names = omega arith
+files_are command.Compile false names = refl
 
 -- the files that words name: how many there are, and that they are those of the job
-module _ (words : List (List ℕ)) (aside : Bool) (names : List (List ℕ)) where
-  pub named_compile : NamesFiles words (gives (aside, names)) → Compiles words aside names
-  named_compile (NamesFiles.named c few) = c
+module _ (words : List (List ℕ)) (asked : Command) (aside : Bool) (names : List (List ℕ)) where
+  pub named_asks : NamesFiles words (gives (asked, aside, names)) → Asks words asked aside names
+  named_asks (NamesFiles.named c few) = c
 
-  pub named_few : NamesFiles words (gives (aside, names)) → length names ≤ chain_files
+  pub named_few : NamesFiles words (gives (asked, aside, names)) → length names ≤ chain_files
   named_few (NamesFiles.named c few) = few
 
-  pub named_many : NamesFiles words (gives (aside, names)) → length names ≡ files_named words
-  named_many (NamesFiles.named c few) = sym (ap files_named c.words_are ∙ files_are aside names)
+  pub named_many : NamesFiles words (gives (asked, aside, names)) → length names ≡ files_named words
+  named_many (NamesFiles.named c few) = sym (ap files_named c.words_are ∙ files_are asked aside names)
 
-  pub named_job : NamesFiles words (gives (aside, names)) → ((job : Job) → WordsMean words job → ⊥) → ⊥
-  named_job (NamesFiles.named c few) none = none _ (compile aside names c refl)
+  pub named_job : NamesFiles words (gives (asked, aside, names)) → ((job : Job) → WordsMean words job → ⊥) → ⊥
+  named_job (NamesFiles.named c few) none = none _ (of_chain asked aside names c refl)
 
 -- words that name no files have no job, or too many
 pub usage_named : (words : List (List ℕ)) (s : Status) → NamesFiles words (answers s) → s ≡ status.Usage → (job : Job) → WordsMean words job → ⊥
 usage_named words s (NamesFiles.no_job none) e = none
-usage_named words s (NamesFiles.too_many aside chain c many) e = cc
+usage_named words s (NamesFiles.too_many asked aside chain c many) e = cc
 
 pub named_usage : (words : List (List ℕ)) (s : Status) → NamesFiles words (answers s) → ((job : Job) → WordsMean words job → ⊥) → s ≡ status.Usage
 named_usage words s (NamesFiles.no_job none) e = refl
-named_usage words s (NamesFiles.too_many aside chain c many) none = absurd (none _ (compile aside chain c refl))
+named_usage words s (NamesFiles.too_many asked aside chain c many) none = absurd (none _ (of_chain asked aside chain c refl))
 
 -- they answer one status, and none where they name files
 pub named_answer : (words : List (List ℕ)) (s r : Status) → NamesFiles words (answers s) → NamesFiles words (answers r) → s ≡ r
 named_answer words s r n m = let same = names_one words (answers s) (answers r) n m in cc
 
-pub named_none : (words : List (List ℕ)) (aside : Bool) (names : List (List ℕ)) (s : Status) → NamesFiles words (gives (aside, names)) → NamesFiles words (answers s) → ⊥
-named_none words aside names s n m = let no = names_one words (gives (aside, names)) (answers s) n m in cc
+pub named_none : (words : List (List ℕ)) (asked : Command) (aside : Bool) (names : List (List ℕ)) (s : Status) → NamesFiles words (gives (asked, aside, names)) → NamesFiles words (answers s) → ⊥
+named_none words asked aside names s n m = let no = names_one words (gives (asked, aside, names)) (answers s) n m in cc
 
-module _ (holds : Option FileMap) (words : List (List ℕ)) (aside : Bool) (names : List (List ℕ)) (chain : Chain) (n : NamesFiles words (gives (aside, names)))
+module _ (holds : Option FileMap) (words : List (List ℕ)) (asked : Command) (aside : Bool) (names : List (List ℕ)) (chain : Chain) (n : NamesFiles words (gives (asked, aside, names)))
     (r : IsChainRead aside holds names chain) where
   pub few_read : HasFewDocs chain
-  few_read = few_docs aside chain r.trees r.is_chain (omega (arith, r.many, named_few words aside names n))
+  few_read = few_docs aside chain r.trees r.is_chain (omega (arith, r.many, named_few words asked aside names n))
 
   pub text_comes : (files : FileMap) → holds ≡ Some files → (t : Result Answer Status)
-      → IfOk t (λ answer. (trees : List Tree) → IsChainOf aside chain trees → TreesComeTo aside trees (gives answer.text)) → IfOk t (λ answer. Reply words files answer.text status.Done)
-  text_comes files h t = IfOk-weaker t _ _ (λ answer come. done ((aside, names), n, (r.trees, ReadsChain.all_spelled (r.given files h), come r.trees r.is_chain)))
+      → IfOk t (λ answer. (trees : List Tree) → IsChainOf aside chain trees → length names ≡ length trees → TreesComeTo asked aside trees (gives answer.text))
+      → IfOk t (λ answer. Reply words files answer.text status.Done)
+  text_comes files h t =
+      IfOk-weaker t _ _ (λ answer come. done ((asked, aside, names), n, (r.trees, ReadsChain.all_spelled (r.given files h), come r.trees r.is_chain (sym r.many))))
 
   pub text_accepts : (files : FileMap) → holds ≡ Some files → (t : Result Answer Status)
-      → IfOk t (λ answer. (trees : List Tree) → IsChainOf aside chain trees → AcceptsOfTrees aside trees answer.text) → IfOk t (λ answer. AcceptsOfWords words files answer.text)
+      → IfOk t (λ answer. (trees : List Tree) → IsChainOf aside chain trees → AcceptsIfSchema asked aside trees answer.text) → IfOk t (λ answer. AcceptsOfWords words files answer.text)
   text_accepts files h t = IfOk-weaker t _ _ (λ answer accepts. record {
-    chain = names;
+    asked = asked;
     aside = aside;
-    compiles = named_compile words aside names n;
-    within = named_few words aside names n;
+    chain = names;
+    asks = named_asks words asked aside names n;
+    within = named_few words asked aside names n;
     trees = r.trees;
     given = r.given files h;
     right = accepts r.trees r.is_chain;
@@ -188,30 +195,31 @@ module _ (holds : Option FileMap) (words : List (List ℕ)) (aside : Bool) (name
   pub asides_told : (files : FileMap) → holds ≡ Some files → (t : Result Answer Status)
       → IfOk t (λ answer. (trees : List Tree) → IsChainOf aside chain trees → AsidesOfTrees aside trees answer.asides) → IfOk t (λ answer. AsidesOfWords words files answer.asides)
   asides_told files h t = IfOk-weaker t _ _ (λ answer told. record {
-    chain = names;
+    asked = asked;
     aside = aside;
-    compiles = named_compile words aside names n;
+    chain = names;
+    asks = named_asks words asked aside names n;
     trees = r.trees;
     given = r.given files h;
     told = told r.trees r.is_chain;
   })
 
   pub status_comes : (files : FileMap) → holds ≡ Some files → (t : Result Answer Status)
-      → IfErr t (λ s. (trees : List Tree) → IsChainOf aside chain trees → length names ≡ length trees → IsReplied s → TreesComeTo aside trees (answers s))
+      → IfErr t (λ s. (trees : List Tree) → IsChainOf aside chain trees → length names ≡ length trees → IsReplied s → TreesComeTo asked aside trees (answers s))
       → IfErr t (λ s. IsReplied s → Reply words files [] s)
   status_comes files h t = IfErr-weaker t _ _
-      (λ s come replied. answered (inr ((aside, names), n, inr (r.trees, ReadsChain.all_spelled (r.given files h), come r.trees r.is_chain (sym r.many) replied))))
+      (λ s come replied. answered (inr ((asked, aside, names), n, inr (r.trees, ReadsChain.all_spelled (r.given files h), come r.trees r.is_chain (sym r.many) replied))))
 
 -- a file of the chain that was not read
-pub fault_placed : (words : List (List ℕ)) (aside : Bool) (names : List (List ℕ)) (files : FileMap) (number : ℕ) (rest : Option (List ℕ)) (steady : Bool)
-    → NamesFiles words (gives (aside, names)) → IsFaultPlace names files number rest steady → IsReadPlace words files number rest steady
-fault_placed words aside names files number rest steady n p =
-    record { chain = names; aside = aside; compiles = named_compile words aside names n; within = named_few words aside names n; place = p }
+pub fault_placed : (words : List (List ℕ)) (asked : Command) (aside : Bool) (names : List (List ℕ)) (files : FileMap) (number : ℕ) (rest : Option (List ℕ)) (steady : Bool)
+    → NamesFiles words (gives (asked, aside, names)) → IsFaultPlace names files number rest steady → IsReadPlace words files number rest steady
+fault_placed words asked aside names files number rest steady n p =
+    record { asked = asked; aside = aside; chain = names; asks = named_asks words asked aside names n; within = named_few words asked aside names n; place = p }
 
 -- the status of a file that was not read
-pub stop_comes : (files : FileMap) (words : List (List ℕ)) (aside : Bool) (names : List (List ℕ)) (s : Status) → NamesFiles words (gives (aside, names))
+pub stop_comes : (files : FileMap) (words : List (List ℕ)) (asked : Command) (aside : Bool) (names : List (List ℕ)) (s : Status) → NamesFiles words (gives (asked, aside, names))
     → (IsReplied s → ReadsChain files names (answers s)) → IsReplied s → Reply words files [] s
-stop_comes files words aside names s n reads replied = answered (inr ((aside, names), n, inl (reads replied)))
+stop_comes files words asked aside names s n reads replied = answered (inr ((asked, aside, names), n, inl (reads replied)))
 
 -- what is said of the schema, whatever comes of it
 pub on_any : (r : Result Answer Status) (P : Type 0) → P → OnOk r P
@@ -219,14 +227,14 @@ on_any (Ok answer) P p = p
 on_any (Err s) P p = tt
 
 -- How many files are begun
-module _ (words : List (List ℕ)) (aside : Bool) (names : List (List ℕ)) (n : NamesFiles words (gives (aside, names))) (begins_old begins_new reads_old reads_new : ℕ) where
+module _ (words : List (List ℕ)) (asked : Command) (aside : Bool) (names : List (List ℕ)) (n : NamesFiles words (gives (asked, aside, names))) (begins_old begins_new reads_old reads_new : ℕ) where
   pub begun_on_err : (r : Result Answer Status) → begins_new ≡ counted begins_old (length names) → reads_new ≤ reads_old + length names * (file_bytes + 1) → IfErr r IsOfTrees
       → IfErr r (λ s. BeginsFiles s (files_named words) begins_old begins_new reads_old reads_new)
-  begun_on_err r e few = IfErr-weaker r _ _ (λ s of. subst (λ files. BeginsFiles s files begins_old begins_new reads_old reads_new) (named_many words aside names n)
+  begun_on_err r e few = IfErr-weaker r _ _ (λ s of. subst (λ files. BeginsFiles s files begins_old begins_new reads_old reads_new) (named_many words asked aside names n)
       (record { begun = length names; are_begun = all_begun (length names) s of; count = e; few_reads = few }))
 
   pub begun_stopped : (s : Status) → StopsAt (length names) s begins_old begins_new reads_old reads_new → BeginsFiles s (files_named words) begins_old begins_new reads_old reads_new
-  begun_stopped s stop = subst (λ files. BeginsFiles s files begins_old begins_new reads_old reads_new) (named_many words aside names n)
+  begun_stopped s stop = subst (λ files. BeginsFiles s files begins_old begins_new reads_old reads_new) (named_many words asked aside names n)
       (record { begun = stop.0; are_begun = stopped_begun (length names) stop.0 s stop.1 stop.2; count = stop.3; few_reads = stop.4 })
 
 -- the reply has one status
@@ -262,7 +270,7 @@ silent_complete words files s sound silent reply read = absurd (sound_replies wo
 pub reads_steady : (words : List (List ℕ)) (files : FileMap) (number : ℕ) (rest : Option (List ℕ)) (steady : Bool) → IsSound words files
     → IsReadPlace words files number rest steady → IsTrue steady → ⊥
 reads_steady words files number rest steady sound p is =
-    let chains = one_chain words p.aside sound.aside p.chain sound.chain p.compiles sound.compiles in
+    let chains = one_chain words p.asked sound.asked p.aside sound.aside p.chain sound.chain p.asks sound.asks in
     let reached = p.place.reached in
     none_stops files sound.chain sound.trees p.place.name number (status.ReadFault number) sound.given (reached.earlier, reached.later, sym chains ∙ reached.parts)
     (FileStops.not_held (p.place.not_held is))

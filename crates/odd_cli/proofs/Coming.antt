@@ -1,8 +1,7 @@
 -- What the trees of a chain come to.
-use Rattle.std.proofs.Common.{◌≡◌, ℕ, Bool, List, Result, Ok, Err, inl, inr, ap, subst, sym, ◌∙◌, length}
-use Rattle.std.proofs.lemmas.Result.{IfOk-weaker}
-use Rattle.std.specs.Prelude.{IfOk, OnOk}
-use Rattle.compile_defines.specs.Compiled.{HoldsStart}
+use Rattle.std.proofs.Common.{◌≡◌, ℕ, Bool, List, Result, Ok, Err, inl, inr, subst, length}
+use Rattle.std.proofs.lemmas.Result.{IfErr-weaker, IfOk-weaker}
+use Rattle.std.specs.Prelude.{IfErr, IfOk}
 use Rattle.odd_chain.specs.Files.{Gives, IsChainRefusal}
 use Rattle.odd_chain.specs.Reading.{IsChainOf}
 use Rattle.odd_chain.specs.declared.chain.Chain.{Chain}
@@ -10,36 +9,42 @@ use Rattle.odd_library.specs.declared.library.Library.{Library}
 use Rattle.odd_text.specs.declared.offence.Offence.{Offence}
 use Rattle.odd_tree.specs.declared.tree.Tree.{Tree}
 use Rattle.odd_cli.specs.Outcome.{answers, gives}
-use Rattle.odd_cli.specs.Reading.{IsStartError}
-use Rattle.odd_cli.specs.Reply.{HasSchema, Merges, TreesComeTo, start_offence}
-use Rattle.odd_cli.specs.Running.{AcceptsAdmitted, AcceptsOfTrees, IsReplied}
-use Rattle.odd_cli.specs.declared.status.LimitKind.TheVariants as limit
+use Rattle.odd_cli.specs.Reply.{HasText, Merges, TreesComeTo}
+use Rattle.odd_cli.specs.Running.{AcceptsIfAdmitted, AcceptsIfSchema, IsReplied}
 use Rattle.odd_cli.specs.declared.status.Status.{Status}
 use Rattle.odd_cli.specs.declared.status.Status.TheVariants as status
+use Rattle.odd_cli.specs.declared.words.Command.{Command}
+use Rattle.odd_cli.specs.declared.words.Command.TheVariants as command
 
 -- an offence
-pub refused_come : (aside : Bool) (trees : List Tree) (offence : Offence) → IsChainRefusal aside trees offence → TreesComeTo aside trees (answers (status.Refused offence))
-refused_come aside trees offence r = inl (Merges.refused r)
+pub refused_come : (asked : Command) (aside : Bool) (trees : List Tree) (offence : Offence) → IsChainRefusal aside trees offence
+    → TreesComeTo asked aside trees (answers (status.Refused offence))
+refused_come asked aside trees offence r = inl (Merges.refused r)
 
-module _ (chain : Chain) (library : Library) (given : (aside : Bool) (trees : List Tree) → IsChainOf aside chain trees → Gives aside trees library) where
-  -- the schema of the library
-  pub schema_comes : (r : Result (List ℕ) Status) → OnOk r (HoldsStart library library.start) → IfOk r (λ text. HasSchema library (gives text))
-      → IfOk r (λ text. (aside : Bool) (trees : List Tree) → IsChainOf aside chain trees → TreesComeTo aside trees (gives text))
-  schema_comes (Ok text) holds schema = λ aside trees of. (library, Merges.merged (given aside trees of) holds, schema)
-  schema_comes (Err s) holds schema = tt
+-- a schema of the library accepts what that admits
+schema_accepts : (asked : Command) (aside : Bool) (trees : List Tree) (library : Library) (text : List ℕ) → Gives aside trees library → AcceptsIfAdmitted asked library text
+    → AcceptsIfSchema asked aside trees text
+schema_accepts command.Merge aside trees library text g right = tt
+schema_accepts command.Compile aside trees library text g right = record { library = library; gives = g; right = right }
 
-  -- which accepts what the library admits
-  pub schema_accepts : (r : Result (List ℕ) Status) → IfOk r (AcceptsAdmitted library)
-      → IfOk r (λ text. (aside : Bool) (trees : List Tree) → IsChainOf aside chain trees → AcceptsOfTrees aside trees text)
-  schema_accepts r = IfOk-weaker r _ _ (λ text right aside trees of. record { library = library; gives = given aside trees of; right = right })
+module _ (asked : Command) (chain : Chain) (library : Library) (given : (aside : Bool) (trees : List Tree) → IsChainOf aside chain trees → Gives aside trees library) where
+  -- what is written of the library
+  pub library_comes : (files : ℕ) (r : Result (List ℕ) Status) → IfOk r (λ text. HasText asked files library (gives text))
+      → IfOk r (λ text. (aside : Bool) (trees : List Tree) → IsChainOf aside chain trees → files ≡ length trees → TreesComeTo asked aside trees (gives text))
+  library_comes files r =
+      IfOk-weaker r _ _ (λ text has aside trees of many. (library, Merges.merged (given aside trees of), subst (λ n. HasText asked n library (gives text)) many has))
 
-  -- or why it has none
-  pub error_comes : (files : ℕ) (s : Status) → IsStartError library files s → (aside : Bool) (trees : List Tree) → IsChainOf aside chain trees → files ≡ length trees → IsReplied s
-      → TreesComeTo aside trees (answers s)
-  error_comes files (status.Refused offence) e aside trees of many replied =
-      let g = given aside trees of in
-      let offences : start_offence (length trees) e.0 ≡ offence = ap (λ n. start_offence n e.0) (sym many) ∙ sym e.2 in
-      inl (subst (λ o. Merges aside trees (answers (status.Refused o))) offences (Merges.start_missing e.0 library g e.1))
-  error_comes files (status.Limit limit.Nodes) e aside trees of many replied = inr (library, Merges.merged (given aside trees of) e.holds_start, HasSchema.too_large e)
-  error_comes files status.NoMemory e aside trees of many replied = absurd replied
-  error_comes files s e aside trees of many replied = absurd e
+  pub library_accepts : (r : Result (List ℕ) Status) → IfOk r (AcceptsIfAdmitted asked library)
+      → IfOk r (λ text. (aside : Bool) (trees : List Tree) → IsChainOf aside chain trees → AcceptsIfSchema asked aside trees text)
+  library_accepts r = IfOk-weaker r _ _ (λ text right aside trees of. schema_accepts asked aside trees library text (given aside trees of) right)
+
+  -- which is that of the files
+  pub library_whole : (r : Result (List ℕ) Status) → IfOk r (λ text. (aside : Bool) (trees : List Tree) → IsChainOf aside chain trees → (l : Library) × Gives aside trees l)
+  library_whole (Ok text) = λ aside trees of. (library, given aside trees of)
+  library_whole (Err s) = tt
+
+  -- or why there is nothing
+  pub none_comes : (files : ℕ) (r : Result (List ℕ) Status) → IfErr r (λ s. IsReplied s → HasText asked files library (answers s))
+      → IfErr r (λ s. (aside : Bool) (trees : List Tree) → IsChainOf aside chain trees → files ≡ length trees → IsReplied s → TreesComeTo asked aside trees (answers s))
+  none_comes files r = IfErr-weaker r _ _
+      (λ s has aside trees of many replied. inr (library, Merges.merged (given aside trees of), subst (λ n. HasText asked n library (answers s)) many (has replied)))

@@ -1,4 +1,5 @@
 pub mod Answering
 pub mod Coming
+pub mod Commands
 pub mod OneReply
 pub mod Saying

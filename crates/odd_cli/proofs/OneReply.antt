@@ -22,11 +22,14 @@ use Rattle.odd_tree.specs.Elements.{StandsIn}
 use Rattle.odd_tree.specs.Spelled.{DepthPlace, IsNotXml, Spells}
 use Rattle.odd_tree.specs.declared.tree.Tree.{Tree}
 use Rattle.rng_patterns.specs.declared.grammar.Grammar.{Grammar}
+use Rattle.odd_cli.proofs.Commands.{command_once, never_aside}
 use Rattle.odd_cli.specs.Outcome.{Outcome, Then, IsOne, answers, gives}
 use Rattle.odd_cli.specs.Reading.{IsOfFile, IsOfTrees}
-use Rattle.odd_cli.specs.Reply.{FileGives, FileStops, GiveTrees, IsReached, IsRead, file_bytes, more, none, not_held, not_xml, too_deep, too_long, HasSchema, Merges, NamesFiles, ChainComesTo, ReadsChain, Reply, TreesComeTo, WordsComeTo, all_spelled, answered, done, merged, named, no_job, refused, schema, start_missing, start_offence, stops, too_large, too_many}
-use Rattle.odd_cli.specs.Running.{IsSilent, IsSound}
-use Rattle.odd_cli.specs.Words.{Compiles, WordsMean, compile, with_aside}
+use Rattle.odd_cli.specs.Reply.{FileGives, FileStops, GiveTrees, IsReached, IsRead, file_bytes, more, none, not_held, not_xml, too_deep, too_long, AskedFiles, HasMergedOdd, HasSchema, HasStart, HasText, Merges, NamesFiles, ChainComesTo, ReadsChain, Reply, TreesComeTo, WordsComeTo, all_spelled, answered, done, merged, named, no_job, refused, schema, start_held, start_missing, start_offence, stops, too_large, too_many}
+use Rattle.odd_cli.specs.Running.{IsCompiled, IsFitFor, IsSilent, IsSound}
+use Rattle.odd_cli.specs.Words.{Asks, WordsMean, command_word, of_chain, with_aside}
+use Rattle.odd_cli.specs.declared.words.Command.{Command}
+use Rattle.odd_cli.specs.declared.words.Command.TheVariants as command
 use Rattle.odd_cli.specs.declared.status.LimitKind.TheVariants as limit
 use Rattle.odd_cli.specs.declared.status.Status.{Status}
 use Rattle.odd_cli.specs.declared.status.Status.TheVariants as status
@@ -138,38 +141,46 @@ module _ {X Y Z : Type 0} (R : X → Outcome Y → Type 0) (S : Y → Outcome Z 
   then_one other x (answers s) p (inr r) q = other r.0 (answers s) p r.2 (after x r.0 p r.1 q)
   then_one other x (gives z) p r q = other r.0 (gives z) p r.2 (after x r.0 p r.1 q)
 
--- words ask for one chain, with `aside` or without
-pub one_asked : (words : List (List ℕ)) (a b : Bool) (f g : List (List ℕ)) → Compiles words a f → Compiles words b g → ◌≡◌ {A = Bool × List (List ℕ)} (a, f) (b, g)
-one_asked words a b f g p q = same a b (sym p.words_are ∙ q.words_are)
+-- the word of a command and files are those of one command and one chain
+same_asked : (c d : Command) (f g : List (List ℕ)) (x : Bool) → command_word c ∷ f ≡ command_word d ∷ g → ◌≡◌ {A = AskedFiles} (c, x, f) (d, x, g)
+same_asked c d f g x e =
+    let words : command_word c ≡ command_word d = cc in
+    let chains : f ≡ g = cc in
+    let commands = command_once c d words in
+    λ i. (commands i, x, chains i)
+
+-- words ask for what one command writes of one chain, with `aside` or without
+pub one_asked : (words : List (List ℕ)) (c d : Command) (a b : Bool) (f g : List (List ℕ)) → Asks words c a f → Asks words d b g → ◌≡◌ {A = AskedFiles} (c, a, f) (d, b, g)
+one_asked words c d a b f g p q = same a b (sym p.words_are ∙ q.words_are)
   where
-    same : (x y : Bool) → with_aside x (codes "compile" ∷ f) ≡ with_aside y (codes "compile" ∷ g) → ◌≡◌ {A = Bool × List (List ℕ)} (x, f) (y, g)
-    same true true e = let tails : f ≡ g = cc in ap (λ ns. (true, ns)) tails
-    same false false e = let tails : f ≡ g = cc in ap (λ ns. (false, ns)) tails
-    same true false e = let no : codes "aside" ≡ codes "compile" = cc in cc
-    same false true e = let no : codes "compile" ≡ codes "aside" = cc in cc
+    same : (x y : Bool) → with_aside x (command_word c ∷ f) ≡ with_aside y (command_word d ∷ g) → ◌≡◌ {A = AskedFiles} (c, x, f) (d, y, g)
+    same true true e = let tails : command_word c ∷ f ≡ command_word d ∷ g = cc in same_asked c d f g true tails
+    same false false e = same_asked c d f g false e
+    same true false e = let no : codes "aside" ≡ command_word d = cc in absurd (never_aside d no)
+    same false true e = let no : codes "aside" ≡ command_word c = cc in absurd (never_aside c no)
 
 -- so the words name the files of one chain
-pub one_chain : (words : List (List ℕ)) (a b : Bool) (f g : List (List ℕ)) → Compiles words a f → Compiles words b g → f ≡ g
-one_chain words a b f g p q = ap (λ (x : Bool × List (List ℕ)). x.1) (one_asked words a b f g p q)
+pub one_chain : (words : List (List ℕ)) (c d : Command) (a b : Bool) (f g : List (List ℕ)) → Asks words c a f → Asks words d b g → f ≡ g
+one_chain words c d a b f g p q = ap (λ (x : AskedFiles). x.2) (one_asked words c d a b f g p q)
 
 -- words that name files have a job
-pub no_job_but : (words : List (List ℕ)) (a : Bool) (chain : List (List ℕ)) → ((job : Job) → WordsMean words job → ⊥) → Compiles words a chain → ⊥
-no_job_but words a chain without c = without _ (compile a chain c refl)
+pub no_job_but : (words : List (List ℕ)) (c : Command) (a : Bool) (chain : List (List ℕ)) → ((job : Job) → WordsMean words job → ⊥) → Asks words c a chain → ⊥
+no_job_but words c a chain without asks = without _ (of_chain c a chain asks refl)
 
 -- and no chain is both too long and not
-many_but : (words : List (List ℕ)) (a b : Bool) (f g : List (List ℕ)) → Compiles words a f → Compiles words b g → 16 < length f → length g ≤ 16 → ⊥
-many_but words a b f g p q long short = omega (arith, long, short, ap length (one_chain words a b f g p q))
+many_but : (words : List (List ℕ)) (c d : Command) (a b : Bool) (f g : List (List ℕ)) → Asks words c a f → Asks words d b g → 16 < length f → length g ≤ 16 → ⊥
+many_but words c d a b f g p q long short = omega (arith, long, short, ap length (one_chain words c d a b f g p q))
 
 pub names_one : IsOne NamesFiles
 names_one words o p (no_job n) (no_job m) = refl
-names_one words o p (no_job n) (too_many b g q l) = absurd (no_job_but words b g n q)
-names_one words o p (no_job n) (named {aside = b} {chain = g} q l) = absurd (no_job_but words b g n q)
-names_one words o p (too_many a f c l) (no_job n) = absurd (no_job_but words a f n c)
-names_one words o p (too_many a f c l) (too_many b g q m) = refl
-names_one words o p (too_many a f c l) (named {aside = b} {chain = g} q m) = absurd (many_but words a b f g c q l m)
-names_one words o p (named {aside = a} {chain = f} c l) (no_job n) = absurd (no_job_but words a f n c)
-names_one words o p (named {aside = a} {chain = f} c l) (too_many b g q m) = absurd (many_but words b a g f q c m l)
-names_one words o p (named {aside = a} {chain = f} c l) (named {aside = b} {chain = g} q m) = ap gives (one_asked words a b f g c q)
+names_one words o p (no_job n) (too_many d b g q l) = absurd (no_job_but words d b g n q)
+names_one words o p (no_job n) (named {asked = d} {aside = b} {chain = g} q l) = absurd (no_job_but words d b g n q)
+names_one words o p (too_many c a f k l) (no_job n) = absurd (no_job_but words c a f n k)
+names_one words o p (too_many c a f k l) (too_many d b g q m) = refl
+names_one words o p (too_many c a f k l) (named {asked = d} {aside = b} {chain = g} q m) = absurd (many_but words c d a b f g k q l m)
+names_one words o p (named {asked = c} {aside = a} {chain = f} k l) (no_job n) = absurd (no_job_but words c a f n k)
+names_one words o p (named {asked = c} {aside = a} {chain = f} k l) (too_many d b g q m) = absurd (many_but words d c b a g f q k m l)
+names_one words o p (named {asked = c} {aside = a} {chain = f} k l) (named {asked = d} {aside = b} {chain = g} q m) = ap gives (one_asked words c d a b f g k q)
 
 reading_one : (files : FileMap) → IsOne (ReadsChain files)
 reading_one files chain o p (stops {s = s} m name a h) (stops {s = r} n other b k) = ap answers (stops_once files chain m n name other s r a b h k)
@@ -182,24 +193,22 @@ one_least : (library : Library) (start : List (List ℕ)) (v w : List ℕ) → I
 one_least library start v w p q =
     neither_below text_cmp nat_list_cmp_total (slice_cmp-IsAntisymmetric nat_cmp-IsAntisymmetric) v w (q.least v p.among p.missing) (p.least w q.among q.missing)
 
--- trees have one library, and it has this word
-least_after : (aside : Bool) (trees : List Tree) (l m : Library) (word : List ℕ) → Gives aside trees l → Gives aside trees m → IsLeastMissing l l.start word → IsLeastMissing m m.start word
-least_after aside trees l m word g k = subst (λ x. IsLeastMissing x x.start word) (gives_one trees l m g k)
-
 held_but : (l : Library) (word : List ℕ) → IsLeastMissing l l.start word → HoldsStart l l.start → ⊥
 held_but l word least h = h word least.among least.missing
 
+-- trees have one library, or one first offence
 merges_one : (aside : Bool) → IsOne (Merges aside)
 merges_one aside trees o p (refused {offence = a} r) (refused {offence = b} q) = ap (λ x. answers (status.Refused x)) (one_chain_refusal trees a b r q)
-merges_one aside trees o p (refused {offence = a} r) (start_missing w m k e) = absurd (refused_gives_none trees a m r k)
-merges_one aside trees o p (refused {offence = a} r) (merged {library = m} k h) = absurd (refused_gives_none trees a m r k)
-merges_one aside trees o p (start_missing v l g d) (refused {offence = a} r) = absurd (refused_gives_none trees a l r g)
-merges_one aside trees o p (start_missing v l g d) (start_missing w m k e) =
-    ap (λ x. answers (status.Refused (start_offence (length trees) x))) (one_least m m.start v w (least_after aside trees l m v g k d) e)
-merges_one aside trees o p (start_missing v l g d) (merged {library = m} k h) = absurd (held_but m v (least_after aside trees l m v g k d) h)
-merges_one aside trees o p (merged {library = l} g h) (refused {offence = a} r) = absurd (refused_gives_none trees a l r g)
-merges_one aside trees o p (merged {library = l} g h) (start_missing w m k e) = absurd (held_but l w (least_after aside trees m l w k g e) h)
-merges_one aside trees o p (merged {library = l} g h) (merged {library = m} k i) = ap gives (gives_one trees l m g k)
+merges_one aside trees o p (refused {offence = a} r) (merged {library = m} k) = absurd (refused_gives_none trees a m r k)
+merges_one aside trees o p (merged {library = l} g) (refused {offence = a} r) = absurd (refused_gives_none trees a l r g)
+merges_one aside trees o p (merged {library = l} g) (merged {library = m} k) = ap gives (gives_one trees l m g k)
+
+-- a library holds its start words, or lacks one least of them
+start_one : (files : ℕ) → IsOne (HasStart files)
+start_one files l o p (start_missing v d) (start_missing w e) = ap (λ x. answers (status.Refused (start_offence files x))) (one_least l l.start v w d e)
+start_one files l o p (start_missing v d) (start_held h) = absurd (held_but l v d h)
+start_one files l o p (start_held h) (start_missing w e) = absurd (held_but l w e h)
+start_one files l o p (start_held h) (start_held k) = refl
 
 -- a library whose schema passes a limit has none that passes none
 large_but : (l : Library) (g : Grammar) → HasLargeSchema l l.start → IsSchema l l.start g → ⊥
@@ -211,11 +220,18 @@ schema_one l o p (too_large a) (schema g i e) = absurd (large_but l g a i)
 schema_one l o p (schema g i e) (too_large a) = absurd (large_but l g a i)
 schema_one l o p (schema g i e) (schema h j f) = ap gives (one_schema_text l l.start _ _ e f)
 
-pub trees_one : (aside : Bool) → IsOne (TreesComeTo aside)
-trees_one aside = then_one (Merges aside) HasSchema (merges_one aside) schema_one
+odd_one : IsOne HasMergedOdd
+odd_one l o p HasMergedOdd.printed HasMergedOdd.printed = refl
+
+text_one : (asked : Command) (files : ℕ) → IsOne (HasText asked files)
+text_one command.Merge files = odd_one
+text_one command.Compile files = then_one (HasStart files) HasSchema (start_one files) schema_one
+
+pub trees_one : (asked : Command) (aside : Bool) → IsOne (TreesComeTo asked aside)
+trees_one asked aside trees = then_one (Merges aside) (HasText asked (length trees)) (merges_one aside) (text_one asked (length trees)) trees
 
 chain_comes_one : (files : FileMap) → IsOne (ChainComesTo files)
-chain_comes_one files asked = then_one (ReadsChain files) (TreesComeTo asked.0) (reading_one files) (trees_one asked.0) asked.1
+chain_comes_one files asked = then_one (ReadsChain files) (TreesComeTo asked.0 asked.1) (reading_one files) (trees_one asked.0 asked.1) asked.2
 
 pub words_one : (files : FileMap) → IsOne (WordsComeTo files)
 words_one files = then_one NamesFiles (ChainComesTo files) names_one (chain_comes_one files)
@@ -228,30 +244,49 @@ of_file files name number s (not_xml bytes r x) = refl
 of_file files name number s (too_deep bytes r d) = refl
 
 -- and trees with what is of all of them
-pub of_trees : (aside : Bool) (trees : List Tree) (s : Status) → TreesComeTo aside trees (answers s) → IsOfTrees s
-of_trees aside trees s (inl (refused r)) = tt
-of_trees aside trees s (inl (start_missing word library g m)) = tt
-of_trees aside trees s (inr (library, m, too_large l)) = tt
+of_schema : (files : ℕ) (library : Library) (s : Status) → Then (HasStart files) HasSchema library (answers s) → IsOfTrees s
+of_schema files library s (inl (start_missing word m)) = tt
+of_schema files library s (inr (same, h, too_large l)) = tt
+
+odd_answers : (library : Library) (s : Status) → HasMergedOdd library (answers s) → ⊥
+odd_answers library s h = elim h [ ]
+
+of_text : (asked : Command) (files : ℕ) (library : Library) (s : Status) → HasText asked files library (answers s) → IsOfTrees s
+of_text command.Merge files library s h = absurd (odd_answers library s h)
+of_text command.Compile files library s h = of_schema files library s h
+
+pub of_trees : (asked : Command) (aside : Bool) (trees : List Tree) (s : Status) → TreesComeTo asked aside trees (answers s) → IsOfTrees s
+of_trees asked aside trees s (inl (refused r)) = tt
+of_trees asked aside trees s (inr (library, m, h)) = of_text asked (length trees) library s h
 
 -- any other status is of the words
 pub of_words : (words : List (List ℕ)) (files : FileMap) (s : Status) → ((number : ℕ) → IsOfFile number s → ⊥) → (IsOfTrees s → ⊥) → WordsComeTo files words (answers s) → NamesFiles words (answers s)
 of_words words files s of_none of_no (inl n) = n
 of_words words files s of_none of_no (inr (asked, n, inl (stops number name r h))) = absurd (of_none number (of_file files name number s h))
-of_words words files s of_none of_no (inr (asked, n, inr (trees, r, t))) = absurd (of_no (of_trees asked.0 trees s t))
+of_words words files s of_none of_no (inr (asked, n, inr (trees, r, t))) = absurd (of_no (of_trees asked.0 asked.1 trees s t))
 
 -- none is Done
 pub never_done : (words : List (List ℕ)) (files : FileMap) → WordsComeTo files words (answers status.Done) → ⊥
 never_done words files h = elim (of_words words files status.Done (λ number is. is) (λ is. is) h) [ ]
 
--- merging the trees of sound files answers nothing
-merges_sound : (words : List (List ℕ)) (files : FileMap) (s : Status) (sound : IsSound words files) → TreesComeTo sound.aside sound.trees (answers s) → ⊥
-merges_sound words files s sound (inl (refused r)) = sound.unoffended _ r.at r.is_one
-merges_sound words files s sound (inl (start_missing word library g least)) = held_but library word least (sound.holds_start library g)
-merges_sound words files s sound (inr (library, merged g h, too_large l)) = sound.within library l.grammar g l.is_grammar l.too_large
+-- what is asked of sound files answers nothing
+schema_sound : (aside : Bool) (trees : List Tree) (library : Library) (s : Status) → IsCompiled aside trees → Gives aside trees library
+    → Then (HasStart (length trees)) HasSchema library (answers s) → ⊥
+schema_sound aside trees library s fit g (inl (start_missing word least)) = held_but library word least (fit.holds_start library g)
+schema_sound aside trees library s fit g (inr (same, start_held h, too_large l)) = fit.within library l.grammar g l.is_grammar l.too_large
+
+text_sound : (asked : Command) (aside : Bool) (trees : List Tree) (library : Library) (s : Status) → IsFitFor asked aside trees → Gives aside trees library
+    → HasText asked (length trees) library (answers s) → ⊥
+text_sound command.Merge aside trees library s fit g h = odd_answers library s h
+text_sound command.Compile aside trees library s fit g h = schema_sound aside trees library s fit g h
+
+trees_sound : (words : List (List ℕ)) (files : FileMap) (s : Status) (sound : IsSound words files) → TreesComeTo sound.asked sound.aside sound.trees (answers s) → ⊥
+trees_sound words files s sound (inl (refused r)) = sound.unoffended _ r.at r.is_one
+trees_sound words files s sound (inr (library, merged g, h)) = text_sound sound.asked sound.aside sound.trees library s sound.fit g h
 
 -- and neither does any step before it, so there is no reply that writes nothing
 pub sound_replies : (words : List (List ℕ)) (files : FileMap) (text : List ℕ) (s : Status) → IsSound words files → IsSilent s → Reply words files text s → ⊥
 sound_replies words files text s sound silent (done comes) = silent
 sound_replies words files text s sound silent (answered comes) =
-    let read = after NamesFiles (ChainComesTo files) names_one words (sound.aside, sound.chain) (answers s) (named sound.compiles sound.few) comes in
-    merges_sound words files s sound (after (ReadsChain files) (TreesComeTo sound.aside) (reading_one files) sound.chain sound.trees (answers s) (all_spelled sound.given) read)
+    let read = after NamesFiles (ChainComesTo files) names_one words (sound.asked, sound.aside, sound.chain) (answers s) (named sound.asks sound.few) comes in
+    trees_sound words files s sound (after (ReadsChain files) (TreesComeTo sound.asked sound.aside) (reading_one files) sound.chain sound.trees (answers s) (all_spelled sound.given) read)

@@ -1,17 +1,15 @@
 -- What the private functions of a run give: trees and chains that are read, and why there is none.
 use Rattle.std.specs.Prelude.{◌≡◌, ◌≤◌, ◌+◌, ◌*◌, ℕ, Bool, List, Option, Some, length}
 use Rattle.odd_base.specs.Shelf.{FileMap, Held}
-use Rattle.odd_library.specs.declared.library.Library.{Library}
 use Rattle.odd_tree.specs.Formed.{IsFormed}
 use Rattle.odd_tree.specs.Spelled.{GivesTree}
 use Rattle.odd_tree.specs.declared.tree.Tree.{Tree}
 use Rattle.odd_chain.specs.Reading.{AreFormedDocs, IsChainOf}
 use Rattle.odd_chain.specs.declared.chain.Chain.{Chain}
-use Rattle.compile_core.specs.Schema.{HasLargeSchema, IsLeastMissing}
 use Rattle.odd_cli.specs.declared.status.LimitKind.TheVariants as limit
 use Rattle.odd_cli.specs.declared.status.Status.{Status}
 use Rattle.odd_cli.specs.declared.status.Status.TheVariants as status
-use Rattle.odd_cli.specs.Reply.{GiveTrees, file_bytes, start_offence}
+use Rattle.odd_cli.specs.Reply.{GiveTrees, file_bytes}
 use Rattle.odd_cli.specs.Running.{counted}
 
 -- The tree is that of bytes within the limit, which the file of the name has where the shelf tells what it holds.
@@ -50,10 +48,3 @@ IsOfTrees (status.Refused offence) = Unit {0}
 IsOfTrees (status.Limit limit.Nodes) = Unit {0}
 IsOfTrees status.NoMemory = Unit {0}
 IsOfTrees s = ⊥
-
--- why a library after so many files has no schema
-abbrev pub IsStartError : Library → ℕ → Status → Type 0
-IsStartError library files (status.Refused offence) = (word : List ℕ) × IsLeastMissing library library.start word × (offence ≡ start_offence files word)
-IsStartError library files (status.Limit limit.Nodes) = HasLargeSchema library library.start
-IsStartError library files status.NoMemory = Unit {0}
-IsStartError library files s = ⊥

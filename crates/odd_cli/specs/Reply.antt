@@ -12,12 +12,15 @@ use Rattle.rng_patterns.specs.declared.grammar.Grammar.{Grammar}
 use Rattle.compile_defines.specs.Compiled.{HoldsStart}
 use Rattle.compile_core.specs.Schema.{HasLargeSchema, IsLeastMissing, IsSchema}
 use Rattle.compile_core.specs.SchemaText.{IsSchemaText}
+use Rattle.odd_emit.specs.Components.{merged_odd}
 use Rattle.odd_cli.specs.declared.status.Status.{Status}
 use Rattle.odd_cli.specs.declared.status.Status.TheVariants as status
 use Rattle.odd_cli.specs.declared.status.LimitKind.TheVariants as limit
+use Rattle.odd_cli.specs.declared.words.Command.{Command}
+use Rattle.odd_cli.specs.declared.words.Command.TheVariants as command
 use Rattle.odd_cli.specs.declared.words.Job.{Job}
 use Rattle.odd_cli.specs.Outcome.{Outcome, Then, answers, gives}
-use Rattle.odd_cli.specs.Words.{Compiles, WordsMean}
+use Rattle.odd_cli.specs.Words.{Asks, WordsMean}
 
 -- how many files a chain may have, and how many bytes a file
 abbrev pub chain_files : ℕ
@@ -26,11 +29,16 @@ chain_files = 16
 abbrev pub file_bytes : ℕ
 file_bytes = 16777216
 
--- the words, whether they ask for `aside`, and the files of the chain that they name
-pub data NamesFiles (words : List (List ℕ)) : Outcome (Bool × List (List ℕ)) → Type 0 where
+-- a command, whether constraints are taken out, and the files of a chain
+abbrev pub AskedFiles : Type 0
+AskedFiles = Command × Bool × List (List ℕ)
+
+-- the words, and what they ask for
+pub data NamesFiles (words : List (List ℕ)) : Outcome AskedFiles → Type 0 where
   no_job : ((job : Job) → WordsMean words job → ⊥) → NamesFiles words (answers status.Usage)
-  too_many : (aside : Bool) (chain : List (List ℕ)) → Compiles words aside chain → chain_files < length chain → NamesFiles words (answers (status.Limit limit.Files))
-  named : {aside : Bool} {chain : List (List ℕ)} → Compiles words aside chain → length chain ≤ chain_files → NamesFiles words (gives (aside, chain))
+  too_many : (asked : Command) (aside : Bool) (chain : List (List ℕ)) → Asks words asked aside chain → chain_files < length chain
+      → NamesFiles words (answers (status.Limit limit.Files))
+  named : {asked : Command} {aside : Bool} {chain : List (List ℕ)} → Asks words asked aside chain → length chain ≤ chain_files → NamesFiles words (gives (asked, aside, chain))
 
 -- the file of the name is held with these bytes, which are within the limit
 pub record IsRead (files : FileMap) (name bytes : List ℕ) : Type 0 where
@@ -73,27 +81,39 @@ pub data ReadsChain (files : FileMap) (chain : List (List ℕ)) : Outcome (List 
 abbrev pub start_offence : ℕ → List ℕ → Offence
 start_offence files word = record { file = files; who = who.Start word; rule = 20 }
 
--- trees, and the library after them, which holds its start words
+-- trees, and the library after them
 pub data Merges (aside : Bool) (trees : List Tree) : Outcome Library → Type 0 where
   refused : {offence : Offence} → IsChainRefusal aside trees offence → Merges aside trees (answers (status.Refused offence))
-  start_missing : (word : List ℕ) (library : Library) → Gives aside trees library → IsLeastMissing library library.start word
-      → Merges aside trees (answers (status.Refused (start_offence (length trees) word)))
-  merged : {library : Library} → Gives aside trees library → HoldsStart library library.start → Merges aside trees (gives library)
+  merged : {library : Library} → Gives aside trees library → Merges aside trees (gives library)
+
+-- a library after so many files, which holds its start words
+pub data HasStart (files : ℕ) (library : Library) : Outcome Library → Type 0 where
+  start_missing : (word : List ℕ) → IsLeastMissing library library.start word → HasStart files library (answers (status.Refused (start_offence files word)))
+  start_held : HoldsStart library library.start → HasStart files library (gives library)
 
 -- a library, and the text of its schema
 pub data HasSchema (library : Library) : Outcome (List ℕ) → Type 0 where
   too_large : HasLargeSchema library library.start → HasSchema library (answers (status.Limit limit.Nodes))
   schema : {text : List ℕ} (grammar : Grammar) → IsSchema library library.start grammar → IsSchemaText library library.start text → HasSchema library (gives text)
 
--- trees, and the schema of the library after them
-abbrev pub TreesComeTo : Bool → List Tree → Outcome (List ℕ) → Type 0
-TreesComeTo aside = Then (Merges aside) HasSchema
+-- a library, and the merged ODD that stands for its files
+pub data HasMergedOdd (library : Library) : Outcome (List ℕ) → Type 0 where
+  printed : HasMergedOdd library (gives (merged_odd library))
 
--- files, and the schema of the library after them
-abbrev pub ChainComesTo : FileMap → Bool × List (List ℕ) → Outcome (List ℕ) → Type 0
-ChainComesTo files asked = Then (ReadsChain files) (TreesComeTo asked.0) asked.1
+-- a library after so many files, and what a command writes of it
+abbrev pub HasText : Command → ℕ → Library → Outcome (List ℕ) → Type 0
+HasText command.Merge files = HasMergedOdd
+HasText command.Compile files = Then (HasStart files) HasSchema
 
--- words, and the schema of the library after the files that they name
+-- trees, and what a command writes of the library after them
+abbrev pub TreesComeTo : Command → Bool → List Tree → Outcome (List ℕ) → Type 0
+TreesComeTo asked aside trees = Then (Merges aside) (HasText asked (length trees)) trees
+
+-- files, and what is written of the library after them
+abbrev pub ChainComesTo : FileMap → AskedFiles → Outcome (List ℕ) → Type 0
+ChainComesTo files asked = Then (ReadsChain files) (TreesComeTo asked.0 asked.1) asked.2
+
+-- words, and what is written of the library after the files that they name
 abbrev pub WordsComeTo : FileMap → List (List ℕ) → Outcome (List ℕ) → Type 0
 WordsComeTo files = Then NamesFiles (ChainComesTo files)
 

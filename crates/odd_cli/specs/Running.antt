@@ -15,7 +15,9 @@ use Rattle.compile_defines.specs.Compiled.{HoldsStart, IsGrammarOf}
 use Rattle.odd_cli.specs.declared.status.LimitKind.TheVariants as limit
 use Rattle.odd_cli.specs.declared.status.Status.{Status}
 use Rattle.odd_cli.specs.declared.status.Status.TheVariants as status
-use Rattle.odd_cli.specs.Words.{Compiles}
+use Rattle.odd_cli.specs.Words.{Asks}
+use Rattle.odd_cli.specs.declared.words.Command.{Command}
+use Rattle.odd_cli.specs.declared.words.Command.TheVariants as command
 use Rattle.odd_cli.specs.Note.{IsFrontWritten}
 use Rattle.odd_cli.specs.Reply.{GiveTrees, IsReached, chain_files, file_bytes}
 
@@ -75,9 +77,10 @@ pub record IsFaultPlace (chain : List (List ℕ)) (files : FileMap) (number : �
 
 -- the file of the number is reached by the words
 pub record IsReadPlace (words : List (List ℕ)) (files : FileMap) (number : ℕ) (rest : Option (List ℕ)) (steady : Bool) : Type 0 where
-  pub chain : List (List ℕ)
+  pub asked : Command
   pub aside : Bool
-  pub compiles : Compiles words aside chain
+  pub chain : List (List ℕ)
+  pub asks : Asks words asked aside chain
   pub within : length chain ≤ chain_files
   pub place : IsFaultPlace chain files number rest steady
 
@@ -85,18 +88,27 @@ pub record IsReadPlace (words : List (List ℕ)) (files : FileMap) (number : ℕ
 abbrev pub IsNoted : List ℕ → List ℕ → Option (List ℕ) → ℕ → ℕ → Type 0
 IsNoted before text written old new = (written ≡ Some (before ++ text)) ⊎ (IsFrontWritten before text written × HasRisen old new)
 
+-- What a command asks of a chain without an offence: `compile` that each start word is a held element and that the schema passes no limit, and `merge` nothing.
+pub record IsCompiled (aside : Bool) (trees : List Tree) : Type 0 where
+  pub holds_start : (library : Library) → Gives aside trees library → HoldsStart library library.start
+  pub within : (library : Library) (g : Grammar) → Gives aside trees library → IsGrammarOf library library.start g → IsTooLarge g → ⊥
+
+abbrev pub IsFitFor : Command → Bool → List Tree → Type 0
+IsFitFor command.Merge aside trees = Unit {0}
+IsFitFor command.Compile aside trees = IsCompiled aside trees
+
 -- The words have a job of no more files than a chain may have; each file is held, within its limits, and spells a tree; the chain
--- has no offence; each start word is a held element; and the schema passes no limit.
+-- has no offence; and it is what the command asks for.
 pub record IsSound (words : List (List ℕ)) (files : FileMap) : Type 0 where
-  pub chain : List (List ℕ)
+  pub asked : Command
   pub aside : Bool
-  pub compiles : Compiles words aside chain
+  pub chain : List (List ℕ)
+  pub asks : Asks words asked aside chain
   pub few : length chain ≤ chain_files
   pub trees : List Tree
   pub given : GiveTrees files chain trees
   pub unoffended : (file : ℕ) (at : Position) → ChainOffends aside trees file at → ⊥
-  pub holds_start : (library : Library) → Gives aside trees library → HoldsStart library library.start
-  pub within : (library : Library) (g : Grammar) → Gives aside trees library → IsGrammarOf library library.start g → IsTooLarge g → ⊥
+  pub fit : IsFitFor asked aside trees
 
 -- the reply is written, or there was no memory
 abbrev pub IsComplete : Status → Type 0
@@ -114,15 +126,25 @@ pub record AcceptsOfTrees (aside : Bool) (trees : List Tree) (text : List ℕ) :
   pub gives : Gives aside trees library
   pub right : AcceptsAdmitted library text
 
+-- and of what a command writes, where that is a schema
+abbrev pub AcceptsIfAdmitted : Command → Library → List ℕ → Type 0
+AcceptsIfAdmitted command.Merge library text = Unit {0}
+AcceptsIfAdmitted command.Compile library text = AcceptsAdmitted library text
+
+abbrev pub AcceptsIfSchema : Command → Bool → List Tree → List ℕ → Type 0
+AcceptsIfSchema command.Merge aside trees text = Unit {0}
+AcceptsIfSchema command.Compile aside trees text = AcceptsOfTrees aside trees text
+
 -- and of the chain that the words name
 pub record AcceptsOfWords (words : List (List ℕ)) (files : FileMap) (text : List ℕ) : Type 0 where
-  pub chain : List (List ℕ)
+  pub asked : Command
   pub aside : Bool
-  pub compiles : Compiles words aside chain
+  pub chain : List (List ℕ)
+  pub asks : Asks words asked aside chain
   pub within : length chain ≤ chain_files
   pub trees : List Tree
   pub given : GiveTrees files chain trees
-  pub right : AcceptsOfTrees aside trees text
+  pub right : AcceptsIfSchema asked aside trees text
 
 -- how many constraints were taken out of all files, where the words ask for it; past the last number of 64 bits the count stands still
 abbrev pub AsidesOfTrees : Bool → List Tree → Option ℕ → Type 0
@@ -131,9 +153,10 @@ AsidesOfTrees true trees asides = (count : ℕ) × HasAsides true trees count ×
 
 -- the same of the chain that the words name
 pub record AsidesOfWords (words : List (List ℕ)) (files : FileMap) (asides : Option ℕ) : Type 0 where
-  pub chain : List (List ℕ)
+  pub asked : Command
   pub aside : Bool
-  pub compiles : Compiles words aside chain
+  pub chain : List (List ℕ)
+  pub asks : Asks words asked aside chain
   pub trees : List Tree
   pub given : GiveTrees files chain trees
   pub told : AsidesOfTrees aside trees asides

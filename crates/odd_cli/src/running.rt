@@ -1,34 +1,30 @@
 ghost use Rattle.std.specs.Prelude.{◌≡◌, ◌≢◌, ◌↔◌, ◌⊎◌, ◌≤◌, ◌+◌, ◌*◌, ◌<◌, ℕ, suc, Bool, List, Option, Err, Ok, Some, IsTrue, IfOk, IfErr, OnOk, [], ◌∷◌, ◌++◌, length};
-ghost use Rattle.odd_text.specs.declared.key.Key.{Key as AKey};
-ghost use Rattle.odd_meaning.specs.Rules.{Breaks};
 ghost use Rattle.odd_text.specs.Count.{HasRisen, next_count};
 ghost use Rattle.odd_base.specs.Shelf.{FileMap, Held, LeavesSuffix, NotHeld};
 ghost use Rattle.odd_base.specs.Sink.{IsPartWritten};
 ghost use Rattle.odd_tree.specs.Formed.{IsFormed as IsFormedTree};
 ghost use Rattle.odd_tree.specs.declared.tree.Tree.{Tree as ATree};
+ghost use Rattle.odd_chain.specs.Files.{AreDeclared};
 ghost use Rattle.odd_chain.specs.Reading.{AreFormedDocs, HasFewDocs, IsChainOf};
-ghost use Rattle.compile_defines.specs.Compiled.{HoldsStart};
-ghost use Rattle.odd_library.specs.Formed.{IsFormedLibrary};
+ghost use Rattle.odd_library.specs.declared.odd.OddDoc.{OddDoc as ADoc};
 ghost use Rattle.odd_cli.specs.Note.{note_text};
 ghost use Rattle.odd_cli.specs.Outcome.{answers, gives};
 ghost use Rattle.odd_cli.specs.Words.{WordsMean, files_named};
 ghost use Rattle.odd_cli.specs.declared.words.Job.{Job as AJob};
 ghost use Rattle.odd_cli.specs.declared.status.Status.{Status as AStatus};
-ghost use Rattle.odd_cli.specs.Reply.{FileStops, HasSchema, NamesFiles, ReadsChain, Reply, TreesComeTo, chain_files, file_bytes};
-ghost use Rattle.odd_cli.specs.Reading.{IsChainRead, IsOfFile, IsOfTrees, IsStartError, IsTreeRead, StopsAt};
-ghost use Rattle.odd_cli.specs.Running.{AcceptsAdmitted, AcceptsOfTrees, AcceptsOfWords, AsidesOfTrees, AsidesOfWords, BeginsFiles, GoesOn, IsComplete, IsFaultPlace, IsNoted, IsReadPlace, IsReplied, IsSilent, IsSound, AreReadWhole, counted};
+ghost use Rattle.odd_cli.specs.Reply.{FileStops, NamesFiles, ReadsChain, Reply, TreesComeTo, chain_files, file_bytes};
+ghost use Rattle.odd_cli.specs.Reading.{IsChainRead, IsOfFile, IsOfTrees, IsTreeRead, StopsAt};
+ghost use Rattle.odd_cli.specs.Running.{AcceptsIfSchema, AcceptsOfWords, AsidesOfTrees, AsidesOfWords, BeginsFiles, GoesOn, IsComplete, IsFaultPlace, IsNoted, IsReadPlace, IsReplied, IsSilent, IsSound, AreReadWhole, counted};
 
 use crate::note::write_note;
 use crate::status::{LimitKind, Status};
-use crate::words::{Asked, job_asked};
-use compile_core::{CompileRefusal, compile};
+use crate::texts::text_of_chain;
+use crate::words::{Asked, Job, job_asked};
 use odd_base::{Shelf, Sink, SlurpRefusal, slurp, write_whole};
-use odd_chain::{Chain, ChainRefusal};
-use odd_library::Library;
+use odd_chain::Chain;
 use odd_reader::{ReadRefusal, read_tree};
-use odd_text::{NoMemory, Offence, Text, Words};
+use odd_text::{NoMemory, Text, Words};
 use odd_tree::Tree;
-use rng_emit::print_rng;
 use std::alloc::Global;
 
 /// How many bytes a file may have.
@@ -120,32 +116,39 @@ fn reply_text<F: Shelf>(alloc: Global, words: &Words, shelf: &mut F) -> Result<A
         Err(status) => return Err(status),
     };
     match read_chain(alloc, asked.chain, asked.job.aside, shelf) {
-        Ok(chain) => answer_of(alloc, chain, asked.job.aside, asked.chain.len() as u32),
+        Ok(chain) => answer_of(alloc, chain, asked.job, asked.chain.len() as u32),
         Err(status) => Err(status),
     }
 }
 
-// The schema of the library after the files of a chain, of which there are so many, with the number of constraints that were
-// taken out, or why it has none.
-fn answer_of(alloc: Global, chain: Chain, aside: bool, files: u32) -> Result<Answer, Status>
+// What a command writes of the library after the files of a chain, of which there are so many, with the number of constraints
+// that were taken out, or why it writes nothing.
+fn answer_of(alloc: Global, chain: Chain, job: Job, files: u32) -> Result<Answer, Status>
     requires few { HasFewDocs chain }
     requires formed { AreFormedDocs chain }
-    ensures ok { IfOk result (λ answer. (trees : List ATree) → IsChainOf aside chain trees → TreesComeTo aside trees (gives answer.text)) }
-    ensures accepts { IfOk result (λ answer. (trees : List ATree) → IsChainOf aside chain trees → AcceptsOfTrees aside trees answer.text) }
-    ensures asides { IfOk result (λ answer. (trees : List ATree) → IsChainOf aside chain trees → AsidesOfTrees aside trees answer.asides) }
-    ensures err { IfErr result (λ status. (trees : List ATree) → IsChainOf aside chain trees → files ≡ length trees → IsReplied status → TreesComeTo aside trees (answers status)) }
+    ensures ok { IfOk result (λ answer. (trees : List ATree) → IsChainOf job.aside chain trees → files ≡ length trees → TreesComeTo job.command job.aside trees (gives answer.text)) }
+    ensures accepts { IfOk result (λ answer. (trees : List ATree) → IsChainOf job.aside chain trees → AcceptsIfSchema job.command job.aside trees answer.text) }
+    ensures asides { IfOk result (λ answer. (trees : List ATree) → IsChainOf job.aside chain trees → AsidesOfTrees job.aside trees answer.asides) }
+    ensures err { IfErr result (λ status. (trees : List ATree) → IsChainOf job.aside chain trees → files ≡ length trees → IsReplied status → TreesComeTo job.command job.aside trees (answers status)) }
     ensures of_trees { IfErr result IsOfTrees }
 {
-    let asides = if aside { Some(chain.asides()) } else { None };
-    match schema_of_chain(alloc, chain, files) {
+    let asides = asides_of(&chain, job.aside);
+    match text_of_chain(alloc, chain, job.command, files) {
         Ok(text) => Ok(Answer { text, asides }),
         Err(status) => Err(status),
     }
 }
 
+// How many constraints were taken out of the files of a chain, where they are.
+fn asides_of(chain: &Chain, aside: bool) -> Option<u64>
+    ensures { (trees : List ATree) (docs : List ADoc) → IsChainOf aside chain.now trees → AreDeclared aside trees docs → AsidesOfTrees aside trees result }
+{
+    if aside { Some(chain.asides()) } else { None }
+}
+
 // The files of the chain that the words name.
 fn chain_asked(words: &Words) -> Result<Asked<'_>, Status>
-    ensures ok { IfOk result (λ asked. NamesFiles words.now (gives (asked.job.aside, asked.chain.now))) }
+    ensures ok { IfOk result (λ asked. NamesFiles words.now (gives (asked.job.command, asked.job.aside, asked.chain.now))) }
     ensures err { IfErr result (λ status. NamesFiles words.now (answers status)) }
 {
     let Some(asked) = job_asked(words) else {
@@ -234,53 +237,4 @@ fn with_file(
         Ok(made) => Ok(made),
         Err(NoMemory) => Err(Status::NoMemory),
     }
-}
-
-// The schema of the library after the files of a chain, of which there are so many, or why it has none.
-fn schema_of_chain(alloc: Global, chain: Chain, files: u32) -> Result<Text, Status>
-    requires few { HasFewDocs chain }
-    requires formed { AreFormedDocs chain }
-    ensures ok { IfOk result (λ text. (aside : Bool) (trees : List ATree) → IsChainOf aside chain trees → TreesComeTo aside trees (gives text)) }
-    ensures accepts { IfOk result (λ text. (aside : Bool) (trees : List ATree) → IsChainOf aside chain trees → AcceptsOfTrees aside trees text) }
-    ensures err { IfErr result (λ status. (aside : Bool) (trees : List ATree) → IsChainOf aside chain trees → files ≡ length trees → IsReplied status → TreesComeTo aside trees (answers status)) }
-    ensures of_trees { IfErr result IsOfTrees }
-{
-    match chain.library(alloc) {
-        Ok(library) => schema_of_library(alloc, &library, files),
-        Err(ChainRefusal::Offence(offence)) => Err(Status::Refused(offence)),
-        Err(ChainRefusal::NoMemory) => Err(Status::NoMemory),
-    }
-}
-
-// The schema of the library after so many files, which breaks no rule, or the start word that is no held element.
-fn schema_of_library(alloc: Global, library: &Library, files: u32) -> Result<Text, Status>
-    requires unbroken { (key : AKey) (rule : ℕ) → Breaks library.now key rule → ⊥ }
-    requires formed { IsFormedLibrary library.now }
-    ensures held { OnOk result (HoldsStart library.now library.now.start) }
-    ensures ok { IfOk result (λ text. HasSchema library.now (gives text)) }
-    ensures accepts { IfOk result (AcceptsAdmitted library.now) }
-    ensures err { IfErr result (IsStartError library.now files) }
-{
-    let grammar = match compile(alloc, library, &library.start) {
-        Ok(grammar) => grammar,
-        Err(CompileRefusal::Offence(offence)) => {
-            return Err(Status::Refused(in_file(offence, files)));
-        }
-        Err(CompileRefusal::TooLarge) => return Err(Status::Limit(LimitKind::Nodes)),
-        Err(CompileRefusal::NoMemory) => return Err(Status::NoMemory),
-    };
-    match print_rng(alloc, &grammar) {
-        Ok(text) => Ok(text),
-        Err(NoMemory) => Err(Status::NoMemory),
-    }
-}
-
-// The offence, in the file of a number.
-fn in_file(offence: Offence, file: u32) -> Offence
-    ensures file { result.file ≡ file }
-    ensures who { result.who ≡ offence.who }
-    ensures rule { result.rule ≡ offence.rule }
-{
-    let Offence { file: _, who, rule } = offence;
-    Offence { file, who, rule }
 }

@@ -1,5 +1,6 @@
 ghost use Rattle.std.specs.Prelude.{◌≡◌, ◌≢◌, ◌↔◌, ◌∷◌, ℕ, All, false, List, codes, IsTrue, IfSome, IsNone};
-ghost use Rattle.odd_cli.specs.Words.{Compiles, IsFileWord, WordsMean, with_aside};
+ghost use Rattle.odd_cli.specs.Words.{Asks, IsFileWord, WordsMean, command_word, with_aside};
+ghost use Rattle.odd_cli.specs.declared.words.Command.{Command as ACommand};
 ghost use Rattle.odd_cli.specs.declared.words.Job.{Job as AJob};
 
 use odd_text::{Text, Words};
@@ -7,6 +8,8 @@ use odd_text::{Text, Words};
 /// What the program is to do.
 #[derive(Clone, Copy, Debug, PartialEq, Eq)]
 pub enum Command {
+    /// Writes the merged ODD of a chain of files.
+    Merge,
     /// Writes the schema of a chain of files.
     Compile,
 }
@@ -52,19 +55,32 @@ fn after_aside(words: &[Text]) -> (bool, &[Text])
     }
 }
 
+// The command of a word.
+fn command_named(word: &Text) -> Option<Command>
+    ensures some { IfSome result (λ command. word.now ≡ command_word command) }
+    ensures none { IsNone result → (command : ACommand) → word.now ≢ command_word command }
+{
+    match word.as_str() {
+        "merge" => Some(Command::Merge),
+        "compile" => Some(Command::Compile),
+        _ => None,
+    }
+}
+
 /// What the words ask for, where they have a job.
 pub fn job_asked(words: &Words) -> Option<Asked<'_>>
     ensures job { IfSome result (λ asked. WordsMean words.now asked.job) }
-    ensures chain { IfSome result (λ asked. Compiles words.now asked.job.aside asked.chain.now) }
+    ensures chain { IfSome result (λ asked. Asks words.now asked.job.command asked.job.aside asked.chain.now) }
     ensures none { IsNone result → (job : AJob) → WordsMean words.now job → ⊥ }
 {
     let (aside, rest) = after_aside(words.as_slice());
-    let (command, chain) = rest.split_first()?;
-    if !is_word(command, "compile") || chain.is_empty() || !are_files(chain) {
+    let (first, chain) = rest.split_first()?;
+    let command = command_named(first)?;
+    if chain.is_empty() || !are_files(chain) {
         return None;
     }
     let job = Job {
-        command: Command::Compile,
+        command,
         aside,
         files: chain.len(),
         number: 0,

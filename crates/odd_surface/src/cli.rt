@@ -22,15 +22,13 @@ fn command(alloc: Global) -> Result<Words, NoMemory> {
 }
 
 fn is_compile(job: Option<Job>) -> bool {
-    match job {
-        Some(
-            Job {
-                command: Command::Compile,
-                ..
-            },
-        ) => true,
-        None => false,
-    }
+    matches!(
+        job,
+        Some(Job {
+            command: Command::Compile,
+            ..
+        },)
+    )
 }
 
 fn call_run(alloc: Global, words: &Words) -> Result<(), Fault> {

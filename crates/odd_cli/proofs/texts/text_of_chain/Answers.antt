@@ -1,0 +1,22 @@
+use Rattle.std.proofs.Common.{ap, Err}
+use Rattle.odd_cli.proofs.Coming.{library_accepts, library_comes, library_whole, none_comes, refused_come}
+use Rattle.odd_cli.proofs.texts.text_of_chain.Goals as goal
+
+pub returns-in-Ok-clause-ok : goal.returns-in-Ok-clause-ok
+returns-in-Ok-clause-ok c = library_comes c.args.command c.args.chain c.in-Ok.library c.in-Ok.ensures.library c.args.files c.text_of_library.result c.text_of_library.ensures.ok
+
+pub returns-in-Ok-clause-accepts : goal.returns-in-Ok-clause-accepts
+returns-in-Ok-clause-accepts c = library_accepts c.args.command c.args.chain c.in-Ok.library c.in-Ok.ensures.library c.text_of_library.result c.text_of_library.ensures.accepts
+
+pub returns-in-Ok-clause-whole : goal.returns-in-Ok-clause-whole
+returns-in-Ok-clause-whole c = library_whole c.args.command c.args.chain c.in-Ok.library c.in-Ok.ensures.library c.text_of_library.result
+
+pub returns-in-Ok-clause-err : goal.returns-in-Ok-clause-err
+returns-in-Ok-clause-err c = none_comes c.args.command c.args.chain c.in-Ok.library c.in-Ok.ensures.library c.args.files c.text_of_library.result c.text_of_library.ensures.err
+
+pub returns-in-Err-Offence-clause-err : goal.returns-in-Err-Offence-clause-err
+returns-in-Err-Offence-clause-err c =
+    let o = c.in-Err-Offence.offence in
+    let is = ap Err c.in-Err-Offence.field-0-is in
+    rw c.in-Err-Offence.field-0-is
+    (λ aside trees of many replied. refused_come c.args.command aside trees o (c.in-Err-Offence.ensures.offence o is aside trees of))

@@ -1,0 +1,7 @@
+use Rattle.std.proofs.Common.{◌≡◌, ◌++◌, map, take}
+use Rattle.odd_emit.specs.Contents.{value_markup}
+use Rattle.odd_emit.specs.Saying.{elements_printed}
+use Rattle.odd_emit.proofs.data.add_values.Given as goal
+
+abbrev pub invariant-loop-value : goal.invariant-loop-value
+invariant-loop-value l = l.out ≡ l.fn.out ++ elements_printed (map value_markup (take l.value-index l.values))

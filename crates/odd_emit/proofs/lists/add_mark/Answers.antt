@@ -1,0 +1,14 @@
+use Rattle.std.proofs.Common.{◌∷◌, [], codes}
+use Rattle.std.proofs.lemmas.Result.{on_ok_weaker}
+use Rattle.odd_emit.specs.Attributes.{mark_word}
+use Rattle.odd_emit.specs.Contents.{mode_said}
+use Rattle.odd_emit.specs.Saying.{a_text, says}
+use Rattle.odd_emit.proofs.Put.{bare_put, said_put}
+use Rattle.odd_emit.proofs.lists.add_mark.Goals as goal
+
+pub returns : goal.returns
+returns c =
+    on_ok_weaker c.end_empty_tag.result
+    (bare_put c.args.out.now (codes "valItem") (says (codes "ident") (a_text c.args.value.now) ∷ mode_said (mark_word c.args.added) ∷ []) c.begin_tag.new.out c.add_mark_mode.new.out c.end_empty_tag.new.out c.in_ok-begin_tag.ensures.ok
+    (said_put c.begin_tag.new.out (says (codes "ident") (a_text c.args.value.now) ∷ []) (mode_said (mark_word c.args.added) ∷ []) c.add_ident.new.out c.add_mark_mode.new.out c.in_ok-add_ident.ensures c.in_ok-add_mark_mode.ensures))
+    c.end_empty_tag.ensures.ok

@@ -1,0 +1,4 @@
+pub mod Attributes
+pub mod Components
+pub mod Contents
+pub mod Saying
