@@ -5,7 +5,7 @@ use Rattle.std.proofs.lemmas.List.{length-map}
 use Rattle.std.proofs.lemmas.List.Folds.{sum_by-replicate}
 use Rattle.std.proofs.lemmas.List.Sums.{sum_by-append, sum_by-cons, sum_by_more_le}
 use Rattle.std.specs.Prelude.{replicate, sum_by}
-use Rattle.odd_tree.specs.Markup.{Markup, element, line}
+use Rattle.odd_tree.specs.Markup.{Markup, declaring, element, line}
 use Rattle.rng_emit.proofs.Shapes.{choice_is, empty_is, group_is, not_allowed_is, one_or_more_is, optional_is, ref_is, text_is, zero_or_more_is}
 use Rattle.rng_emit.specs.Grammar.{all_of, pattern_markup}
 use Rattle.rng_emit.specs.Nodes.{elements_among, elements_in}
@@ -46,6 +46,7 @@ one_each f one (x ∷ xs) =
 pub some_elements : (m : Markup) → 0 < elements_in m
 some_elements (element tag attrs inside) = omega arith
 some_elements (line tag attrs text) = omega arith
+some_elements (declaring tag prefixes attrs) = omega arith
 
 -- the elements of a list are those of its items
 pub among_sum : (ms : List Markup) → elements_among (all_of ms) ≡ sum_by elements_in ms

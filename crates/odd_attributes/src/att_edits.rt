@@ -66,6 +66,20 @@ impl AttEdits {
         self.edits.len()
     }
 
+    /// Whether there is no edit.
+    pub fn is_empty(&self) -> bool
+        ensures { IsTrue result ↔ (self.now ≡ []) }
+    {
+        self.edits.is_empty()
+    }
+
+    /// The edits, an ident and its edit, in strictly rising order of ident.
+    pub fn entries(&self) -> &[(Text, AttEdit)]
+        ensures { result.now ≡ self.now }
+    {
+        self.edits.entries()
+    }
+
     /// The ident at a place in the order of the idents, counted from 0.
     pub fn key(&self, at: usize) -> Option<&Text>
         ensures value { option_copied result ≡ option_map (λ e. e.0) (slice_get self.now at) }

@@ -66,7 +66,7 @@ module _ {aside : Bool} where
         offends_more docs others made.0 file at made.1 o
 
     -- and the other way round
-    of_chain : (file : ℕ) (at : Position) → OffendsIn docs file at → ChainOffends aside trees file at
+    pub of_chain : (file : ℕ) (at : Position) → OffendsIn docs file at → ChainOffends aside trees file at
     of_chain file at o =
         let up = up_to docs file at o in
         let made = first_declared are.files docs up.first up.later are.declared up.parts in

@@ -9,7 +9,7 @@ ghost use Rattle.odd_modes.specs.After.{IsLibraryAfter};
 ghost use Rattle.odd_chain.specs.Files.{AreDeclared, Gives, IsChainRefusal, all_asides};
 ghost use Rattle.odd_chain.specs.Offences.{OffendsIn};
 ghost use Rattle.odd_chain.specs.Order.{IsFirst, Position};
-ghost use Rattle.odd_chain.specs.Reading.{AreFormedDocs, HasFewDocs, IsBrokenAfter, IsChainOf};
+ghost use Rattle.odd_chain.specs.Reading.{AreFormedDocs, HasFewDocs, IsChainOf};
 ghost use Rattle.odd_tree.specs.Formed.{IsFormed};
 ghost use Rattle.odd_tree.specs.declared.tree.Tree.{Tree as ATree};
 

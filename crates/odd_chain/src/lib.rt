@@ -4,7 +4,8 @@
 
 mod chain;
 mod merging;
+mod printing;
 
 pub use chain::{Chain, ChainRefusal};
 pub use merging::{OddDocs, merge};
-pub use odd_emit::print_odd;
+pub use printing::print_odd;

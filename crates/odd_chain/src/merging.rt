@@ -1,4 +1,4 @@
-ghost use Rattle.std.specs.Prelude.{◌≡◌, ◌≢◌, ◌<◌, ◌^◌, ℕ, length, All, Err, IfOk, IsOk};
+ghost use Rattle.std.specs.Prelude.{◌≡◌, ◌<◌, ◌^◌, ℕ, length, All, Err, IfOk, IsOk};
 ghost use Rattle.odd_text.specs.declared.key.Key.{Key as AKey};
 ghost use Rattle.odd_text.specs.declared.offence.Offence.{Offence as AnOffence};
 ghost use Rattle.odd_library.specs.Formed.{IsFormedDoc, IsFormedLibrary};

@@ -15,7 +15,7 @@ use Rattle.odd_cli.proofs.OneReply.{names_one, none_stops, one_chain, words_one,
 use Rattle.odd_cli.specs.Outcome.{answers, gives}
 use Rattle.odd_cli.specs.Reading.{IsChainRead, IsOfFile, IsOfTrees, IsTreeRead, StopsAt}
 use Rattle.odd_cli.specs.Reply.{FileGives, FileStops, GiveTrees, IsReached, ReadsChain, stops, NamesFiles, Reply, TreesComeTo, answered, chain_files, done, file_bytes, WordsComeTo}
-use Rattle.odd_cli.specs.Running.{AreBegun, AreReadWhole, BeginsFiles, GoesOn, IsFaultPlace, IsReplied, counted, AcceptsIfSchema, AcceptsOfWords, AsidesOfTrees, AsidesOfWords, IsReadPlace, IsComplete, IsSilent, IsSound}
+use Rattle.odd_cli.specs.Running.{AreBegun, AreReadWhole, BeginsFiles, GoesOn, IsFaultPlace, IsReplied, counted, AsidesOfTrees, AsidesOfWords, IsReadPlace, IsComplete, IsSilent, IsSound, ServesTrees, ServesWords}
 use Rattle.odd_cli.specs.Words.{Asks, WordsMean, command_word, files_named, of_chain, with_aside}
 use Rattle.odd_cli.specs.declared.words.Command.{Command}
 use Rattle.odd_cli.specs.declared.words.Command.TheVariants as command
@@ -179,9 +179,9 @@ module _ (holds : Option FileMap) (words : List (List ℕ)) (asked : Command) (a
   text_comes files h t =
       IfOk-weaker t _ _ (λ answer come. done ((asked, aside, names), n, (r.trees, ReadsChain.all_spelled (r.given files h), come r.trees r.is_chain (sym r.many))))
 
-  pub text_accepts : (files : FileMap) → holds ≡ Some files → (t : Result Answer Status)
-      → IfOk t (λ answer. (trees : List Tree) → IsChainOf aside chain trees → AcceptsIfSchema asked aside trees answer.text) → IfOk t (λ answer. AcceptsOfWords words files answer.text)
-  text_accepts files h t = IfOk-weaker t _ _ (λ answer accepts. record {
+  pub text_serves : (files : FileMap) → holds ≡ Some files → (t : Result Answer Status)
+      → IfOk t (λ answer. (trees : List Tree) → IsChainOf aside chain trees → ServesTrees asked aside trees answer.text) → IfOk t (λ answer. ServesWords words files answer.text)
+  text_serves files h t = IfOk-weaker t _ _ (λ answer serves. record {
     asked = asked;
     aside = aside;
     chain = names;
@@ -189,7 +189,7 @@ module _ (holds : Option FileMap) (words : List (List ℕ)) (asked : Command) (a
     within = named_few words asked aside names n;
     trees = r.trees;
     given = r.given files h;
-    right = accepts r.trees r.is_chain;
+    serves = serves r.trees r.is_chain;
   })
 
   pub asides_told : (files : FileMap) → holds ≡ Some files → (t : Result Answer Status)

@@ -10,22 +10,15 @@ use Rattle.odd_text.specs.declared.offence.Offence.{Offence}
 use Rattle.odd_tree.specs.declared.tree.Tree.{Tree}
 use Rattle.odd_cli.specs.Outcome.{answers, gives}
 use Rattle.odd_cli.specs.Reply.{HasText, Merges, TreesComeTo}
-use Rattle.odd_cli.specs.Running.{AcceptsIfAdmitted, AcceptsIfSchema, IsReplied}
+use Rattle.odd_cli.specs.Running.{IsReplied, Serves, ServesTrees}
 use Rattle.odd_cli.specs.declared.status.Status.{Status}
 use Rattle.odd_cli.specs.declared.status.Status.TheVariants as status
 use Rattle.odd_cli.specs.declared.words.Command.{Command}
-use Rattle.odd_cli.specs.declared.words.Command.TheVariants as command
 
 -- an offence
 pub refused_come : (asked : Command) (aside : Bool) (trees : List Tree) (offence : Offence) → IsChainRefusal aside trees offence
     → TreesComeTo asked aside trees (answers (status.Refused offence))
 refused_come asked aside trees offence r = inl (Merges.refused r)
-
--- a schema of the library accepts what that admits
-schema_accepts : (asked : Command) (aside : Bool) (trees : List Tree) (library : Library) (text : List ℕ) → Gives aside trees library → AcceptsIfAdmitted asked library text
-    → AcceptsIfSchema asked aside trees text
-schema_accepts command.Merge aside trees library text g right = tt
-schema_accepts command.Compile aside trees library text g right = record { library = library; gives = g; right = right }
 
 module _ (asked : Command) (chain : Chain) (library : Library) (given : (aside : Bool) (trees : List Tree) → IsChainOf aside chain trees → Gives aside trees library) where
   -- what is written of the library
@@ -34,9 +27,9 @@ module _ (asked : Command) (chain : Chain) (library : Library) (given : (aside :
   library_comes files r =
       IfOk-weaker r _ _ (λ text has aside trees of many. (library, Merges.merged (given aside trees of), subst (λ n. HasText asked n library (gives text)) many has))
 
-  pub library_accepts : (r : Result (List ℕ) Status) → IfOk r (AcceptsIfAdmitted asked library)
-      → IfOk r (λ text. (aside : Bool) (trees : List Tree) → IsChainOf aside chain trees → AcceptsIfSchema asked aside trees text)
-  library_accepts r = IfOk-weaker r _ _ (λ text right aside trees of. schema_accepts asked aside trees library text (given aside trees of) right)
+  pub library_serves : (r : Result (List ℕ) Status) → IfOk r (Serves asked library)
+      → IfOk r (λ text. (aside : Bool) (trees : List Tree) → IsChainOf aside chain trees → ServesTrees asked aside trees text)
+  library_serves r = IfOk-weaker r _ _ (λ text right aside trees of. record { library = library; gives = given aside trees of; serves = right })
 
   -- which is that of the files
   pub library_whole : (r : Result (List ℕ) Status) → IfOk r (λ text. (aside : Bool) (trees : List Tree) → IsChainOf aside chain trees → (l : Library) × Gives aside trees l)

@@ -3,3 +3,4 @@ pub mod Coming
 pub mod Commands
 pub mod OneReply
 pub mod Saying
+pub mod Serving

@@ -129,7 +129,7 @@ module _ {X Y Z : Type 0} (R : X → Outcome Y → Type 0) (S : Y → Outcome Z 
   not_both x y s r q = let no = one x (gives y) (answers s) r q in cc
 
   -- once something is given, all goes on from there
-  after : (x : X) (y : Y) (o : Outcome Z) → R x (gives y) → Then R S x o → S y o
+  pub after : (x : X) (y : Y) (o : Outcome Z) → R x (gives y) → Then R S x o → S y o
   after x y (answers s) r (inl q) = absurd (not_both x y s r q)
   after x y (answers s) r (inr q) = subst (λ v. S v (answers s)) (given_once x q.0 y q.1 r) q.2
   after x y (gives z) r q = subst (λ v. S v (gives z)) (given_once x q.0 y q.1 r) q.2
@@ -248,7 +248,7 @@ of_schema : (files : ℕ) (library : Library) (s : Status) → Then (HasStart fi
 of_schema files library s (inl (start_missing word m)) = tt
 of_schema files library s (inr (same, h, too_large l)) = tt
 
-odd_answers : (library : Library) (s : Status) → HasMergedOdd library (answers s) → ⊥
+pub odd_answers : (library : Library) (s : Status) → HasMergedOdd library (answers s) → ⊥
 odd_answers library s h = elim h [ ]
 
 of_text : (asked : Command) (files : ℕ) (library : Library) (s : Status) → HasText asked files library (answers s) → IsOfTrees s

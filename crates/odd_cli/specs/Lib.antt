@@ -1,3 +1,4 @@
+pub mod Base
 pub mod Note
 pub mod Outcome
 pub mod Reading

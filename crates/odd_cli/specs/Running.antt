@@ -4,6 +4,7 @@ use Rattle.odd_text.specs.Count.{HasRisen, last_count, next_count}
 use Rattle.odd_base.specs.Shelf.{FileMap, Held, NotHeld, LeavesSuffix}
 use Rattle.odd_library.specs.declared.library.Library.{Library}
 use Rattle.odd_tree.specs.declared.tree.Tree.{Tree}
+use Rattle.odd_chain.specs.Base.{SpellsBase}
 use Rattle.odd_chain.specs.Files.{ChainOffends, Gives, HasAsides}
 use Rattle.odd_chain.specs.Order.{Position}
 use Rattle.odd_meaning.specs.Admission.{Admits}
@@ -120,17 +121,35 @@ pub record AcceptsAdmitted (library : Library) (text : List ℕ) : Type 0 where
   pub denotes : DenotesOnly text grammar
   pub accepts : (t : Tree) → Accepts grammar t ↔ Admits library library.start t
 
+-- What a command writes of a library does what it is for: a merged ODD stands for its files, and a schema accepts what it admits.
+abbrev pub Serves : Command → Library → List ℕ → Type 0
+Serves command.Merge library text = SpellsBase library text
+Serves command.Compile library text = AcceptsAdmitted library text
+
 -- the same of the library after the trees of a chain
+pub record ServesTrees (asked : Command) (aside : Bool) (trees : List Tree) (text : List ℕ) : Type 0 where
+  pub library : Library
+  pub gives : Gives aside trees library
+  pub serves : Serves asked library text
+
+-- and of the chain that the words name
+pub record ServesWords (words : List (List ℕ)) (files : FileMap) (text : List ℕ) : Type 0 where
+  pub asked : Command
+  pub aside : Bool
+  pub chain : List (List ℕ)
+  pub asks : Asks words asked aside chain
+  pub within : length chain ≤ chain_files
+  pub trees : List Tree
+  pub given : GiveTrees files chain trees
+  pub serves : ServesTrees asked aside trees text
+
+-- the text denotes one grammar that accepts what the library after the trees of a chain admits
 pub record AcceptsOfTrees (aside : Bool) (trees : List Tree) (text : List ℕ) : Type 0 where
   pub library : Library
   pub gives : Gives aside trees library
   pub right : AcceptsAdmitted library text
 
--- and of what a command writes, where that is a schema
-abbrev pub AcceptsIfAdmitted : Command → Library → List ℕ → Type 0
-AcceptsIfAdmitted command.Merge library text = Unit {0}
-AcceptsIfAdmitted command.Compile library text = AcceptsAdmitted library text
-
+-- so does what a command writes, where that is a schema
 abbrev pub AcceptsIfSchema : Command → Bool → List Tree → List ℕ → Type 0
 AcceptsIfSchema command.Merge aside trees text = Unit {0}
 AcceptsIfSchema command.Compile aside trees text = AcceptsOfTrees aside trees text

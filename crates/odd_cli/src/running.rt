@@ -8,13 +8,15 @@ ghost use Rattle.odd_chain.specs.Files.{AreDeclared};
 ghost use Rattle.odd_chain.specs.Reading.{AreFormedDocs, HasFewDocs, IsChainOf};
 ghost use Rattle.odd_library.specs.declared.odd.OddDoc.{OddDoc as ADoc};
 ghost use Rattle.odd_cli.specs.Note.{note_text};
+ghost use Rattle.odd_cli.specs.declared.words.Command.TheVariants as command;
 ghost use Rattle.odd_cli.specs.Outcome.{answers, gives};
-ghost use Rattle.odd_cli.specs.Words.{WordsMean, files_named};
+ghost use Rattle.odd_cli.specs.Base.{IsBase};
+ghost use Rattle.odd_cli.specs.Words.{Asks, WordsMean, files_named};
 ghost use Rattle.odd_cli.specs.declared.words.Job.{Job as AJob};
 ghost use Rattle.odd_cli.specs.declared.status.Status.{Status as AStatus};
 ghost use Rattle.odd_cli.specs.Reply.{FileStops, NamesFiles, ReadsChain, Reply, TreesComeTo, chain_files, file_bytes};
 ghost use Rattle.odd_cli.specs.Reading.{IsChainRead, IsOfFile, IsOfTrees, IsTreeRead, StopsAt};
-ghost use Rattle.odd_cli.specs.Running.{AcceptsIfSchema, AcceptsOfWords, AsidesOfTrees, AsidesOfWords, BeginsFiles, GoesOn, IsComplete, IsFaultPlace, IsNoted, IsReadPlace, IsReplied, IsSilent, IsSound, AreReadWhole, counted};
+ghost use Rattle.odd_cli.specs.Running.{AcceptsOfWords, AsidesOfTrees, AsidesOfWords, BeginsFiles, GoesOn, IsComplete, IsFaultPlace, IsNoted, IsReadPlace, IsReplied, IsSilent, IsSound, AreReadWhole, ServesTrees, ServesWords, counted};
 
 use crate::note::write_note;
 use crate::status::{LimitKind, Status};
@@ -44,6 +46,7 @@ pub fn run<F: Shelf, W: Sink, N: Sink>(
 ) -> Status
     ensures reply { (files : FileMap) (before : List ℕ) → F.holds shelf.old ≡ Some files → W.written out.old ≡ Some before → IsReplied result → ((text : List ℕ) × (W.written out.new ≡ Some (before ++ text)) × Reply words.now files text result) }
     ensures accepts { (files : FileMap) (before : List ℕ) → F.holds shelf.old ≡ Some files → W.written out.old ≡ Some before → result ≡ Status.Done → ((text : List ℕ) × (W.written out.new ≡ Some (before ++ text)) × AcceptsOfWords words.now files text) }
+    ensures base { (files : FileMap) (before : List ℕ) (aside : Bool) (first : List (List ℕ)) → F.holds shelf.old ≡ Some files → W.written out.old ≡ Some before → result ≡ Status.Done → Asks words.now command.Merge aside first → ((text : List ℕ) × (W.written out.new ≡ Some (before ++ text)) × IsBase files aside first text) }
     ensures usage { (result ≡ Status.Usage) ↔ ((job : AJob) → WordsMean words.now job → ⊥) }
     ensures files { (result ≡ Status.Limit LimitKind.Files) ↔ NamesFiles words.now (answers (Status.Limit LimitKind.Files)) }
     ensures silent { IsSilent result → W.written out.new ≡ W.written out.old }
@@ -97,7 +100,7 @@ fn noted<N: Sink>(note: &mut N, status: Status, asides: Option<u64>) -> Status
 // The text of the reply, or the status where there is none.
 fn reply_text<F: Shelf>(alloc: Global, words: &Words, shelf: &mut F) -> Result<Answer, Status>
     ensures ok { (files : FileMap) → F.holds shelf.old ≡ Some files → IfOk result (λ answer. Reply words.now files answer.text Status.Done) }
-    ensures accepts { (files : FileMap) → F.holds shelf.old ≡ Some files → IfOk result (λ answer. AcceptsOfWords words.now files answer.text) }
+    ensures serves { (files : FileMap) → F.holds shelf.old ≡ Some files → IfOk result (λ answer. ServesWords words.now files answer.text) }
     ensures asides { (files : FileMap) → F.holds shelf.old ≡ Some files → IfOk result (λ answer. AsidesOfWords words.now files answer.asides) }
     ensures err { (files : FileMap) → F.holds shelf.old ≡ Some files → IfErr result (λ status. IsReplied status → Reply words.now files [] status) }
     ensures early { IfErr result IsSilent }
@@ -127,7 +130,7 @@ fn answer_of(alloc: Global, chain: Chain, job: Job, files: u32) -> Result<Answer
     requires few { HasFewDocs chain }
     requires formed { AreFormedDocs chain }
     ensures ok { IfOk result (λ answer. (trees : List ATree) → IsChainOf job.aside chain trees → files ≡ length trees → TreesComeTo job.command job.aside trees (gives answer.text)) }
-    ensures accepts { IfOk result (λ answer. (trees : List ATree) → IsChainOf job.aside chain trees → AcceptsIfSchema job.command job.aside trees answer.text) }
+    ensures serves { IfOk result (λ answer. (trees : List ATree) → IsChainOf job.aside chain trees → ServesTrees job.command job.aside trees answer.text) }
     ensures asides { IfOk result (λ answer. (trees : List ATree) → IsChainOf job.aside chain trees → AsidesOfTrees job.aside trees answer.asides) }
     ensures err { IfErr result (λ status. (trees : List ATree) → IsChainOf job.aside chain trees → files ≡ length trees → IsReplied status → TreesComeTo job.command job.aside trees (answers status)) }
     ensures of_trees { IfErr result IsOfTrees }

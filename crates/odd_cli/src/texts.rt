@@ -1,7 +1,8 @@
-ghost use Rattle.std.specs.Prelude.{◌≡◌, ℕ, Bool, List, IfOk, IfErr, OnOk, length};
+ghost use Rattle.std.specs.Prelude.{◌≡◌, ℕ, Bool, List, IfOk, IfErr, length};
 ghost use Rattle.odd_text.specs.declared.key.Key.{Key as AKey};
 ghost use Rattle.odd_meaning.specs.Rules.{Breaks};
 ghost use Rattle.odd_tree.specs.declared.tree.Tree.{Tree as ATree};
+ghost use Rattle.odd_chain.specs.Base.{SpellsBase};
 ghost use Rattle.odd_chain.specs.Files.{Gives};
 ghost use Rattle.odd_chain.specs.Reading.{AreFormedDocs, HasFewDocs, IsChainOf};
 ghost use Rattle.odd_library.specs.Formed.{IsFormedLibrary};
@@ -10,7 +11,7 @@ ghost use Rattle.odd_emit.specs.Components.{merged_odd};
 ghost use Rattle.odd_cli.specs.Outcome.{answers, gives};
 ghost use Rattle.odd_cli.specs.Reply.{HasText, TreesComeTo};
 ghost use Rattle.odd_cli.specs.Reading.{IsOfTrees};
-ghost use Rattle.odd_cli.specs.Running.{AcceptsAdmitted, AcceptsIfAdmitted, AcceptsIfSchema, IsReplied};
+ghost use Rattle.odd_cli.specs.Running.{AcceptsAdmitted, IsReplied, Serves, ServesTrees};
 ghost use Rattle.odd_cli.specs.declared.words.Command.TheVariants as command;
 
 use crate::status::{LimitKind, Status};
@@ -32,7 +33,7 @@ pub fn text_of_chain(
     requires few { HasFewDocs chain }
     requires formed { AreFormedDocs chain }
     ensures ok { IfOk result (λ text. (aside : Bool) (trees : List ATree) → IsChainOf aside chain trees → files ≡ length trees → TreesComeTo command aside trees (gives text)) }
-    ensures accepts { IfOk result (λ text. (aside : Bool) (trees : List ATree) → IsChainOf aside chain trees → AcceptsIfSchema command aside trees text) }
+    ensures serves { IfOk result (λ text. (aside : Bool) (trees : List ATree) → IsChainOf aside chain trees → ServesTrees command aside trees text) }
     ensures whole { IfOk result (λ text. (aside : Bool) (trees : List ATree) → IsChainOf aside chain trees → (library : ALibrary) × Gives aside trees library) }
     ensures err { IfErr result (λ status. (aside : Bool) (trees : List ATree) → IsChainOf aside chain trees → files ≡ length trees → IsReplied status → TreesComeTo command aside trees (answers status)) }
     ensures of_trees { IfErr result IsOfTrees }
@@ -54,7 +55,7 @@ fn text_of_library(
     requires unbroken { (key : AKey) (rule : ℕ) → Breaks library.now key rule → ⊥ }
     requires formed { IsFormedLibrary library.now }
     ensures ok { IfOk result (λ text. HasText command files library.now (gives text)) }
-    ensures accepts { IfOk result (AcceptsIfAdmitted command library.now) }
+    ensures serves { IfOk result (Serves command library.now) }
     ensures err { IfErr result (λ status. IsReplied status → HasText command files library.now (answers status)) }
     ensures of_trees { IfErr result IsOfTrees }
 {
@@ -64,9 +65,12 @@ fn text_of_library(
     }
 }
 
-// The merged ODD that stands for the files of a library.
+// The merged ODD that stands for the files of a library, which breaks no rule.
 fn merged_odd_of(alloc: Global, library: &Library) -> Result<Text, Status>
+    requires unbroken { (key : AKey) (rule : ℕ) → Breaks library.now key rule → ⊥ }
+    requires formed { IsFormedLibrary library.now }
     ensures ok { IfOk result (λ text. text ≡ merged_odd library.now) }
+    ensures base { IfOk result (SpellsBase library.now) }
     ensures err { IfErr result (λ status. status ≡ Status.NoMemory) }
 {
     match print_odd(alloc, library) {

@@ -1,20 +1,14 @@
 -- What is put piece by piece is the print of an element that says it.
 use Rattle.std.proofs.Common.{◌≡◌, ℕ, List, [], ◌∷◌, ◌++◌, Option, Some, None, codes, refl, sym, ap, ◌∙◌, append_assoc, append-nil}
-use Rattle.odd_tree.specs.Markup.{Markup, Pair, attributes_printed, escaped_text, escaped_value, line, printed}
-use Rattle.rng_emit.proofs.Shapes.{alone, both, full}
-use Rattle.odd_emit.specs.Saying.{Said, elements_printed, pair_of, pairs_of, present, said_printed, spoken}
+use Rattle.odd_tree.specs.Markup.{Markup, Pair, attributes_printed, escaped_text, line, printed}
+use Rattle.odd_printing.proofs.Shapes.{alone, attributes_append, both, full}
+use Rattle.odd_emit.specs.Saying.{Said, declared_printed, elements_printed, pair_of, pairs_of, present, said_printed, spoken, spoken_with}
 
 -- what is said in two parts
 
 pub pairs_append : (xs ys : List Said) → pairs_of (xs ++ ys) ≡ pairs_of xs ++ pairs_of ys
 pairs_append [] ys = refl
 pairs_append (x ∷ xs) ys = ap (λ ps. pair_of x.local x.value ++ ps) (pairs_append xs ys) ∙ sym (append_assoc (pair_of x.local x.value) (pairs_of xs) (pairs_of ys))
-
-attributes_append : (xs ys : List Pair) → attributes_printed (xs ++ ys) ≡ attributes_printed xs ++ attributes_printed ys
-attributes_append [] ys = refl
-attributes_append (x ∷ xs) ys =
-    ap (λ z. codes " " ++ x.0 ++ codes "=\"" ++ escaped_value x.1 ++ codes "\"" ++ z) (attributes_append xs ys)
-    ∙ sym (append_assoc (codes " " ++ x.0 ++ codes "=\"" ++ escaped_value x.1 ++ codes "\"") (attributes_printed xs) (attributes_printed ys))
 
 pub said_append : (xs ys : List Said) → said_printed (xs ++ ys) ≡ said_printed xs ++ said_printed ys
 said_append xs ys = ap attributes_printed (pairs_append xs ys) ∙ attributes_append (pairs_of xs) (pairs_of ys)
@@ -36,6 +30,16 @@ pub bare_put : (o tag : List ℕ) (said : List Said) (o1 o2 new : List ℕ) → 
     → new ≡ o ++ printed (spoken tag said [])
 bare_put o tag said o1 o2 new e f g =
     g ∙ ap (λ z. z ++ codes "/>\n") (f ∙ ap (λ z. z ++ said_printed said) e) ∙ regrouped o (codes "<" ++ tag) (said_printed said) (codes "/>\n")
+
+-- one that declares prefixes
+with_regrouped : (o t d a e : List ℕ) → o ++ t ++ d ++ a ++ e ≡ o ++ (t ++ d ++ a ++ e)
+with_regrouped o t d a e = simp append_assoc
+
+pub with_put : (o tag : List ℕ) (prefixes : List Pair) (said : List Said) (o1 o2 o3 new : List ℕ) → o1 ≡ o ++ (codes "<" ++ tag) → o2 ≡ o1 ++ declared_printed prefixes
+    → o3 ≡ o2 ++ said_printed said → new ≡ o3 ++ codes "/>\n" → new ≡ o ++ printed (spoken_with tag prefixes said)
+with_put o tag prefixes said o1 o2 o3 new e f g h =
+    h ∙ ap (λ z. z ++ codes "/>\n") (g ∙ ap (λ z. z ++ said_printed said) (f ∙ ap (λ z. z ++ declared_printed prefixes) e))
+    ∙ with_regrouped o (codes "<" ++ tag) (declared_printed prefixes) (said_printed said) (codes "/>\n")
 
 -- an element with some elements in it
 pub full_put : (o tag : List ℕ) (said : List Said) (ms : List Markup) → (ms ≡ [] → ⊥) → (o1 o2 o3 o4 new : List ℕ) → o1 ≡ o ++ (codes "<" ++ tag) → o2 ≡ o1 ++ said_printed said
@@ -65,11 +69,6 @@ pub content_there : (a b : Option Markup) (m : Markup) (d : Option Markup) → p
 content_there None None m d e = cc
 content_there None (Some y) m d e = cc
 content_there (Some x) b m d e = cc
-
--- nothing is there where none of them is
-pub none_there : (m : Option Markup) (ms : List (Option Markup)) → present (m ∷ ms) ≡ [] → (m ≡ None) × (present ms ≡ [])
-none_there None ms e = (refl, e)
-none_there (Some m) ms e = cc
 
 -- an element with a text in it
 line_regrouped : (o p b x c t d : List ℕ) → o ++ p ++ b ++ x ++ (c ++ t ++ d) ≡ o ++ (p ++ b ++ x ++ c ++ t ++ d)

@@ -1,8 +1,8 @@
 -- The elements of a merged ODD that stand for content models, data and lists of values.
-use Rattle.std.specs.Prelude.{ℕ, Bool, false, ◌&&◌, ◌||◌, ◌==◌, not, suc, zero, if◌then◌else◌, List, [], ◌∷◌, ◌++◌, map, Option, Some, None, codes, decimal}
+use Rattle.std.specs.Prelude.{ℕ, Bool, false, ◌&&◌, ◌||◌, ◌==◌, ◌+◌, ◌/◌, ◌%◌, nat_lt, not, suc, zero, if◌then◌else◌, List, [], ◌∷◌, ◌++◌, map, Option, Some, None, codes}
 use Rattle.odd_text.specs.declared.name.Name.{Name}
 use Rattle.odd_tokens.specs.Same.{is_same}
-use Rattle.odd_tree.specs.Markup.{Markup}
+use Rattle.odd_tree.specs.Markup.{Markup, Pair}
 use Rattle.odd_tree.specs.Names.{xml_namespace}
 use Rattle.rng_types.specs.declared.bounds.Bounds.{Bounds}
 use Rattle.rng_types.specs.declared.data_type.DataType.{DataType}
@@ -19,7 +19,7 @@ use Rattle.odd_content.specs.declared.content.Content.{Content, Empty, Text, Val
 use Rattle.odd_content.specs.declared.content.Pick.{Pick}
 use Rattle.odd_content.specs.declared.content.Pick.TheVariants as pick
 use Rattle.odd_emit.specs.Saying as say
-use Rattle.odd_emit.specs.Saying.{Said, a_greatest, a_name, a_number, a_text, a_word, says, says_if, some_names, some_words, spoken}
+use Rattle.odd_emit.specs.Saying.{Said, a_greatest, a_name, a_number, a_text, a_word, says, says_if, some_names, some_words, spoken, spoken_with}
 
 abbrev pub key_said : List ℕ → Said
 key_said key = says (codes "key") (a_name key)
@@ -61,16 +61,18 @@ begins before ns = not (is_same ns before || is_same ns xml_namespace)
 abbrev pub number_at : (before ns : List ℕ) → ℕ → ℕ
 number_at before ns count = if begins before ns then suc count else count
 
+-- A number has no more digits than it says and one. They stand before what is put behind them.
+abbrev pub digits_before : (most number : ℕ) → List ℕ → List ℕ
+digits_before zero number behind = behind
+digits_before (suc most) number behind = if nat_lt number 10 then (0x30 + number) ∷ behind else digits_before most (number / 10) ((0x30 + number % 10) ∷ behind)
+
 abbrev pub prefix : ℕ → List ℕ
-prefix number = codes "n" ++ decimal number
+prefix number = codes "n" ++ digits_before (suc number) number []
 
-abbrev pub prefix_said : ℕ → List ℕ → Said
-prefix_said number ns = says (codes "xmlns:" ++ prefix number) (a_text ns)
+abbrev pub prefix_if : Bool → ℕ → List ℕ → List Pair
+prefix_if is_new number ns = if is_new then (prefix number, ns) ∷ [] else []
 
-abbrev pub prefix_if : Bool → ℕ → List ℕ → List Said
-prefix_if is_new number ns = if is_new then prefix_said number ns ∷ [] else []
-
-abbrev pub prefixes_from : List ℕ → ℕ → List Name → List Said
+abbrev pub prefixes_from : List ℕ → ℕ → List Name → List Pair
 prefixes_from before count [] = []
 prefixes_from before count (name ∷ names) =
     let number = number_at before name.ns count in
@@ -88,6 +90,9 @@ prefixed_from before count (name ∷ names) =
     let number = number_at before name.ns count in
     prefixed number name ∷ prefixed_from name.ns number names
 
+abbrev pub prefixes_of : Condition → List Pair
+prefixes_of c = prefixes_from xml_namespace zero c.names
+
 -- words, where there are some
 abbrev pub words_value : List (List ℕ) → Option say.Value
 words_value [] = None
@@ -98,8 +103,7 @@ abbrev pub except_words : Condition → List (List ℕ)
 except_words c = c.spaces ++ prefixed_from xml_namespace zero c.names
 
 abbrev pub condition_said : Condition → List Said
-condition_said c =
-    prefixes_from xml_namespace zero c.names ++ says_if (codes "require") (words_value c.require) ∷ says_if (codes "except") (words_value (except_words c)) ∷ []
+condition_said c = says_if (codes "require") (words_value c.require) ∷ says_if (codes "except") (words_value (except_words c)) ∷ []
 
 -- the name of a datatype of XML Schema
 abbrev pub type_name : DataType → List ℕ
@@ -155,7 +159,7 @@ abbrev mutual
   part_markup (Element key b) = spoken (codes "elementRef") (key_said key ∷ bounds_said b) []
   part_markup (Class key p b) = spoken (codes "classRef") (key_said key ∷ pick_said p ++ bounds_said b) []
   part_markup (Macro key b) = spoken (codes "macroRef") (key_said key ∷ bounds_unless_once b) []
-  part_markup (Any c b) = spoken (codes "anyElement") (condition_said c ++ bounds_said b) []
+  part_markup (Any c b) = spoken_with (codes "anyElement") (prefixes_of c) (condition_said c ++ bounds_said b)
   part_markup (Sequence' shape parts b) = spoken (codes "sequence") (bounds_said b) (parts_markup parts)
   part_markup (Alternate' shape parts b) = spoken (codes "alternate") (bounds_said b) (parts_markup parts)
 

@@ -1,8 +1,7 @@
 -- What an element of a merged ODD says: its attributes in their order, each with a value of a kind where it is there.
-use Rattle.std.specs.Prelude.{ℕ, List, [], ◌∷◌, ◌++◌, Option, Some, None, codes, decimal}
+use Rattle.std.specs.Prelude.{ℕ, List, [], ◌∷◌, ◌++◌, map, Option, Some, None, codes, decimal}
 use Rattle.std.specs.List.{flat_map}
-use Rattle.odd_tree.specs.Markup.{Markup, Pair, all_printed, attributes_printed, element}
-use Rattle.rng_emit.specs.Grammar.{all_of}
+use Rattle.odd_tree.specs.Markup.{Markup, Pair, all_of, all_printed, attributes_printed, declaration, declaring, element}
 
 -- a name, some names, words without white space, a number, a greatest number if there is one, a word that the format fixes, any text
 pub data Value : Type 0 where
@@ -67,9 +66,16 @@ present (m ∷ ms) = if_any m (present ms)
 abbrev pub spoken : List ℕ → List Said → List Markup → Markup
 spoken name said inside = element name (pairs_of said) (all_of inside)
 
--- the bytes of attributes, and of elements
+-- one with nothing in it, that declares prefixes before what it says, each with its namespace
+abbrev pub spoken_with : List ℕ → List Pair → List Said → Markup
+spoken_with name prefixes said = declaring name prefixes (pairs_of said)
+
+-- the bytes of attributes, of declarations and of elements
 abbrev pub said_printed : List Said → List ℕ
 said_printed said = attributes_printed (pairs_of said)
+
+abbrev pub declared_printed : List Pair → List ℕ
+declared_printed prefixes = attributes_printed (map declaration prefixes)
 
 abbrev pub elements_printed : List Markup → List ℕ
 elements_printed ms = all_printed (all_of ms)

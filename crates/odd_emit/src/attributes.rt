@@ -11,36 +11,26 @@ use crate::lists::add_values_edit;
 use crate::saying::{add_alt, add_bounds, add_ident, add_mode, add_ns};
 use odd_attributes::{AttDef, AttEdit, AttEdits, AttFields, Datatype};
 use odd_printing::{add_attribute, add_end_tag, begin_tag, end_empty_tag, end_start_tag};
-use odd_text::{NoMemory, Text, TryCopy};
+use odd_text::{NoMemory, Text};
 use rng_types::ValList;
-use std::alloc::Global;
 
 /// Puts the edits of a component, where there is one.
-pub fn add_edits(out: &mut Text, alloc: Global, edits: &AttEdits) -> Result<(), NoMemory>
+pub fn add_edits(out: &mut Text, edits: &AttEdits) -> Result<(), NoMemory>
     ensures { OnOk result (out.new ≡ out.old ++ elements_printed (present (edits_markup edits.now ∷ []))) }
 {
-    if has_none(edits) {
+    if edits.is_empty() {
         return Ok(());
     }
     begin_tag(out, "attList")?;
     end_start_tag(out)?;
-    add_each_edit(out, alloc, edits)?;
+    add_each_edit(out, edits)?;
     add_end_tag(out, "attList")
 }
 
-/// Whether there is no edit.
-pub fn has_none(edits: &AttEdits) -> bool
-    ensures { IsTrue result ↔ (edits.now ≡ []) }
-{
-    edits.len() == 0
-}
-
-fn add_each_edit(out: &mut Text, alloc: Global, edits: &AttEdits) -> Result<(), NoMemory>
+fn add_each_edit(out: &mut Text, edits: &AttEdits) -> Result<(), NoMemory>
     ensures { OnOk result (out.new ≡ out.old ++ elements_printed (map edit_markup edits.now)) }
 {
-    let copied = edits.copy(alloc)?;
-    let map = copied.into_map();
-    for (ident, edit) in map.entries() {
+    for (ident, edit) in edits.entries() {
         add_edit(out, ident, edit)?;
     }
     Ok(())

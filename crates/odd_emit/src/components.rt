@@ -5,7 +5,7 @@ ghost use Rattle.odd_emit.specs.Components.{class_markup, classes_markup, compon
 ghost use Rattle.odd_emit.specs.Contents.{mode_said};
 ghost use Rattle.odd_emit.specs.Saying.{a_word, elements_printed, present, said_printed, says, says_if};
 
-use crate::attributes::{add_edits, has_none};
+use crate::attributes::add_edits;
 use crate::contents::add_content;
 use crate::saying::{add_alt, add_ident, add_key, add_mode};
 use odd_forms::TEI;
@@ -25,7 +25,7 @@ pub fn add_component(
 {
     match part {
         Component::Element(part) => add_element(out, alloc, ident, part),
-        Component::Class(part) => add_class(out, alloc, ident, part),
+        Component::Class(part) => add_class(out, ident, part),
         Component::Macro(part) => add_other(out, alloc, "macroSpec", ident, part),
         Component::Datatype(part) => add_other(out, alloc, "dataSpec", ident, part),
     }
@@ -46,11 +46,11 @@ fn add_element(
     add_alt(out, part.alt.as_ref())?;
     add_classes(out, &part.classes)?;
     add_content(out, alloc, &part.content)?;
-    add_edits(out, alloc, &part.atts)?;
+    add_edits(out, &part.atts)?;
     add_end_tag(out, "elementSpec")
 }
 
-fn add_class(out: &mut Text, alloc: Global, ident: &Text, part: &ClassPart) -> Result<(), NoMemory>
+fn add_class(out: &mut Text, ident: &Text, part: &ClassPart) -> Result<(), NoMemory>
     ensures { OnOk result (out.new ≡ out.old ++ printed (class_markup ident.now part.now)) }
 {
     begin_tag(out, "classSpec")?;
@@ -60,7 +60,7 @@ fn add_class(out: &mut Text, alloc: Global, ident: &Text, part: &ClassPart) -> R
     }
     end_start_tag(out)?;
     add_classes(out, &part.classes)?;
-    add_edits(out, alloc, &part.atts)?;
+    add_edits(out, &part.atts)?;
     add_end_tag(out, "classSpec")
 }
 
@@ -77,7 +77,7 @@ fn add_class_said(out: &mut Text, ident: &Text, part: &ClassPart) -> Result<(), 
 fn is_bare_class(part: &ClassPart) -> bool
     ensures { IsTrue result ↔ (present (classes_markup part.now.classes ∷ edits_markup part.now.atts ∷ []) ≡ []) }
 {
-    part.classes.is_empty() && has_none(&part.atts)
+    part.classes.is_empty() && part.atts.is_empty()
 }
 
 // Puts a macro or a datatype.

@@ -1,8 +1,7 @@
-ghost use Rattle.std.specs.Prelude.{◌≡◌, [], ◌∷◌, ◌++◌, ◌<◌, ◌^◌, zero, suc, IfOk, OnOk, codes};
-ghost use Rattle.odd_tree.specs.Names.{xml_namespace};
-ghost use Rattle.odd_emit.specs.Contents.{condition_said, prefix, prefix_if, prefixes_from};
+ghost use Rattle.std.specs.Prelude.{◌≡◌, ◌++◌, ◌<◌, ◌^◌, suc, IfOk, OnOk};
+ghost use Rattle.odd_emit.specs.Contents.{condition_said, prefix, prefix_if, prefixes_of};
 ghost use Rattle.odd_emit.specs.Contents.{begins as the_begins, except_words as the_except_words, number_at as the_number_at, prefix_for as the_prefix_for, prefixed as the_prefixed};
-ghost use Rattle.odd_emit.specs.Saying.{said_printed};
+ghost use Rattle.odd_emit.specs.Saying.{declared_printed, said_printed};
 
 use crate::saying::add_words;
 use itoa::Buffer;
@@ -12,11 +11,10 @@ use odd_text::{Name, NoMemory, Text, TryCopy, Words};
 use odd_tree::XML;
 use std::alloc::Global;
 
-/// Puts what a condition asks of elements. Prefixes are declared for the namespaces of the names that it excepts.
+/// Puts what a condition asks of elements, by the prefixes that `add_prefixes` declares.
 pub fn add_condition(out: &mut Text, alloc: Global, condition: &Condition) -> Result<(), NoMemory>
     ensures { OnOk result (out.new ≡ out.old ++ said_printed (condition_said condition.now)) }
 {
-    add_prefixes(out, alloc, condition.names.as_slice())?;
     add_words(out, alloc, "require", &condition.require)?;
     let words = except_words(alloc, condition)?;
     add_words(out, alloc, "except", &words)
@@ -37,13 +35,13 @@ fn number_at(before: &str, ns: &str, count: u64) -> u64
     if begins(before, ns) { count + 1 } else { count }
 }
 
-// Declares a prefix for each namespace of some names.
-fn add_prefixes(out: &mut Text, alloc: Global, names: &[Name]) -> Result<(), NoMemory>
-    ensures { OnOk result (out.new ≡ out.old ++ said_printed (prefixes_from xml_namespace zero names.now)) }
+/// Declares a prefix for each namespace of the names that a condition excepts.
+pub fn add_prefixes(out: &mut Text, alloc: Global, condition: &Condition) -> Result<(), NoMemory>
+    ensures { OnOk result (out.new ≡ out.old ++ declared_printed (prefixes_of condition.now)) }
 {
     let mut before = XML;
     let mut count = 0u64;
-    for name in names {
+    for name in condition.names.as_slice() {
         let ns = name.ns.as_str();
         count = number_at(before, ns, count);
         add_prefix_if(out, alloc, begins(before, ns), count, ns)?;
@@ -70,7 +68,7 @@ fn add_prefix_if(
     number: u64,
     ns: &str,
 ) -> Result<(), NoMemory>
-    ensures { OnOk result (out.new ≡ out.old ++ said_printed (prefix_if is_new number ns.now)) }
+    ensures { OnOk result (out.new ≡ out.old ++ declared_printed (prefix_if is_new number ns.now)) }
 {
     if !is_new {
         return Ok(());

@@ -1,9 +1,9 @@
 ghost use Rattle.std.specs.Prelude.{◌≡◌, [], ◌∷◌, ◌++◌, map, OnOk, codes};
 ghost use Rattle.odd_tree.specs.Markup.{printed};
-ghost use Rattle.odd_emit.specs.Contents.{bounds_said, bounds_unless_once, condition_said, content_markup, key_said, part_markup, pick_said};
-ghost use Rattle.odd_emit.specs.Saying.{elements_printed, spoken};
+ghost use Rattle.odd_emit.specs.Contents.{bounds_said, bounds_unless_once, condition_said, content_markup, key_said, part_markup, pick_said, prefixes_of};
+ghost use Rattle.odd_emit.specs.Saying.{elements_printed, spoken, spoken_with};
 
-use crate::conditions::add_condition;
+use crate::conditions::{add_condition, add_prefixes};
 use crate::data::{add_item, add_list};
 use crate::saying::{add_bare, add_bounds, add_bounds_unless_once, add_key, add_pick};
 use odd_content::{Condition, Content, Contents, Pick};
@@ -81,9 +81,10 @@ fn add_any(
     condition: &Condition,
     bounds: Bounds,
 ) -> Result<(), NoMemory>
-    ensures { OnOk result (out.new ≡ out.old ++ printed (spoken (codes "anyElement") (condition_said condition.now ++ bounds_said bounds) [])) }
+    ensures { OnOk result (out.new ≡ out.old ++ printed (spoken_with (codes "anyElement") (prefixes_of condition.now) (condition_said condition.now ++ bounds_said bounds))) }
 {
     begin_tag(out, "anyElement")?;
+    add_prefixes(out, alloc, condition)?;
     add_condition(out, alloc, condition)?;
     add_bounds(out, bounds)?;
     end_empty_tag(out)

@@ -4,12 +4,13 @@ ghost use Rattle.rng_types.specs.declared.item.Item.TheVariants as items;
 ghost use Rattle.rng_emit.specs.Grammar.{facet_name as the_facet_name};
 ghost use Rattle.odd_emit.specs.Contents.{facet_markup, item_markup, list_markup, type_said, value_markup};
 ghost use Rattle.odd_emit.specs.Contents.{list_word as the_list_word, type_name as the_type_name};
-ghost use Rattle.odd_emit.specs.Saying.{a_text, elements_printed, said_printed, says, spoken};
+ghost use Rattle.odd_emit.specs.Saying.{a_text, elements_printed, said_printed, says};
 
 use crate::saying::{add_ident, add_key, add_mode};
 use odd_printing::{add_attribute, add_end_tag, begin_tag, end_empty_tag, end_start_tag};
 use odd_text::{NoMemory, Text, Words};
-use rng_types::{DataType, Facet, FacetName, Facets, Item, ListKind, ValList};
+use rng_emit::facet_name;
+use rng_types::{DataType, Facet, Facets, Item, ListKind, ValList};
 
 // The name of a datatype of XML Schema.
 fn type_name(kind: DataType) -> &'static str
@@ -31,20 +32,6 @@ fn type_name(kind: DataType) -> &'static str
         DataType::NonNegativeInteger => "nonNegativeInteger",
         DataType::PositiveInteger => "positiveInteger",
         DataType::Decimal => "decimal",
-    }
-}
-
-// The name of a facet.
-fn facet_name(name: FacetName) -> &'static str
-    ensures { result.now ≡ the_facet_name name }
-{
-    match name {
-        FacetName::Length => "length",
-        FacetName::MaxInclusive => "maxInclusive",
-        FacetName::MaxLength => "maxLength",
-        FacetName::MinInclusive => "minInclusive",
-        FacetName::MinLength => "minLength",
-        FacetName::Pattern => "pattern",
     }
 }
 

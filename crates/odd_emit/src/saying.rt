@@ -1,11 +1,10 @@
 ghost use Rattle.std.specs.Prelude.{◌≡◌, [], ◌∷◌, ◌++◌, IfOk, OnOk, codes};
-ghost use Rattle.std.specs.List.{flat_map};
-ghost use Rattle.std.specs.Option.{option_copied, option_map};
+ghost use Rattle.std.specs.Option.{option_copied};
 ghost use Rattle.odd_tree.specs.Markup.{line, printed};
 ghost use Rattle.odd_emit.specs.Attributes.{alt_markup, ident_said, ns_said};
 ghost use Rattle.odd_emit.specs.Contents.{bounds_said, bounds_unless_once, key_said, mode_said, pick_said, words_value};
 ghost use Rattle.odd_emit.specs.Contents.{is_once as the_is_once};
-ghost use Rattle.odd_emit.specs.Saying.{elements_printed, present, said_printed, says, says_if, some_names, spaced, spoken};
+ghost use Rattle.odd_emit.specs.Saying.{elements_printed, present, said_printed, says, says_if, some_names, spoken};
 ghost use Rattle.odd_emit.specs.Saying.{joined as the_joined};
 
 use itoa::Buffer;

@@ -12,7 +12,7 @@ use Rattle.odd_tree.specs.Markup.{Pair, Markups, element, printed, file_printed}
 use Rattle.odd_tree.proofs.Fits.{bytes_of, bytes-append, FitAfter, open_after, fit_append, all_fit}
 use Rattle.odd_printing.proofs.PrintedElements.{outer_feed_fits, ElementSpelled, feed, feed_before, with_lines, lines_spelled}
 use Rattle.odd_tokens.proofs.Ascii.{ascii_codes}
-use Rattle.odd_tree.proofs.PrintedTrees.{IsPlainTag, ArePlain, IsNamespace, Shows}
+use Rattle.odd_tree.proofs.PrintedTrees.{IsPlainTag, ArePlain, IsNamespace, Shows, binds_to}
 use Rattle.odd_printing.proofs.PrintedTags.{root_tag_spelled}
 
 -- the opening is the declaration, and the line break after it is a token
@@ -85,8 +85,8 @@ module _ (ns bytes : List ℕ) (Is : Tree → Type 0) (e : ElementSpelled true n
 
 -- the text of a printed tree, whose root declares the namespace of all its elements, spells it
 pub printed_spells : (ns name : List ℕ) (attributes : List Pair) (inside : Markups) → IsNamespace ns → IsPlainTag name attributes → ArePlain inside
-    → (t : Tree) × Spells (file_printed (element name ((codes "xmlns", ns) ∷ attributes) inside)) t × Shows ns (element name attributes inside) t
+    → (t : Tree) × Spells (file_printed (element name ((codes "xmlns", ns) ∷ attributes) inside)) t × Shows ns (binds_to ns) (element name attributes inside) t
 printed_spells ns name attributes inside n p i =
     let pairs : List Pair = (codes "xmlns", ns) ∷ attributes in
-    let e = with_lines true ns name pairs attributes inside (root_tag_spelled ns name attributes n p) (lines_spelled ns inside i) root_at in
-    (e.tree, file_spelled ns (printed (element name pairs inside)) (Shows ns (element name attributes inside)) e, e.shows)
+    let e = with_lines true ns (binds_to ns) name pairs attributes inside (root_tag_spelled ns name attributes n p) refl (lines_spelled ns inside i) root_at in
+    (e.tree, file_spelled ns (printed (element name pairs inside)) (Shows ns (binds_to ns) (element name attributes inside)) e, e.shows)

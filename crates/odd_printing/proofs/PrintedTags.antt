@@ -17,7 +17,7 @@ use Rattle.odd_tokens.specs.Tokens.{IsPieceIn, IsAttribute, IsTag, NoneTwice, va
 use Rattle.odd_tokens.specs.Values.{value_read}
 use Rattle.odd_tree.proofs.Fits.{around}
 use Rattle.odd_tree.proofs.LastBound.{attribute_with, tag_with, joined, names_are, name_of, nothing_bound, all_plain, attributes_named, names_once}
-use Rattle.odd_tree.proofs.PrintedTrees.{IsPlainAttribute, IsPlainTag, IsNamespace, attr_of}
+use Rattle.odd_tree.proofs.PrintedTrees.{IsPlainAttribute, IsPlainTag, IsNamespace, attr_of, binds_to}
 use Rattle.odd_tree.specs.Markup.{Pair, escaped_value, escaped_value_char, attributes_printed}
 use Rattle.odd_tree.specs.Names.{binds_of, plain_attributes, element_name, attribute_read, IsBinding, NamesFit}
 use Rattle.odd_printing.proofs.PrintedCharacters.{value_piece, piece_written, piece_is_read, piece_is_piece}
@@ -46,7 +46,7 @@ pub value_is_read : (cs : List ℕ) → value_read (map value_piece cs) ≡ cs
 value_is_read [] = refl
 value_is_read (c ∷ cs) = piece_is_read (map value_piece cs) c ∙ ap (λ z. c ∷ z) (value_is_read cs)
 
-value_pieces : (cs : List ℕ) → IsTrue (list_all is_char cs) → All (IsPieceIn 0x22) (map value_piece cs)
+pub value_pieces : (cs : List ℕ) → IsTrue (list_all is_char cs) → All (IsPieceIn 0x22) (map value_piece cs)
 value_pieces [] h = All-nil _
 value_pieces (c ∷ cs) h = All-cons (IsPieceIn 0x22) (value_piece c) (map value_piece cs) (piece_is_piece c (and_parts _ _ h).0) (value_pieces cs (and_parts _ _ h).1)
 
@@ -85,7 +85,7 @@ one_attribute a h = record {
   valued = value_pieces a.1 h.1;
 }
 
-all_attributes : (attributes : List Pair) → All IsCharAttribute attributes → All IsAttribute (map (attribute_with value_piece) attributes)
+pub all_attributes : (attributes : List Pair) → All IsCharAttribute attributes → All IsAttribute (map (attribute_with value_piece) attributes)
 all_attributes [] h = All-nil _
 all_attributes (a ∷ rest) h =
     All-cons IsAttribute (attribute_with value_piece a) (map (attribute_with value_piece) rest) (one_attribute a (All-head IsCharAttribute a rest h))
@@ -99,23 +99,19 @@ printed_is_tag name attributes h = record {
   ended = refl;
 }
 
--- the bindings that the root declares
-abbrev pub binds_to : List ℕ → List Bind
-binds_to ns = record { prefix = []; ns = ns } ∷ []
-
--- the tag of the root, or of another element, where these pairs are written and these attributes read
-pub record TagSpelled (is_root : Bool) (ns name : List ℕ) (pairs attributes : List Pair) : Type 0 where
+-- the tag of the root, or of another element, where these bindings are declared, these pairs written and these attributes read
+pub record TagSpelled (is_root : Bool) (ns : List ℕ) (binds : List Bind) (name : List ℕ) (pairs attributes : List Pair) : Type 0 where
   pub tag : Tag
   pub is_tag : IsTag tag
   pub written : encode_utf8_all (tag_written tag) ≡ name ++ attributes_printed pairs
   pub name_is_written : encode_utf8_all (name_written tag.name) ≡ name
-  pub binds : around is_root (binds_to ns) ++ binds_of tag.attributes ≡ binds_to ns
+  pub bound : binds_of tag.attributes ≡ binds
   pub names_fit : NamesFit (around is_root (binds_to ns)) tag
-  pub named : element_name (binds_to ns) tag.name ≡ Some (record { ns = ns; local = name })
-  pub attributed : map (attribute_read (binds_to ns)) (plain_attributes tag.attributes) ≡ map (λ a. Some a) (map attr_of attributes)
+  pub named : element_name (around is_root (binds_to ns) ++ binds) tag.name ≡ Some (record { ns = ns; local = name })
+  pub attributed : map (attribute_read (around is_root (binds_to ns) ++ binds)) (plain_attributes tag.attributes) ≡ map (λ a. Some a) (map attr_of attributes)
 
 -- the characters of plain attributes
-record Decoded (attributes : List Pair) : Type 0 where
+pub record Decoded (attributes : List Pair) : Type 0 where
   pub chars : List Pair
   pub are : map encoded chars ≡ attributes
   pub attributed : All IsCharAttribute chars
@@ -124,7 +120,7 @@ record Decoded (attributes : List Pair) : Type 0 where
 xmlns_is : encode_utf8_all (codes "xmlns") ≡ codes "xmlns"
 xmlns_is = ascii_codes (codes "xmlns") refl
 
-decode : (attributes : List Pair) → All IsPlainAttribute attributes → Decoded attributes
+pub decode : (attributes : List Pair) → All IsPlainAttribute attributes → Decoded attributes
 decode [] h = record { chars = []; are = refl; attributed = All-nil _; others = tt }
 decode (a ∷ rest) h =
     let p = All-head IsPlainAttribute a rest h in
@@ -143,12 +139,12 @@ names_encoded [] = refl
 names_encoded (a ∷ rest) = ap (λ xs. encode_utf8_all a.0 ∷ xs) (names_encoded rest)
 
 -- no two attributes of a tag have one name
-decoded_distinct : (attributes : List Pair) (d : Decoded attributes) → Distinct (map name_of attributes) → Distinct (map name_of d.chars)
+pub decoded_distinct : (attributes : List Pair) (d : Decoded attributes) → Distinct (map name_of attributes) → Distinct (map name_of d.chars)
 decoded_distinct attributes d h =
     distinct_made encode_utf8_all (map name_of d.chars) (subst Distinct (ap (λ xs. map name_of xs) (sym d.are) ∙ sym (names_encoded d.chars)) h)
 
 -- the attributes as they are read
-attributes_read : (binds : List Bind) (chars : List Pair) → map (attribute_read binds) (map (attribute_with value_piece) chars) ≡ map (λ a. Some a) (map attr_of (map encoded chars))
+pub attributes_read : (binds : List Bind) (chars : List Pair) → map (attribute_read binds) (map (attribute_with value_piece) chars) ≡ map (λ a. Some a) (map attr_of (map encoded chars))
 attributes_read binds [] = refl
 attributes_read binds (a ∷ rest) = rw (value_is_read a.1, attributes_read binds rest) refl
 
@@ -168,13 +164,13 @@ module _ (ns name : List ℕ) (chars : List Pair) (h : IsCharTag name chars) (ot
     once = names_once value_piece (binds_to ns ++ binds_of other.attributes) chars h.once;
   }
 
-  other_spelled : TagSpelled false ns (encode_utf8_all name) (map encoded chars) (map encoded chars)
+  other_spelled : TagSpelled false ns [] (encode_utf8_all name) (map encoded chars) (map encoded chars)
   other_spelled = record {
     tag = other;
     is_tag = printed_is_tag name chars h;
     written = tag_is_written name chars;
     name_is_written = refl;
-    binds = rw other_bound refl;
+    bound = other_bound;
     names_fit = other_fits;
     named = refl;
     attributed = rw (all_plain value_piece chars others) (attributes_read (binds_to ns) chars);
@@ -210,13 +206,13 @@ module _ (namespace name : List ℕ) (chars : List Pair) (h : IsCharTag name ((c
   root_written : encode_utf8_all (tag_written root) ≡ encode_utf8_all name ++ attributes_printed ((codes "xmlns", given) ∷ map encoded chars)
   root_written = tag_is_written name ((codes "xmlns", namespace) ∷ chars) ∙ ap (λ x. encode_utf8_all name ++ attributes_printed ((x, given) ∷ map encoded chars)) xmlns_is
 
-  root_spelled : IsNamespace given → TagSpelled true given (encode_utf8_all name) ((codes "xmlns", given) ∷ map encoded chars) (map encoded chars)
+  root_spelled : IsNamespace given → TagSpelled true given (binds_to given) (encode_utf8_all name) ((codes "xmlns", given) ∷ map encoded chars) (map encoded chars)
   root_spelled n = record {
     tag = root;
     is_tag = printed_is_tag name ((codes "xmlns", namespace) ∷ chars) h;
     written = root_written;
     name_is_written = refl;
-    binds = root_binds;
+    bound = root_binds;
     names_fit = root_fits n;
     named = refl;
     attributed = rw (all_plain value_piece chars others) (attributes_read (binds_to given) chars);
@@ -224,14 +220,15 @@ module _ (namespace name : List ℕ) (chars : List Pair) (h : IsCharTag name ((c
 
 -- a tag in bytes
 
-pub plain_tag_spelled : (ns name : List ℕ) (attributes : List Pair) → IsPlainTag name attributes → TagSpelled false ns name attributes attributes
+pub plain_tag_spelled : (ns name : List ℕ) (attributes : List Pair) → IsPlainTag name attributes → TagSpelled false ns [] name attributes attributes
 plain_tag_spelled ns name attributes p =
     let d = decode attributes p.attributed in
     let names = decoded_distinct attributes d (distinct _ p.once) in
     let h : IsCharTag p.named.0 d.chars = record { named = p.named.2; attributed = d.attributed; once = none_twice _ names } in
-    subst₂ (λ (n : List ℕ) (pairs : List Pair). TagSpelled false ns n pairs pairs) p.named.1 d.are (other_spelled ns p.named.0 d.chars h d.others)
+    subst₂ (λ (n : List ℕ) (pairs : List Pair). TagSpelled false ns [] n pairs pairs) p.named.1 d.are (other_spelled ns p.named.0 d.chars h d.others)
 
-pub root_tag_spelled : (ns name : List ℕ) (attributes : List Pair) → IsNamespace ns → IsPlainTag name attributes → TagSpelled true ns name ((codes "xmlns", ns) ∷ attributes) attributes
+pub root_tag_spelled : (ns name : List ℕ) (attributes : List Pair) → IsNamespace ns → IsPlainTag name attributes
+    → TagSpelled true ns (binds_to ns) name ((codes "xmlns", ns) ∷ attributes) attributes
 root_tag_spelled ns name attributes n p =
     let d = decode attributes p.attributed in
     let names = decoded_distinct attributes d (distinct _ p.once) in
@@ -243,5 +240,5 @@ root_tag_spelled ns name attributes n p =
       once = none_twice _ (d.others, names);
     } in
     let spelled = root_spelled l p.named.0 d.chars h d.others (subst IsNamespace (sym n.legal.1) n) in
-    subst (λ (x : List ℕ). TagSpelled true x name ((codes "xmlns", x) ∷ attributes) attributes) n.legal.1
-    (subst₂ (λ (m : List ℕ) (pairs : List Pair). TagSpelled true (encode_utf8_all l) m ((codes "xmlns", encode_utf8_all l) ∷ pairs) pairs) p.named.1 d.are spelled)
+    subst (λ (x : List ℕ). TagSpelled true x (binds_to x) name ((codes "xmlns", x) ∷ attributes) attributes) n.legal.1
+    (subst₂ (λ (m : List ℕ) (pairs : List Pair). TagSpelled true (encode_utf8_all l) (binds_to (encode_utf8_all l)) m ((codes "xmlns", encode_utf8_all l) ∷ pairs) pairs) p.named.1 d.are spelled)

@@ -4,9 +4,11 @@
 
 mod escaping;
 mod printing;
+mod tags;
 
 pub use escaping::{escape_text, escape_value};
 pub use printing::{
     add_attribute, add_declaration, add_end_tag, add_escaped_text, begin_tag, end_empty_tag,
     end_start_tag,
 };
+pub use tags::{add_empty_tag, add_start_tag, begin_tag_with, end_line};

@@ -1,9 +1,13 @@
+pub mod EndTags
 pub mod Formed
 pub mod FormedBindings
 pub mod LongestFront
 pub mod Openings
 pub mod Places
+pub mod PlainBytes
+pub mod PlainText
 pub mod Readings
+pub mod Refusals
 pub mod Refusing
 pub mod Stands
 pub mod StandsContent
@@ -13,6 +17,8 @@ pub mod StandsOpen
 pub mod StandsTags
 pub mod StandsTaken
 pub mod StandsTexts
+pub mod Stepping
+pub mod TaggingProofs
 pub mod Tags
 pub mod Taken
 pub mod TwoAlike

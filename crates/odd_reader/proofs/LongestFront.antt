@@ -1,5 +1,5 @@
 -- The front of a file that is UTF-8, read character by character.
-use Rattle.std.proofs.Common.{◌≡◌, ◌≢◌, ℕ, ◌+◌, ◌<◌, ◌≤◌, List, [], ◌∷◌, ◌++◌, length, length-append, take, drop, refl, sym, ap, ap₂, ◌∙◌, subst, subst₂, append_assoc, append-nil, arith}
+use Rattle.std.proofs.Common.{◌≡◌, ◌≢◌, ℕ, ◌+◌, ◌<◌, ◌≤◌, List, [], ◌∷◌, ◌++◌, length, length-append, take, drop, ◌-◌, refl, sym, ap, ap₂, ◌∙◌, subst, subst₂, append_assoc, append-nil, arith}
 use Rattle.std.proofs.Math.Seq.{take-add, take-append_seam}
 use Rattle.std.proofs.lemmas.List.{take-append-drop, nil_from_length}
 use Rattle.std.proofs.lemmas.Str.{cons_from_encodes, IsUtf8-append, IsUtf8-encode}
@@ -7,10 +7,10 @@ use Rattle.std.specs.Prelude.{encode_utf8}
 use Rattle.std.specs.Str.{encode_utf8_all, IsUtf8, IsValidUpTo}
 use Rattle.odd_tokens.specs.Tokens.{size_of}
 use Rattle.odd_reader.specs.Reading.{HasRead, IsLongestFront, place_of}
+use Rattle.odd_reader.specs.Stepping.{Advances, Refuses}
 use Rattle.odd_tree.specs.Spelled.{IsNotXml}
 use Rattle.odd_reader.specs.declared.reader.Reader.{Reader}
 use Rattle.odd_reader.proofs.Places.{parts_of}
-use Rattle.odd_tree.proofs.Fits.{size_of_one_more}
 use Rattle.odd_reader.proofs.Taken.{cut_place}
 
 -- which front it is
@@ -18,7 +18,7 @@ use Rattle.odd_reader.proofs.Taken.{cut_place}
 nothing_begins : (c : ℕ) (left : List ℕ) → [] ≢ encode_utf8 c ++ left
 nothing_begins c left e = let f = (cons_from_encodes [] left c e).1 in cc
 
-some_length : (c : ℕ) → 0 < length (encode_utf8 c)
+pub some_length : (c : ℕ) → 0 < length (encode_utf8 c)
 some_length c = positive (encode_utf8 c) (λ e. nothing_begins c [] (sym (append-nil (encode_utf8 c) ∙ e)))
   where
     positive : (bs : List ℕ) → bs ≢ [] → 0 < length bs
@@ -51,26 +51,27 @@ pub record IsFrontRead (bytes front rest : List ℕ) (at : ℕ) (r : Reader) : T
 pub front_begun : (bytes front rest : List ℕ) (at : ℕ) (r : Reader) → IsLongestFront bytes front → rest ≡ front → at ≡ 0 → HasRead r [] → IsFrontRead bytes front rest at r
 front_begun bytes front rest at r l e z h = record { longest = l; characters = []; parts = sym e; sized = z; read = h }
 
-module _ (bytes front rest left : List ℕ) (at c : ℕ) (r : Reader) (h : IsFrontRead bytes front rest at r) (e : rest ≡ encode_utf8 c ++ left) where
-  more_parts : front ≡ encode_utf8_all (h.characters ++ c ∷ []) ++ left
-  more_parts =
-      h.parts ∙ ap (λ bs. encode_utf8_all h.characters ++ bs) (e ∙ ap (λ bs. bs ++ left) (sym (append-nil (encode_utf8 c)))) ∙ sym (parts_of h.characters (c ∷ []) left)
+-- where it was read up to these bytes that are left
+read_to : (cs front rest : List ℕ) → front ≡ encode_utf8_all cs ++ rest → length front - length rest ≡ size_of cs
+read_to cs front rest e = let same = ap length e ∙ length-append (encode_utf8_all cs) rest in omega (arith, same)
 
-  pub front_next : (new : ℕ) (s : Reader) → new ≡ at + length (encode_utf8 c) → ((cs : List ℕ) → at ≡ size_of cs → HasRead r cs → HasRead s (cs ++ c ∷ []))
-      → IsFrontRead bytes front left new s
-  front_next new s z f = record {
-    longest = h.longest;
-    characters = h.characters ++ c ∷ [];
-    parts = more_parts;
-    sized = z ∙ ap (λ n. n + length (encode_utf8 c)) h.sized ∙ sym (size_of_one_more h.characters c);
-    read = f h.characters h.sized h.read;
-  }
+pub front_within : (bytes front rest : List ℕ) (at : ℕ) (r : Reader) → IsFrontRead bytes front rest at r → length rest ≤ length front
+front_within bytes front rest at r h = let same = ap length h.parts ∙ length-append (encode_utf8_all h.characters) rest in omega (arith, same)
 
-  -- what is so of each file that begins with these characters
-  pub front_refused : (P : List ℕ → Type 0) → ((cs others : List ℕ) → at ≡ size_of cs → HasRead r cs → P (encode_utf8_all (cs ++ c ∷ []) ++ others)) → P bytes
-  front_refused P f =
-      subst P (sym (h.longest.parts ∙ ap (λ bs. bs ++ h.longest.rest) more_parts ∙ append_assoc (encode_utf8_all (h.characters ++ c ∷ [])) left h.longest.rest))
-      (f h.characters (left ++ h.longest.rest) h.sized h.read)
+module _ (bytes front rest left : List ℕ) (r : Reader) (h : IsFrontRead bytes front rest (length front - length rest) r) where
+  -- some characters more
+  pub front_next : (s : Reader) → Advances r s (length front - length rest) rest left → IsFrontRead bytes front left (length front - length left) s
+  front_next s a =
+      let f = a.reads h.characters h.sized h.read in
+      let all = h.characters ++ f.front in
+      let parts : front ≡ encode_utf8_all all ++ left = h.parts ∙ ap (λ bs. encode_utf8_all h.characters ++ bs) f.parts ∙ sym (parts_of h.characters f.front left) in
+      record { longest = h.longest; characters = all; parts = parts; sized = read_to all front left parts; read = f.read }
+
+  -- what is so of each file that goes on with the bytes that are left
+  pub front_refused : (P : List ℕ → ℕ → Type 0) (place : ℕ) → Refuses P r (length front - length rest) rest place → P bytes place
+  front_refused P place f =
+      subst (λ bs. P bs place) (sym (h.longest.parts ∙ ap (λ bs. bs ++ h.longest.rest) h.parts ∙ append_assoc (encode_utf8_all h.characters) rest h.longest.rest))
+      (f h.characters h.longest.rest h.sized h.read)
 
 -- at the end of the front
 

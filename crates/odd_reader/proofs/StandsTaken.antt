@@ -63,7 +63,7 @@ outer_more start ts (Some u) text l m t h (d, e) = (
 
 -- tokens that are no tags
 
-abbrev ok : Kept → Built
+abbrev pub ok : Kept → Built
 ok k = Ok k
 
 pub same_ok : (k m : Kept) → ok k ≡ Ok m → k ≡ m

@@ -59,7 +59,7 @@ begun_still start ts k nothing e = refl
 begun_still start us m (more {ts = ts} t b lexed built p) e = absurd (not_empty ts t (sym p ∙ e))
 
 -- what stands first in nothing is nothing whole
-none_in_nothing : (fresh : Bool) (at : ℕ) (front left : List ℕ) (t : Made) → [] ≡ front ++ left → IsWhole fresh at front t → ⊥
+pub none_in_nothing : (fresh : Bool) (at : ℕ) (front left : List ℕ) (t : Made) → [] ≡ front ++ left → IsWhole fresh at front t → ⊥
 none_in_nothing fresh at [] left t e w = whole_some fresh at t w
 none_in_nothing fresh at (c ∷ cs) left t e w = cc e
 
@@ -82,7 +82,7 @@ fresh_parts None [] e = (refl, refl)
 fresh_parts None (t ∷ ts) e = cc
 fresh_parts (Some d) ts e = cc
 
-not_fresh : (d : Option Declaration) (ts : List Token) (t : Token) → is_fresh d (ts ++ t ∷ []) ≡ false
+pub not_fresh : (d : Option Declaration) (ts : List Token) (t : Token) → is_fresh d (ts ++ t ∷ []) ≡ false
 not_fresh None [] t = refl
 not_fresh None (u ∷ us) t = refl
 not_fresh (Some d) ts t = refl

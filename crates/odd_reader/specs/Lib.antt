@@ -1,6 +1,8 @@
 pub mod Building
 pub mod Reading
 pub mod Resolving
+pub mod Stepping
+pub mod Tagging
 pub use Rattle.odd_printing.specs.Escaping
 pub use Rattle.odd_tree.specs.Elements
 pub use Rattle.odd_tree.specs.Fitting

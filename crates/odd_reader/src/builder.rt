@@ -1,9 +1,11 @@
-ghost use Rattle.std.specs.Prelude.{◌≡◌, ◌++◌, None, Some, Ok, IfOk, OnOk, length, nat_le, encode_utf8, string_bytes};
+ghost use Rattle.std.specs.Prelude.{◌≡◌, ◌++◌, None, Some, Ok, IfOk, IfSome, OnOk, length, nat_le, encode_utf8, string_bytes};
 ghost use Rattle.odd_reader.specs.Building.{Follows, begun, build, character as a_character, character_text as text_of_character, element_closed, element_opened, ends_innermost as ends_the_innermost, inside as an_inside, is_root_closed as has_closed_root, kept_of, last_after as what_is_last_after, text_ended, then_closed, then_other};
+ghost use Rattle.odd_reader.specs.Stepping.{EndsFirst, ended, some_open, takes_plain as can_take_plain, with_plain};
 ghost use Rattle.odd_tree.specs.Spelled.{deepest};
 
 use crate::around::Around;
 use crate::element::{OpenElement, add_child, tree_of};
+use crate::ends::after_end;
 use crate::misfit::Misfit;
 use crate::twice::is_written_twice;
 use crate::xml::XmlNamespace;
@@ -72,6 +74,54 @@ impl Builder {
             Token::Empty(tag) => self.empty(tag),
             Token::End(name) => self.end(&name),
         }
+    }
+
+    /// Whether an element is open.
+    pub fn is_inside(&self) -> bool
+        ensures { result ≡ some_open (kept_of self.now).open_elements }
+    {
+        !self.open.is_empty()
+    }
+
+    /// Whether plain characters are text.
+    pub fn takes_plain(&self) -> bool
+        ensures { result ≡ can_take_plain (kept_of self.now) }
+    {
+        !self.open.is_empty() && matches!(self.last, Last::Other)
+    }
+
+    /// Takes a run of plain characters.
+    pub fn take_plain(&mut self, run: &str) -> Result<(), NoMemory>
+        ensures { OnOk result (kept_of self.new ≡ with_plain run.now (kept_of self.old)) }
+    {
+        self.text.push_str(run)?;
+        Ok(())
+    }
+
+    /// What follows an end tag of the innermost open element that stands first in a text.
+    pub fn after_end<'a>(&self, text: &'a str) -> Option<&'a str>
+        ensures { IfSome result (λ rest. EndsFirst (kept_of self.now).open_elements text.now rest.now) }
+    {
+        match self.open.last() {
+            Some(innermost) => after_end(text, &innermost.written),
+            None => None,
+        }
+    }
+
+    /// Passes a comment.
+    pub fn pass(&mut self)
+        ensures { build (kept_of self.old) Token.Passed ≡ Ok (kept_of self.new) }
+    {
+        self.last = Last::Other;
+    }
+
+    /// Takes an end tag of the innermost open element.
+    pub fn end_innermost(&mut self) -> Result<(), Misfit>
+        ensures { Follows (Ok (ended (kept_of self.old))) result (kept_of self.new) }
+    {
+        self.close_element()?;
+        self.last = Last::Other;
+        Ok(())
     }
 
     /// The tree, where the root is closed.

@@ -3,10 +3,15 @@
 
 mod around;
 mod builder;
+mod comments;
 mod declarations;
 mod element;
+mod ends;
 mod misfit;
+mod names;
 pub mod reader;
+mod runs;
+mod simple_tags;
 mod twice;
 mod xml;
 

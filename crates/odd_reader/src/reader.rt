@@ -1,12 +1,16 @@
-ghost use Rattle.std.specs.Prelude.{◌≡◌, ◌∷◌, ◌++◌, length, ℕ, List, [], IfOk, IfErr, OnOk};
+ghost use Rattle.std.specs.Prelude.{◌≡◌, ◌∷◌, ◌++◌, ◌<◌, length, ℕ, List, [], IfOk, IfErr, OnOk};
 ghost use Rattle.std.specs.Str.{encode_utf8_all};
 ghost use Rattle.odd_tokens.specs.Tokens.{size_of};
 ghost use Rattle.odd_tree.specs.Formed.{IsFormed};
 ghost use Rattle.odd_reader.specs.Reading.{HasRead, IsLongestFront, place_of, refusal_of_fault, refusal_of_misfit};
+ghost use Rattle.odd_reader.specs.Stepping.{Advances, IsInside, Refuses};
 ghost use Rattle.odd_tree.specs.Spelled.{DepthPlace, GivesTree, IsNotXml};
 
 use crate::builder::Builder;
+use crate::comments::after_comment;
 use crate::misfit::Misfit;
+use crate::runs::plain_run;
+use crate::simple_tags::TagReader;
 use odd_text::NoMemory;
 use odd_tokens::{Fault, Lexer};
 use odd_tree::Tree;
@@ -46,7 +50,7 @@ fn of_misfit(misfit: Misfit, at: u64) -> ReadRefusal
     }
 }
 
-// Reads a file character by character.
+// Reads a file character by character, and what is simple at once.
 #[derive(Drop)]
 struct Reader {
     lexer: Lexer,
@@ -89,6 +93,125 @@ impl Reader {
         match self.builder.take(token) {
             Ok(()) => Ok(()),
             Err(misfit) => Err(of_misfit(misfit, place)),
+        }
+    }
+
+    // Takes the first character of the text, which begins at a byte, and gives what follows.
+    fn character<'a>(&mut self, at: u64, text: &'a str) -> Result<&'a str, ReadRefusal>
+        requires { 0 < length text.now }
+        ensures ok { IfOk result (λ rest. Advances self.old self.new at text.now rest.now) }
+        ensures not_xml { IfErr result (λ e. (place : ℕ) → e ≡ ReadRefusal.NotXml place → Refuses IsNotXml self.old at text.now place) }
+        ensures too_deep { IfErr result (λ e. (place : ℕ) → e ≡ ReadRefusal.TooDeep place → Refuses DepthPlace self.old at text.now place) }
+    {
+        let mut chars = text.chars();
+        let Some(c) = chars.next() else {
+            return Ok(text);
+        };
+        match self.take(at, c) {
+            Ok(()) => Ok(chars.as_str()),
+            Err(refusal) => Err(refusal),
+        }
+    }
+
+    // Takes the characters that stand first and are text, inside an element.
+    fn text<'a>(&mut self, at: u64, text: &'a str) -> Result<&'a str, ReadRefusal>
+        requires some { 0 < length text.now }
+        requires inside { IsInside self.old }
+        ensures ok { IfOk result (λ rest. Advances self.old self.new at text.now rest.now) }
+        ensures not_xml { IfErr result (λ e. (place : ℕ) → e ≡ ReadRefusal.NotXml place → Refuses IsNotXml self.old at text.now place) }
+        ensures too_deep { IfErr result (λ e. (place : ℕ) → e ≡ ReadRefusal.TooDeep place → Refuses DepthPlace self.old at text.now place) }
+    {
+        if !self.builder.takes_plain() {
+            return self.character(at, text);
+        }
+        let Some((front, rest)) = plain_run(text) else {
+            return self.character(at, text);
+        };
+        match self.builder.take_plain(front) {
+            Ok(()) => Ok(rest),
+            Err(NoMemory) => Err(ReadRefusal::NoMemory),
+        }
+    }
+
+    // Takes the markup that stands first, inside an element.
+    fn markup<'a>(
+        &mut self,
+        tags: &mut TagReader,
+        at: u64,
+        text: &'a str,
+    ) -> Result<&'a str, ReadRefusal>
+        requires some { 0 < length text.now }
+        requires inside { IsInside self.old }
+        ensures ok { IfOk result (λ rest. Advances self.old self.new at text.now rest.now) }
+        ensures not_xml { IfErr result (λ e. (place : ℕ) → e ≡ ReadRefusal.NotXml place → Refuses IsNotXml self.old at text.now place) }
+        ensures too_deep { IfErr result (λ e. (place : ℕ) → e ≡ ReadRefusal.TooDeep place → Refuses DepthPlace self.old at text.now place) }
+    {
+        let Some(rest) = self.builder.after_end(text) else {
+            return self.tag(tags, at, text);
+        };
+        match self.builder.end_innermost() {
+            Ok(()) => Ok(rest),
+            Err(misfit) => Err(of_misfit(misfit, at)),
+        }
+    }
+
+    // Takes the tag that stands first, inside an element, or other markup.
+    fn tag<'a>(
+        &mut self,
+        tags: &mut TagReader,
+        at: u64,
+        text: &'a str,
+    ) -> Result<&'a str, ReadRefusal>
+        requires some { 0 < length text.now }
+        requires inside { IsInside self.old }
+        ensures ok { IfOk result (λ rest. Advances self.old self.new at text.now rest.now) }
+        ensures not_xml { IfErr result (λ e. (place : ℕ) → e ≡ ReadRefusal.NotXml place → Refuses IsNotXml self.old at text.now place) }
+        ensures too_deep { IfErr result (λ e. (place : ℕ) → e ≡ ReadRefusal.TooDeep place → Refuses DepthPlace self.old at text.now place) }
+    {
+        match tags.tag(at, text) {
+            Ok(Some((token, rest))) => match self.builder.take(token) {
+                Ok(()) => Ok(rest),
+                Err(misfit) => Err(of_misfit(misfit, at)),
+            },
+            Ok(None) => self.comment(at, text),
+            Err(NoMemory) => Err(ReadRefusal::NoMemory),
+        }
+    }
+
+    // Takes the comment that stands first, inside an element, or a character.
+    fn comment<'a>(&mut self, at: u64, text: &'a str) -> Result<&'a str, ReadRefusal>
+        requires some { 0 < length text.now }
+        requires inside { IsInside self.old }
+        ensures ok { IfOk result (λ rest. Advances self.old self.new at text.now rest.now) }
+        ensures not_xml { IfErr result (λ e. (place : ℕ) → e ≡ ReadRefusal.NotXml place → Refuses IsNotXml self.old at text.now place) }
+        ensures too_deep { IfErr result (λ e. (place : ℕ) → e ≡ ReadRefusal.TooDeep place → Refuses DepthPlace self.old at text.now place) }
+    {
+        let Some(rest) = after_comment(text) else {
+            return self.character(at, text);
+        };
+        self.builder.pass();
+        Ok(rest)
+    }
+
+    // Takes what stands first in the text, which begins at a byte, and gives what follows.
+    fn step<'a>(
+        &mut self,
+        tags: &mut TagReader,
+        at: u64,
+        text: &'a str,
+    ) -> Result<&'a str, ReadRefusal>
+        requires { 0 < length text.now }
+        ensures ok { IfOk result (λ rest. Advances self.old self.new at text.now rest.now) }
+        ensures not_xml { IfErr result (λ e. (place : ℕ) → e ≡ ReadRefusal.NotXml place → Refuses IsNotXml self.old at text.now place) }
+        ensures too_deep { IfErr result (λ e. (place : ℕ) → e ≡ ReadRefusal.TooDeep place → Refuses DepthPlace self.old at text.now place) }
+    {
+        if !self.lexer.is_between() || !self.builder.is_inside() {
+            return self.character(at, text);
+        }
+        if text.as_bytes()[0] == b'<' {
+            self.markup(tags, at, text)
+        } else {
+            self.text(at, text)
         }
     }
 
@@ -135,8 +258,14 @@ pub fn read_tree(alloc: Global, bytes: &[u8]) -> Result<Tree, ReadRefusal>
         Ok(reader) => reader,
         Err(NoMemory) => return Err(ReadRefusal::NoMemory),
     };
-    for (at, c) in front.char_indices() {
-        reader.take(at as u64, c)?;
+    let mut tags = TagReader::new(alloc);
+    let mut rest = front;
+    'reading: while rest.len() > 0 {
+        let at = (front.len() - rest.len()) as u64;
+        rest = match reader.step(&mut tags, at, rest) {
+            Ok(left) => left,
+            Err(refusal) => return Err(refusal),
+        };
     }
     let read = front.len() as u64;
     if front.len() < bytes.len() {

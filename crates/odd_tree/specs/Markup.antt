@@ -1,21 +1,31 @@
 -- The printed text of a tree: the declaration's line, then a line for each tag, and an element that holds a text on one line. An element
 -- without children is an empty tag.
-use Rattle.std.specs.Prelude.{ℕ, List, [], ◌∷◌, ◌++◌, ◌==◌, if◌then◌else◌, codes}
+use Rattle.std.specs.Prelude.{ℕ, List, [], ◌∷◌, ◌++◌, ◌==◌, if◌then◌else◌, codes, map}
 use Rattle.std.specs.List.{flat_map}
 
 -- an attribute, or a namespace declaration: its name as written and its value
 abbrev pub Pair : Type 0
 Pair = List ℕ × List ℕ
 
--- a tree that is printed: an element with elements or nothing in it, or one with a text in it, which is none where it is empty
+-- a tree that is printed: an element with elements or nothing in it, or one with a text in it, which is none where it is empty, or one with
+-- nothing in it whose tag declares prefixes, each with its namespace
 mutual
   pub data Markup : Type 0 where
     element : (name : List ℕ) (attributes : List Pair) (inside : Markups) → Markup
     line : (name : List ℕ) (attributes : List Pair) (text : List ℕ) → Markup
+    declaring : (name : List ℕ) (prefixes attributes : List Pair) → Markup
 
   pub data Markups : Type 0 where
     none : Markups
     more : Markup → Markups → Markups
+
+abbrev pub all_of : List Markup → Markups
+all_of [] = none
+all_of (m ∷ ms) = more m (all_of ms)
+
+-- an element without attributes
+abbrev pub plain : List ℕ → List Markup → Markup
+plain tag inside = element tag [] (all_of inside)
 
 -- `&`, `<`, `>` and CR are references
 abbrev pub escaped_text_char : ℕ → List ℕ
@@ -35,12 +45,17 @@ abbrev pub attributes_printed : List Pair → List ℕ
 attributes_printed [] = []
 attributes_printed (a ∷ rest) = codes " " ++ a.0 ++ codes "=\"" ++ escaped_value a.1 ++ codes "\"" ++ attributes_printed rest
 
+-- the declaration of a prefix, as it is written
+abbrev pub declaration : Pair → Pair
+declaration p = (codes "xmlns:" ++ p.0, p.1)
+
 abbrev mutual
   pub printed : Markup → List ℕ
   printed (element name attributes none) = codes "<" ++ name ++ attributes_printed attributes ++ codes "/>\n"
   printed (element name attributes (more m rest)) = codes "<" ++ name ++ attributes_printed attributes ++ codes ">\n" ++ all_printed (more m rest) ++ codes "</" ++ name ++ codes ">\n"
   printed (line name attributes []) = codes "<" ++ name ++ attributes_printed attributes ++ codes "/>\n"
   printed (line name attributes (c ∷ cs)) = codes "<" ++ name ++ attributes_printed attributes ++ codes ">" ++ escaped_text (c ∷ cs) ++ codes "</" ++ name ++ codes ">\n"
+  printed (declaring name prefixes attributes) = codes "<" ++ name ++ attributes_printed (map declaration prefixes) ++ attributes_printed attributes ++ codes "/>\n"
 
   pub all_printed : Markups → List ℕ
   all_printed none = []

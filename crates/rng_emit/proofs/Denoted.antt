@@ -14,9 +14,9 @@ use Rattle.odd_printing.proofs.PrintedSpelled.{printed_spells}
 use Rattle.odd_text.specs.Text.{text_cmp}
 use Rattle.odd_tokens.proofs.Characters.{Distinct, Lacks, none_twice}
 use Rattle.odd_tokens.specs.Tokens.{NoneTwice}
-use Rattle.odd_tree.proofs.PrintedTrees.{Shows}
+use Rattle.odd_tree.proofs.PrintedTrees.{Shows, binds_to}
 use Rattle.odd_tree.specs.Elements.{given}
-use Rattle.odd_tree.specs.Markup.{Pair, element}
+use Rattle.odd_tree.specs.Markup.{Pair, all_of, element}
 use Rattle.odd_tree.specs.declared.tree.Tree.{Tree}
 use Rattle.rng_patterns.proofs.OneGrammar.{one_denoted}
 use Rattle.rng_patterns.specs.Denoting.{entry_of, Denotes, DenotesOnly, StandsFor, parts_of}
@@ -28,7 +28,7 @@ use Rattle.rng_emit.proofs.Printable.{IsPrintable}
 use Rattle.rng_emit.proofs.Shapes.{grammar_parts, grammar_plain, grammar_tag, relax_ng_bound}
 use Rattle.rng_emit.proofs.Shown.{AreShown, IsShown, is_part, shown, value_in, Allows, no_attribute, start_shown}
 use Rattle.rng_emit.proofs.ShownBodies.{defines_shown}
-use Rattle.rng_emit.specs.Grammar.{all_of, grammar_text}
+use Rattle.rng_emit.specs.Grammar.{grammar_text}
 
 -- no name is below itself
 not_below : (name other : List ℕ) → IsTrue (is_lt (text_cmp name other)) → other ≡ name → ⊥
@@ -86,9 +86,9 @@ parts_stand g t p h (u ∷ us) e s =
     }
 
 -- a tree that shows the grammar's elements stands for it
-pub stands : (g : Grammar) (t : Tree) → IsPrintable g → Shows relax_ng_namespace (element (codes "grammar") root_attributes (all_of (grammar_parts g))) t → StandsFor t g
+pub stands : (g : Grammar) (t : Tree) → IsPrintable g → Shows relax_ng_namespace (binds_to relax_ng_namespace) (element (codes "grammar") root_attributes (all_of (grammar_parts g))) t → StandsFor t g
 stands g t p s =
-    let h = shown (codes "grammar") root_attributes (grammar_parts g) t s in
+    let h = shown (binds_to relax_ng_namespace) (codes "grammar") root_attributes (grammar_parts g) t s in
     parts_stand g t p h (parts_of t) refl h.parts
 
 -- and the text spells such a tree

@@ -4,11 +4,12 @@ use Rattle.std.proofs.lemmas.Bool.{and_from}
 use Rattle.std.proofs.lemmas.List.Elements.{All-map, All-nil, All-cons}
 use Rattle.std.specs.List.{list_all}
 use Rattle.std.specs.Prelude.{All, IsTrue, codes, filter}
+use Rattle.odd_text.specs.declared.name.Bind.{Bind}
 use Rattle.odd_tokens.specs.Same.{is_same}
 use Rattle.odd_tree.proofs.InList.{element_shown, text_shown}
 use Rattle.odd_tree.proofs.PrintedTrees.{AreLines, HasHead, Shows, attr_of, line_break, text_nodes}
 use Rattle.odd_tree.specs.Elements.{StandsIn, attribute_value, elements_of, shown_elements, given}
-use Rattle.odd_tree.specs.Markup.{Pair, Markup, element, line, none, more}
+use Rattle.odd_tree.specs.Markup.{Pair, Markup, declaring, element, line, none, more, all_of, plain}
 use Rattle.odd_tree.specs.Significant.{is_blank, is_element}
 use Rattle.odd_tree.specs.declared.tree.Attr.{Attr}
 use Rattle.odd_tree.specs.declared.tree.Node.{Node, out-Node, Element}
@@ -23,14 +24,14 @@ use Rattle.rng_patterns.specs.Names.{relax_ng_namespace}
 use Rattle.rng_patterns.specs.declared.grammar.Expr.{Expr}
 use Rattle.rng_emit.proofs.Shapes.{choice_is, empty_is, group_is, list_is, not_allowed_is, one_or_more_is, optional_is, ref_is, same_is, text_is, typed_is, zero_or_more_is}
 use Rattle.rng_emit.proofs.ShownTypes.{param_of, params_of, printed_item, printed_sound, reads}
-use Rattle.rng_emit.specs.Grammar.{all_of, facet_name, named, param_markup, pattern_markup, plain, type_name}
+use Rattle.rng_emit.specs.Grammar.{facet_name, named, param_markup, pattern_markup, type_name}
 use Rattle.rng_emit.proofs.Printable as is
 use Rattle.rng_emit.proofs.Printable.{ArePlainPatterns, IsPlainPattern, IsPlainType}
 
 -- the trees show the elements, one each in order
 abbrev pub AreShown : List Markup → List Tree → Type 0
 AreShown [] [] = Unit {0}
-AreShown (m ∷ ms) (t ∷ ts) = Shows relax_ng_namespace m t × AreShown ms ts
+AreShown (m ∷ ms) (t ∷ ts) = Shows relax_ng_namespace [] m t × AreShown ms ts
 AreShown ms ts = ⊥
 
 -- the elements of RELAX NG among some nodes
@@ -42,10 +43,11 @@ abbrev Passes : List Node → Type 0
 Passes nodes = IsTrue (list_all (λ n. is_element n || is_blank n) nodes)
 
 -- a shown tree is of the namespace
-shown_namespace : (ns : List ℕ) (m : Markup) (t : Tree) → Shows ns m t → (out-Tree t).name.ns ≡ ns
+shown_namespace : (ns : List ℕ) (m : Markup) (t : Tree) → Shows ns [] m t → (out-Tree t).name.ns ≡ ns
 shown_namespace ns (element name attributes none) t s = ap (λ n. n.ns) s.0.named
 shown_namespace ns (element name attributes (more m rest)) t s = ap (λ n. n.ns) s.0.named
 shown_namespace ns (line name attributes text) t s = ap (λ n. n.ns) s.0.named
+shown_namespace ns (declaring name prefixes attributes) t s = ap (λ n. n.ns) s.0.named
 
 -- so it counts, and the line break behind it does not
 parts_more : (t : Tree) (later : List Node) → (out-Tree t).name.ns ≡ relax_ng_namespace → parts_in (Element t ∷ line_break ∷ later) ≡ t ∷ parts_in later
@@ -77,13 +79,14 @@ pub record IsShown (name : List ℕ) (attributes : List Pair) (ms : List Markup)
   pub parts : AreShown ms (parts_of t)
   pub blank : Passes (out-Tree t).children
 
-pub shown : (name : List ℕ) (attributes : List Pair) (ms : List Markup) (t : Tree) → Shows relax_ng_namespace (element name attributes (all_of ms)) t → IsShown name attributes ms t
-shown name attributes [] t s = record {
+pub shown : (binds : List Bind) (name : List ℕ) (attributes : List Pair) (ms : List Markup) (t : Tree) → Shows relax_ng_namespace binds (element name attributes (all_of ms)) t
+    → IsShown name attributes ms t
+shown binds name attributes [] t s = record {
   head = s.0;
   parts = subst (λ ns. AreShown [] (parts_in ns)) (sym s.1) tt;
   blank = subst Passes (sym s.1) refl;
 }
-shown name attributes (m ∷ ms) t s = record {
+shown binds name attributes (m ∷ ms) t s = record {
   head = s.0;
   parts = subst (AreShown (m ∷ ms)) (sym (ap parts_in s.1.1 ∙ parts_break s.1.0)) (lines_shown (m ∷ ms) s.1.0 s.1.2);
   blank = subst Passes (sym s.1.1) (and_from _ _ break_passes (lines_pass (m ∷ ms) s.1.0 s.1.2));
@@ -119,17 +122,17 @@ no_part (t ∷ ts) h = absurd h
 pub record IsOnePart (m : Markup) (ts : List Tree) : Type 0 where
   pub inside : Tree
   pub alone : ts ≡ inside ∷ []
-  pub shows : Shows relax_ng_namespace m inside
+  pub shows : Shows relax_ng_namespace [] m inside
 
 pub one_part : (m : Markup) (ts : List Tree) → AreShown (m ∷ []) ts → IsOnePart m ts
 one_part m [] h = absurd h
 one_part m (t ∷ ts) h = record { inside = t; alone = ap (λ us. t ∷ us) (no_part ts h.1); shows = h.0 }
 
 -- an element with no part
-pub leaf_shown : (name : List ℕ) (attributes : List Pair) (allowed : List (List ℕ)) (t : Tree) → Shows relax_ng_namespace (element name attributes none) t
+pub leaf_shown : (name : List ℕ) (attributes : List Pair) (allowed : List (List ℕ)) (t : Tree) → Shows relax_ng_namespace [] (element name attributes none) t
     → All (λ (a : Pair). StandsIn allowed a.0) attributes → IsLeaf name allowed t
 leaf_shown name attributes allowed t s allow =
-    let h = shown name attributes [] t s in
+    let h = shown [] name attributes [] t s in
     record { is_part = is_part name attributes [] allowed t h allow; alone = no_part (parts_of t) h.parts }
 
 -- the attribute is one of the allowed ones
@@ -150,15 +153,15 @@ pub record HoldsParts (tag : List ℕ) (ms : List Markup) (t : Tree) : Type 0 wh
   pub parts : AreShown ms (parts_of t)
 
 -- so does a tree that shows one
-pub holds_parts : (tag : List ℕ) (ms : List Markup) (t : Tree) → Shows relax_ng_namespace (plain tag ms) t → HoldsParts tag ms t
-holds_parts tag ms t s = let h = shown tag [] ms t s in record { is_part = is_part tag [] ms [] t h (no_attribute []); parts = h.parts }
+pub holds_parts : (tag : List ℕ) (ms : List Markup) (t : Tree) → Shows relax_ng_namespace [] (plain tag ms) t → HoldsParts tag ms t
+holds_parts tag ms t s = let h = shown [] tag [] ms t s in record { is_part = is_part tag [] ms [] t h (no_attribute []); parts = h.parts }
 
 -- a tree that shows a pattern, by what the pattern is printed to
-as_printed : (p : Expr) (m : Markup) (t : Tree) → pattern_markup p ≡ m → Shows relax_ng_namespace (pattern_markup p) t → Shows relax_ng_namespace m t
-as_printed p m t e s = subst (λ n. Shows relax_ng_namespace n t) e s
+as_printed : (p : Expr) (m : Markup) (t : Tree) → pattern_markup p ≡ m → Shows relax_ng_namespace [] (pattern_markup p) t → Shows relax_ng_namespace [] m t
+as_printed p m t e s = subst (λ n. Shows relax_ng_namespace [] n t) e s
 
 -- one pattern alone
-lone : (p : Expr) (ts : List Tree) → ((t : Tree) → Shows relax_ng_namespace (pattern_markup p) t → IsPattern t p) → AreShown (pattern_markup p ∷ []) ts → ArePatterns ts (p ∷ [])
+lone : (p : Expr) (ts : List Tree) → ((t : Tree) → Shows relax_ng_namespace [] (pattern_markup p) t → IsPattern t p) → AreShown (pattern_markup p ∷ []) ts → ArePatterns ts (p ∷ [])
 lone p [] f s = absurd s
 lone p (t ∷ []) f s = denoting.more (f t s.0) denoting.none
 lone p (t ∷ u ∷ ts) f s = absurd s.1
@@ -168,14 +171,14 @@ has_text : (text : List ℕ) → HasText (text_nodes text) text
 has_text [] = denoting.nothing
 has_text (c ∷ cs) = denoting.text
 
-same_shown : (text : List ℕ) (t : Tree) → Shows relax_ng_namespace (line (codes "value") [] text) t → IsSame t text
+same_shown : (text : List ℕ) (t : Tree) → Shows relax_ng_namespace [] (line (codes "value") [] text) t → IsSame t text
 same_shown text t s = record {
   is_named = named_so (codes "value") [] [] t s.0 (no_attribute []);
   written = subst (λ ns. HasText ns text) (sym s.1) (has_text text);
 }
 
 -- a facet, and each of some
-param_shown : (f : Facet) (t : Tree) → Shows relax_ng_namespace (param_markup f) t → IsParam t (param_of f)
+param_shown : (f : Facet) (t : Tree) → Shows relax_ng_namespace [] (param_markup f) t → IsParam t (param_of f)
 param_shown f t s =
     let pairs : List Pair = (codes "name", facet_name f.name) ∷ [] in
     record {
@@ -192,10 +195,10 @@ params_shown (f ∷ fs) (t ∷ ts) s = denoting.more (param_shown f t s.0) (para
 
 -- a datatype with its facets
 data_shown : (k : DataType) (fs : List Facet) (t : Tree) → IsPlainType k fs
-    → Shows relax_ng_namespace (element (codes "data") ((codes "type", type_name k) ∷ []) (all_of (map param_markup fs))) t → IsData t k fs
+    → Shows relax_ng_namespace [] (element (codes "data") ((codes "type", type_name k) ∷ []) (all_of (map param_markup fs))) t → IsData t k fs
 data_shown k fs t p s =
     let pairs : List Pair = (codes "type", type_name k) ∷ [] in
-    let h = shown (codes "data") pairs (map param_markup fs) t s in
+    let h = shown [] (codes "data") pairs (map param_markup fs) t s in
     record {
       is_part = is_part _ _ _ (codes "type" ∷ []) t h (one_attribute (codes "type") (type_name k));
       type = type_name k;
@@ -210,7 +213,7 @@ data_shown k fs t p s =
 
 -- by what a plain pattern is made of
 mutual
-  pub pattern_shown : (p : Expr) (t : Tree) → IsPlainPattern p → Shows relax_ng_namespace (pattern_markup p) t → IsPattern t p
+  pub pattern_shown : (p : Expr) (t : Tree) → IsPlainPattern p → Shows relax_ng_namespace [] (pattern_markup p) t → IsPattern t p
   pattern_shown p t is.empty s = denoting.empty (leaf_shown (codes "empty") [] [] t (as_printed p _ t empty_is s) (no_attribute []))
   pattern_shown p t is.not_allowed s = denoting.not_allowed (leaf_shown (codes "notAllowed") [] [] t (as_printed p _ t not_allowed_is s) (no_attribute []))
   pattern_shown p t is.text s = denoting.text (leaf_shown (codes "text") [] [] t (as_printed p _ t text_is s) (no_attribute []))
@@ -220,7 +223,7 @@ mutual
       let h = holds_parts (codes "list") (pattern_markup part ∷ []) t (as_printed p _ t (ap pattern_markup e ∙ list_is part) s) in
       denoting.list part [] h.is_part (lone part (parts_of t) (λ u. pattern_shown part u a) h.parts) e
   pattern_shown p t (is.reference {name = name} n) s =
-      let k : Shows relax_ng_namespace (named (codes "ref") name []) t = as_printed p _ t (ref_is name) s in
+      let k : Shows relax_ng_namespace [] (named (codes "ref") name []) t = as_printed p _ t (ref_is name) s in
       denoting.reference (leaf_shown (codes "ref") ((codes "name", name) ∷ []) (codes "name" ∷ []) t k (one_attribute (codes "name") name))
       (record { is_given = value_in (codes "ref") ((codes "name", name) ∷ []) t (codes "name") k.0; is_ncname = n })
   pattern_shown p t (is.group first second others a e) s =
@@ -252,7 +255,7 @@ pub one_pattern : (p : Expr) (ts : List Tree) → IsPlainPattern p → AreShown 
 one_pattern p ts a s = record { first = p; more = []; are = lone p ts (λ u. pattern_shown p u a) s; one = refl }
 
 -- and so is the tree of a printed start
-pub start_shown : (p : Expr) (t : Tree) → IsPlainPattern p → Shows relax_ng_namespace (plain (codes "start") (pattern_markup p ∷ [])) t → IsStart t p
+pub start_shown : (p : Expr) (t : Tree) → IsPlainPattern p → Shows relax_ng_namespace [] (plain (codes "start") (pattern_markup p ∷ [])) t → IsStart t p
 start_shown p t a s =
     let h = holds_parts (codes "start") (pattern_markup p ∷ []) t s in
     let one = one_part (pattern_markup p) (parts_of t) h.parts in

@@ -12,7 +12,7 @@ use Rattle.odd_tokens.specs.Lexing.{is_empty}
 use Rattle.odd_tokens.specs.Same.{is_same}
 use Rattle.odd_tree.proofs.PrintedTrees.{HasHead, Shows, attr_of, text_nodes}
 use Rattle.odd_tree.specs.Elements.{attribute_value, given}
-use Rattle.odd_tree.specs.Markup.{Markup, Pair, element}
+use Rattle.odd_tree.specs.Markup.{Markup, Pair, all_of, element, plain}
 use Rattle.odd_tree.specs.declared.tree.Node.{Text}
 use Rattle.odd_tree.specs.declared.tree.Tree.{Tree}
 use Rattle.rng_patterns.specs.Denoting as denoting
@@ -29,7 +29,7 @@ use Rattle.rng_patterns.specs.declared.grammar.NameClass.{NameClass}
 use Rattle.rng_patterns.specs.declared.grammar.NameClass.TheVariants as class
 use Rattle.rng_patterns.specs.declared.grammar.NsPart.{NsPart}
 use Rattle.rng_emit.proofs.Shown.{AreShown, IsShown, is_part, leaf_shown, named_so, shown, value_in, HoldsParts, holds_parts, one_attribute, one_part, Allows, no_attribute, one_pattern, pattern_shown}
-use Rattle.rng_emit.specs.Grammar.{all_of, attribute_markup, except_markup, name_markup, part_markup, parts_markup, plain, space_markup, any_attributes, attributes_markup, body_markup, define_markup, pattern_markup, rule_markup}
+use Rattle.rng_emit.specs.Grammar.{attribute_markup, except_markup, name_markup, part_markup, parts_markup, space_markup, any_attributes, attributes_markup, body_markup, define_markup, pattern_markup, rule_markup}
 use Rattle.rng_emit.proofs.Printable.{IsPlainName, IsPlainPart, ArePlainAttributes, IsPlainBody, IsPlainClass, IsPlainDefine, IsPlainPattern, IsPlainRule}
 
 -- the namespace that an element gives
@@ -47,13 +47,13 @@ name_node [] n = absurd (some_name n.0 n.2 n.1)
 name_node (c ∷ cs) n = refl
 
 -- a namespace, and a name, in an `except`
-space_shown : (default ns : List ℕ) (t : Tree) → Shows relax_ng_namespace (space_markup ns) t → IsSpaceOf default t ns
+space_shown : (default ns : List ℕ) (t : Tree) → Shows relax_ng_namespace [] (space_markup ns) t → IsSpaceOf default t ns
 space_shown default ns t s = record {
   is_leaf = leaf_shown (codes "nsName") ((codes "ns", ns) ∷ []) (codes "ns" ∷ []) t s (one_attribute (codes "ns") ns);
   is = space_given default (codes "nsName") ns t s.0;
 }
 
-name_shown : (default : List ℕ) (n : Name) (t : Tree) → IsPlainName n → Shows relax_ng_namespace (name_markup n) t → IsNameOf default t n
+name_shown : (default : List ℕ) (n : Name) (t : Tree) → IsPlainName n → Shows relax_ng_namespace [] (name_markup n) t → IsNameOf default t n
 name_shown default n t p s = record {
   is_named = named_so (codes "name") ((codes "ns", n.ns) ∷ []) (codes "ns" ∷ []) t s.0 (one_attribute (codes "ns") n.ns);
   written = s.1 ∙ name_node n.local p.named;
@@ -99,9 +99,9 @@ except_shown default [] (n ∷ ns) ts p s = full_except default [] (n ∷ ns) _ 
 except_shown default (space ∷ spaces) ns ts p s = full_except default (space ∷ spaces) ns _ _ ts p refl s
 
 -- the names in one namespace
-part_shown : (default : List ℕ) (part : NsPart) (t : Tree) → IsPlainPart part → Shows relax_ng_namespace (part_markup part) t → IsSpacePart default t part
+part_shown : (default : List ℕ) (part : NsPart) (t : Tree) → IsPlainPart part → Shows relax_ng_namespace [] (part_markup part) t → IsSpacePart default t part
 part_shown default part t p s =
-    let h : IsShown (codes "nsName") ((codes "ns", part.ns) ∷ []) (except_markup (map name_markup part.but)) t = shown _ _ (except_markup (map name_markup part.but)) t s in
+    let h : IsShown (codes "nsName") ((codes "ns", part.ns) ∷ []) (except_markup (map name_markup part.but)) t = shown [] _ _ (except_markup (map name_markup part.but)) t s in
     record {
       is_part = is_part _ _ _ (codes "ns" ∷ []) t h (one_attribute (codes "ns") part.ns);
       space = space_given default (codes "nsName") part.ns t h.head;
@@ -117,7 +117,7 @@ parts_shown default (part ∷ parts) (t ∷ ts) p s =
     denoting.more (part_shown default part t (All-head IsPlainPart part parts p) s.0) (parts_shown default parts ts (All-tail IsPlainPart part parts p) s.1)
 
 -- the names in some namespaces
-pub within_shown : (default : List ℕ) (parts : List NsPart) (t : Tree) → parts ≢ [] → All IsPlainPart parts → Shows relax_ng_namespace (parts_markup parts) t
+pub within_shown : (default : List ℕ) (parts : List NsPart) (t : Tree) → parts ≢ [] → All IsPlainPart parts → Shows relax_ng_namespace [] (parts_markup parts) t
     → IsNameClass default t (class.Within parts)
 within_shown default [] t some p s = absurd (some refl)
 within_shown default (part ∷ []) t some p s = denoting.space (part_shown default part t (All-head IsPlainPart part [] p) s)
@@ -127,7 +127,7 @@ within_shown default (part ∷ other ∷ parts) t some p s =
 
 -- all names but some
 pub any_shown : (default : List ℕ) (spaces : List (List ℕ)) (ns : List Name) (t : Tree) → All IsPlainName ns
-    → Shows relax_ng_namespace (plain (codes "anyName") (except_markup (map space_markup spaces ++ map name_markup ns))) t → IsNameClass default t (class.AnyBut spaces ns)
+    → Shows relax_ng_namespace [] (plain (codes "anyName") (except_markup (map space_markup spaces ++ map name_markup ns))) t → IsNameClass default t (class.AnyBut spaces ns)
 any_shown default spaces ns t p s =
     let h = holds_parts (codes "anyName") (except_markup (map space_markup spaces ++ map name_markup ns)) t s in
     denoting.any h.is_part (except_shown default spaces ns (parts_of t) p h.parts)
@@ -149,7 +149,7 @@ value_shown p (t ∷ []) a s = denoting.pattern (pattern_shown p t a s.0)
 value_shown p (t ∷ u ∷ ts) a s = absurd s.1
 
 -- any attributes
-any_attributes_shown : (t : Tree) → Shows relax_ng_namespace any_attributes t → IsAnyAttributes t
+any_attributes_shown : (t : Tree) → Shows relax_ng_namespace [] any_attributes t → IsAnyAttributes t
 any_attributes_shown t s =
     let inner = plain (codes "anyName") [] in
     let middle = plain (codes "attribute") (inner ∷ []) in
@@ -175,9 +175,9 @@ attribute_of rule pairs = element (codes "attribute") pairs (all_of (pattern_mar
 
 by_pairs : (rule : AttrRule) (t : Tree) (pairs : List Pair) → IsPlainRule rule → All (Allows allowed) pairs
     → attribute_value (map attr_of pairs) (codes "name") ≡ Some rule.name.local
-    → rule.name.ns ≡ unwrap_or (attribute_value (map attr_of pairs) (codes "ns")) [] → Shows relax_ng_namespace (attribute_of rule pairs) t → IsAttribute t rule.name rule.value
+    → rule.name.ns ≡ unwrap_or (attribute_value (map attr_of pairs) (codes "ns")) [] → Shows relax_ng_namespace [] (attribute_of rule pairs) t → IsAttribute t rule.name rule.value
 by_pairs rule t pairs p allow name space s =
-    let h = shown (codes "attribute") pairs (pattern_markup rule.value ∷ []) t s in
+    let h = shown [] (codes "attribute") pairs (pattern_markup rule.value ∷ []) t s in
     record {
       is_part = is_part _ _ _ allowed t h allow;
       named = record { is_given = value_in (codes "attribute") pairs t (codes "name") h.head ∙ name; is_ncname = p.named.named };
@@ -186,23 +186,23 @@ by_pairs rule t pairs p allow name space s =
     }
 
 -- it has a namespace where that is not empty
-attribute_shown : (rule : AttrRule) (t : Tree) → IsPlainRule rule → Shows relax_ng_namespace (attribute_markup rule) t → IsAttribute t rule.name rule.value
+attribute_shown : (rule : AttrRule) (t : Tree) → IsPlainRule rule → Shows relax_ng_namespace [] (attribute_markup rule) t → IsAttribute t rule.name rule.value
 attribute_shown rule t p s = by_space (is_same rule.name.ns []) refl s
   where
     name : Pair
     name = (codes "name", rule.name.local)
 
-    by_space : (b : Bool) → is_same rule.name.ns [] ≡ b → Shows relax_ng_namespace (attribute_of rule (name ∷ cond b [] ((codes "ns", rule.name.ns) ∷ []))) t
+    by_space : (b : Bool) → is_same rule.name.ns [] ≡ b → Shows relax_ng_namespace [] (attribute_of rule (name ∷ cond b [] ((codes "ns", rule.name.ns) ∷ []))) t
         → IsAttribute t rule.name rule.value
     by_space true e k =
         by_pairs rule t (name ∷ []) p (All-cons (Allows allowed) name [] ([], codes "ns" ∷ [], refl) (no_attribute allowed)) refl (same_text rule.name.ns [] (sym e)) k
     by_space false e k = by_pairs rule t (name ∷ (codes "ns", rule.name.ns) ∷ []) p (pair_allowed rule.name) refl refl k
 
 -- a rule, by whether the attribute is needed
-rule_shown : (rule : AttrRule) (t : Tree) → IsPlainRule rule → Shows relax_ng_namespace (rule_markup rule) t → IsRule t rule
+rule_shown : (rule : AttrRule) (t : Tree) → IsPlainRule rule → Shows relax_ng_namespace [] (rule_markup rule) t → IsRule t rule
 rule_shown rule t p s = by_need rule.needed s
   where
-    by_need : (b : Bool) → Shows relax_ng_namespace (cond b (attribute_markup rule) (plain (codes "optional") (attribute_markup rule ∷ []))) t
+    by_need : (b : Bool) → Shows relax_ng_namespace [] (cond b (attribute_markup rule) (plain (codes "optional") (attribute_markup rule ∷ []))) t
         → IsRule t (record { name = rule.name; needed = b; value = rule.value })
     by_need true k = denoting.needed (attribute_shown rule t p k)
     by_need false k =
@@ -258,7 +258,7 @@ module _ (default : List ℕ) (attrs : AttrPart) (content : Expr) (a : ArePlainA
   }
 
   -- names by the first part
-  by_part : (names : NameClass) (m : Markup) → ((u : Tree) → Shows relax_ng_namespace m u → IsNameClass default u names)
+  by_part : (names : NameClass) (m : Markup) → ((u : Tree) → Shows relax_ng_namespace [] m u → IsNameClass default u names)
       → IsShown (codes "element") [] (m ∷ (attributes_markup attrs ++ pattern_markup content ∷ [])) t
       → (ts : List Tree) → parts_of t ≡ ts → AreShown (m ∷ (attributes_markup attrs ++ pattern_markup content ∷ [])) ts → IsElementOf default t (body.Element names attrs content)
   by_part names m class_shown h [] e s = absurd s
@@ -268,11 +268,11 @@ module _ (default : List ℕ) (attrs : AttrPart) (content : Expr) (a : ArePlainA
       (rest_shown attrs content us a p s.1)
 
   -- by its class of names
-  element_shown : (names : NameClass) → IsPlainClass names → Shows relax_ng_namespace (body_markup (body.Element names attrs content)) t
+  element_shown : (names : NameClass) → IsPlainClass names → Shows relax_ng_namespace [] (body_markup (body.Element names attrs content)) t
       → IsElementOf default t (body.Element names attrs content)
   element_shown (class.One name) n s =
       let pairs : List Pair = (codes "name", name.local) ∷ (codes "ns", name.ns) ∷ [] in
-      let h = shown (codes "element") pairs (attributes_markup attrs ++ pattern_markup content ∷ []) t s in
+      let h = shown [] (codes "element") pairs (attributes_markup attrs ++ pattern_markup content ∷ []) t s in
       let space : given t (codes "ns") ≡ Some name.ns = value_in (codes "element") pairs t (codes "ns") h.head in
       made (class.One name) (parts_of t) (is_part _ _ _ allowed t h (pair_allowed name))
       (subst (λ o. HasNames default t (class.One (record { ns = unwrap_or o default; local = name.local })) (parts_of t)) space
@@ -280,10 +280,10 @@ module _ (default : List ℕ) (attrs : AttrPart) (content : Expr) (a : ArePlainA
       (rest_shown attrs content (parts_of t) a p h.parts)
   element_shown (class.AnyBut spaces names) n s =
       let m = plain (codes "anyName") (except_markup (map space_markup spaces ++ map name_markup names)) in
-      let h = shown (codes "element") [] (m ∷ (attributes_markup attrs ++ pattern_markup content ∷ [])) t s in
+      let h = shown [] (codes "element") [] (m ∷ (attributes_markup attrs ++ pattern_markup content ∷ [])) t s in
       by_part (class.AnyBut spaces names) m (λ u. any_shown default spaces names u n.1) h (parts_of t) refl h.parts
   element_shown (class.Within parts) n s =
-      let h = shown (codes "element") [] (parts_markup parts ∷ (attributes_markup attrs ++ pattern_markup content ∷ [])) t s in
+      let h = shown [] (codes "element") [] (parts_markup parts ∷ (attributes_markup attrs ++ pattern_markup content ∷ [])) t s in
       by_part (class.Within parts) (parts_markup parts) (λ u. within_shown default parts u n.0 n.1) h (parts_of t) refl h.parts
 
 -- what a define holds
@@ -294,10 +294,10 @@ body_shown default (body.Element names attrs content) (t ∷ u ∷ ts) b s = abs
 body_shown default (body.Part p) ts b s = denoting.part (one_pattern p ts b s)
 
 -- a define, and each of some
-define_shown : (default : List ℕ) (d : Define) (t : Tree) → IsPlainDefine d → Shows relax_ng_namespace (define_markup d) t → IsDefine default t d
+define_shown : (default : List ℕ) (d : Define) (t : Tree) → IsPlainDefine d → Shows relax_ng_namespace [] (define_markup d) t → IsDefine default t d
 define_shown default d t p s =
     let pairs : List Pair = (codes "name", d.name) ∷ [] in
-    let h = shown (codes "define") pairs (body_markup d.body ∷ []) t s in
+    let h = shown [] (codes "define") pairs (body_markup d.body ∷ []) t s in
     record {
       is_part = is_part _ _ _ (codes "name" ∷ []) t h (one_attribute (codes "name") d.name);
       named = record { is_given = value_in (codes "define") pairs t (codes "name") h.head; is_ncname = p.named };

@@ -1,7 +1,8 @@
 -- The text of a grammar as a RELAX NG schema in XML syntax.
 use Rattle.std.specs.Prelude.{ℕ, List, [], ◌∷◌, ◌++◌, map, codes}
 use Rattle.odd_text.specs.declared.name.Name.{Name}
-use Rattle.odd_tree.specs.Markup.{Markup, Markups, Pair, element, line, none, more, file_printed}
+use Rattle.odd_tree.specs.Markup.{Markup, Pair, element, line, file_printed}
+pub use Rattle.odd_tree.specs.Markup.{all_of, plain}
 use Rattle.rng_types.specs.declared.data_type.DataType.TheVariants as kind
 use Rattle.rng_types.specs.declared.data_type.DataType.{DataType}
 use Rattle.rng_types.specs.declared.facet.Facet.{Facet}
@@ -23,14 +24,7 @@ use Rattle.rng_patterns.specs.declared.grammar.NsPart.{NsPart}
 use Rattle.std.specs.Prelude.{if◌then◌else◌}
 use Rattle.odd_tokens.specs.Same.{is_same}
 
-abbrev pub all_of : List Markup → Markups
-all_of [] = none
-all_of (m ∷ ms) = more m (all_of ms)
-
--- an element without attributes, one with a name, and one with a namespace
-abbrev pub plain : List ℕ → List Markup → Markup
-plain tag inside = element tag [] (all_of inside)
-
+-- an element with a name, and one with a namespace
 abbrev pub named : List ℕ → List ℕ → List Markup → Markup
 named tag name inside = element tag ((codes "name", name) ∷ []) (all_of inside)
 

@@ -1,6 +1,6 @@
 -- How many elements the text of a grammar has.
 use Rattle.std.specs.Prelude.{ℕ, zero, ◌+◌, map}
-use Rattle.odd_tree.specs.Markup.{Markup, Markups, element, line, none, more}
+use Rattle.odd_tree.specs.Markup.{Markup, Markups, declaring, element, line, none, more}
 use Rattle.rng_emit.specs.Grammar.{define_markup, grammar_markup, pattern_markup}
 use Rattle.rng_patterns.specs.declared.grammar.Grammar.{Grammar}
 
@@ -9,6 +9,7 @@ abbrev mutual
   pub elements_in : Markup → ℕ
   elements_in (element name attributes inside) = elements_among inside + 1
   elements_in (line name attributes text) = 1
+  elements_in (declaring name prefixes attributes) = 1
 
   pub elements_among : Markups → ℕ
   elements_among none = zero

@@ -1,13 +1,14 @@
 ghost use Rattle.std.specs.Prelude.{◌≡◌, [], ◌∷◌, ◌++◌, map, OnOk, codes, if◌then◌else◌};
-ghost use Rattle.odd_tree.specs.Markup.{all_printed, attributes_printed, printed};
+ghost use Rattle.odd_tree.specs.Markup.{all_of, all_printed, attributes_printed, printed};
 ghost use Rattle.odd_tokens.specs.Same.{is_same};
 ghost use Rattle.rng_patterns.specs.declared.grammar.Body.TheVariants as body;
-ghost use Rattle.rng_emit.specs.Grammar.{all_of, any_attributes, attribute_markup, attributes_markup, body_markup, define_markup, rule_markup};
+ghost use Rattle.rng_emit.specs.Grammar.{any_attributes, attribute_markup, attributes_markup, body_markup, define_markup, rule_markup};
 
 use crate::names::{add_names, begin_element};
 use crate::patterns::add_pattern;
-use crate::tags::{add_empty_tag, add_start_tag, begin_tag_with};
-use odd_printing::{add_attribute, add_end_tag, end_start_tag};
+use odd_printing::{
+    add_attribute, add_empty_tag, add_end_tag, add_start_tag, begin_tag_with, end_start_tag,
+};
 use odd_text::{Name, NoMemory, Text};
 use rng_patterns::{AttrPart, AttrRule, Body, Define, Defines, Expr, NameClass, Rules};
 

@@ -5,7 +5,7 @@ mod bodies;
 mod names;
 mod patterns;
 pub mod printing;
-mod tags;
 mod values;
 
 pub use printing::print_rng;
+pub use values::facet_name;

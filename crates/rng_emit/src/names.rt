@@ -1,9 +1,11 @@
 ghost use Rattle.std.specs.Prelude.{◌≡◌, [], ◌++◌, map, OnOk, IsTrue, ◌↔◌, codes};
-ghost use Rattle.odd_tree.specs.Markup.{all_printed, attributes_printed, printed};
-ghost use Rattle.rng_emit.specs.Grammar.{all_of, class_markup, except_markup, name_markup, name_pairs, part_markup, parts_markup, plain, space_markup};
+ghost use Rattle.odd_tree.specs.Markup.{all_of, all_printed, attributes_printed, plain, printed};
+ghost use Rattle.rng_emit.specs.Grammar.{class_markup, except_markup, name_markup, name_pairs, part_markup, parts_markup, space_markup};
 
-use crate::tags::{add_empty_tag, add_start_tag, begin_tag_with, end_line};
-use odd_printing::{add_attribute, add_end_tag, begin_tag, end_empty_tag, end_start_tag};
+use odd_printing::{
+    add_attribute, add_empty_tag, add_end_tag, add_start_tag, begin_tag, begin_tag_with,
+    end_empty_tag, end_line, end_start_tag,
+};
 use odd_text::{Name, Names, NoMemory, Text, Words};
 use rng_patterns::{NameClass, NsPart, NsParts};
 

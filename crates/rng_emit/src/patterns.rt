@@ -1,10 +1,9 @@
 ghost use Rattle.std.specs.Prelude.{◌≡◌, [], ◌∷◌, ◌++◌, map, OnOk, codes};
-ghost use Rattle.odd_tree.specs.Markup.{all_printed, printed};
-ghost use Rattle.rng_emit.specs.Grammar.{all_of, named, pattern_markup, plain};
+ghost use Rattle.odd_tree.specs.Markup.{all_of, all_printed, plain, printed};
+ghost use Rattle.rng_emit.specs.Grammar.{named, pattern_markup};
 
-use crate::tags::{add_empty_tag, add_start_tag, begin_tag_with};
 use crate::values::{add_data, add_value};
-use odd_printing::{add_end_tag, end_empty_tag};
+use odd_printing::{add_empty_tag, add_end_tag, add_start_tag, begin_tag_with, end_empty_tag};
 use odd_text::{NoMemory, Text};
 use rng_patterns::{Expr, Exprs};
 

@@ -1,9 +1,10 @@
 ghost use Rattle.std.specs.Prelude.{◌≡◌, [], ◌∷◌, ◌++◌, map, OnOk, codes};
-ghost use Rattle.odd_tree.specs.Markup.{all_printed, element, line, printed};
-ghost use Rattle.rng_emit.specs.Grammar.{all_of, facet_name, param_markup, type_name};
+ghost use Rattle.odd_tree.specs.Markup.{all_of, all_printed, element, line, printed};
+ghost use Rattle.rng_emit.specs.Grammar.{facet_name, param_markup, type_name};
 
-use crate::tags::{begin_tag_with, end_line};
-use odd_printing::{add_end_tag, begin_tag, end_empty_tag, end_start_tag};
+use odd_printing::{
+    add_end_tag, begin_tag, begin_tag_with, end_empty_tag, end_line, end_start_tag,
+};
 use odd_text::{NoMemory, Text};
 use rng_types::{DataType, Facet, FacetName, Facets};
 
@@ -31,7 +32,7 @@ fn type_name(kind: DataType) -> &'static str
 }
 
 /// The name of a facet.
-fn facet_name(name: FacetName) -> &'static str
+pub fn facet_name(name: FacetName) -> &'static str
     ensures { result.now ≡ facet_name name }
 {
     match name {

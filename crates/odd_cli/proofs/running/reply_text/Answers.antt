@@ -6,7 +6,7 @@ use Rattle.odd_cli.specs.Reply.{NamesFiles, answered, file_bytes}
 use Rattle.odd_cli.specs.Running.{AreReadWhole, GoesOn, counted}
 use Rattle.odd_cli.specs.declared.status.LimitKind.TheVariants as limit
 use Rattle.odd_cli.specs.declared.status.Status.TheVariants as status
-use Rattle.odd_cli.proofs.Answering.{asides_told, begun_on_err, begun_stopped, fault_placed, few_read, named_answer, named_asks, named_job, named_many, named_none, named_usage, on_any, status_comes, stop_comes, text_accepts, text_comes, usage_named}
+use Rattle.odd_cli.proofs.Answering.{asides_told, begun_on_err, begun_stopped, fault_placed, few_read, named_answer, named_asks, named_job, named_many, named_none, named_usage, on_any, status_comes, stop_comes, text_comes, text_serves, usage_named}
 use Rattle.odd_cli.proofs.running.reply_text.Goals as goal
 
 pub answer_of-requires-clause-few : goal.answer_of-requires-clause-few
@@ -28,9 +28,9 @@ pub returns-in-Ok-read_chain-clause-ok : goal.returns-in-Ok-read_chain-clause-ok
 returns-in-Ok-read_chain-clause-ok g c = λ files h.
     text_comes _ c.args.words.now c.in-Ok.asked.job.command c.in-Ok.asked.job.aside c.in-Ok.asked.chain.now c.in-Ok-read_chain.chain c.in-Ok.ensures.ok c.in-Ok-read_chain.ensures.ok files h c.answer_of.result c.answer_of.ensures.ok
 
-pub returns-in-Ok-read_chain-clause-accepts : goal.returns-in-Ok-read_chain-clause-accepts
-returns-in-Ok-read_chain-clause-accepts g c = λ files h.
-    text_accepts _ c.args.words.now c.in-Ok.asked.job.command c.in-Ok.asked.job.aside c.in-Ok.asked.chain.now c.in-Ok-read_chain.chain c.in-Ok.ensures.ok c.in-Ok-read_chain.ensures.ok files h c.answer_of.result c.answer_of.ensures.accepts
+pub returns-in-Ok-read_chain-clause-serves : goal.returns-in-Ok-read_chain-clause-serves
+returns-in-Ok-read_chain-clause-serves g c = λ files h.
+    text_serves _ c.args.words.now c.in-Ok.asked.job.command c.in-Ok.asked.job.aside c.in-Ok.asked.chain.now c.in-Ok-read_chain.chain c.in-Ok.ensures.ok c.in-Ok-read_chain.ensures.ok files h c.answer_of.result c.answer_of.ensures.serves
 
 pub returns-in-Ok-read_chain-clause-asides : goal.returns-in-Ok-read_chain-clause-asides
 returns-in-Ok-read_chain-clause-asides g c = λ files h.

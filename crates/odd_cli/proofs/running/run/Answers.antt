@@ -1,6 +1,7 @@
 use Rattle.std.proofs.Common.{◌≡◌, ◌≤◌, ◌+◌, ◌++◌, None, Some, length, false, true, ap, sym, subst, ◌∙◌, Err, []}
 use Rattle.std.proofs.lemmas.List.{append-nil}
 use Rattle.odd_cli.proofs.Answering.{one_text, one_status, silent_complete, silent_text, reads_steady}
+use Rattle.odd_cli.proofs.Serving.{accepts_of, base_of}
 use Rattle.odd_cli.specs.Reply.{Reply}
 use Rattle.odd_cli.specs.declared.status.Status.TheVariants as status
 use Rattle.odd_cli.specs.Note.{note_text}
@@ -60,7 +61,15 @@ returns-clause-one g c = λ files before text s h b replied reply.
 pub returns-in-Ok-write_whole-clause-accepts : goal.returns-in-Ok-write_whole-clause-accepts
 returns-in-Ok-write_whole-clause-accepts g c = λ files before h b is.
     let same : c.as_bytes.result.now ≡ c.in-Ok.answer.text = c.as_bytes.ensures.value ∙ c.as_str.ensures in
-    (c.in-Ok.answer.text, c.in-Ok-write_whole.ensures.whole before b ∙ ap (λ t. Some (before ++ t)) same, c.in-Ok.ensures.accepts files h)
+    (c.in-Ok.answer.text, c.in-Ok-write_whole.ensures.whole before b ∙ ap (λ t. Some (before ++ t)) same, accepts_of c.args.words.now files c.in-Ok.answer.text (c.in-Ok.ensures.serves files h))
+
+pub returns-in-Ok-write_whole-clause-base : goal.returns-in-Ok-write_whole-clause-base
+returns-in-Ok-write_whole-clause-base g c = λ files before aside first h b is asks.
+    let same : c.as_bytes.result.now ≡ c.in-Ok.answer.text = c.as_bytes.ensures.value ∙ c.as_str.ensures in (
+      c.in-Ok.answer.text,
+      c.in-Ok-write_whole.ensures.whole before b ∙ ap (λ t. Some (before ++ t)) same,
+      base_of c.args.words.now files aside first c.in-Ok.answer.text asks (c.in-Ok.ensures.serves files h),
+    )
 
 pub returns-in-Ok-write_whole-clause-note : goal.returns-in-Ok-write_whole-clause-note
 returns-in-Ok-write_whole-clause-note g c = λ before e. (

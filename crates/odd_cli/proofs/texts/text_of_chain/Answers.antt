@@ -1,12 +1,12 @@
 use Rattle.std.proofs.Common.{ap, Err}
-use Rattle.odd_cli.proofs.Coming.{library_accepts, library_comes, library_whole, none_comes, refused_come}
+use Rattle.odd_cli.proofs.Coming.{library_comes, library_serves, library_whole, none_comes, refused_come}
 use Rattle.odd_cli.proofs.texts.text_of_chain.Goals as goal
 
 pub returns-in-Ok-clause-ok : goal.returns-in-Ok-clause-ok
 returns-in-Ok-clause-ok c = library_comes c.args.command c.args.chain c.in-Ok.library c.in-Ok.ensures.library c.args.files c.text_of_library.result c.text_of_library.ensures.ok
 
-pub returns-in-Ok-clause-accepts : goal.returns-in-Ok-clause-accepts
-returns-in-Ok-clause-accepts c = library_accepts c.args.command c.args.chain c.in-Ok.library c.in-Ok.ensures.library c.text_of_library.result c.text_of_library.ensures.accepts
+pub returns-in-Ok-clause-serves : goal.returns-in-Ok-clause-serves
+returns-in-Ok-clause-serves c = library_serves c.args.command c.args.chain c.in-Ok.library c.in-Ok.ensures.library c.text_of_library.result c.text_of_library.ensures.serves
 
 pub returns-in-Ok-clause-whole : goal.returns-in-Ok-clause-whole
 returns-in-Ok-clause-whole c = library_whole c.args.command c.args.chain c.in-Ok.library c.in-Ok.ensures.library c.text_of_library.result

@@ -2,7 +2,7 @@ use Rattle.std.proofs.Common.{◌≡◌, ℕ, List, [], ◌∷◌, ◌++◌, ◌
 use Rattle.std.proofs.lemmas.Bool.{false≢true}
 use Rattle.std.proofs.lemmas.Result.{on_ok_weaker}
 use Rattle.odd_tree.specs.Markup.{printed}
-use Rattle.rng_emit.proofs.Shapes.{some_made}
+use Rattle.odd_printing.proofs.Shapes.{some_made}
 use Rattle.odd_emit.specs.Components.{classes_markup, member_markup}
 use Rattle.odd_emit.specs.Contents.{mode_said}
 use Rattle.odd_emit.specs.Saying.{elements_printed, present, spoken}

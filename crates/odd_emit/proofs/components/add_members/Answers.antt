@@ -1,5 +1,5 @@
 use Rattle.odd_emit.specs.Components.{member_markup}
-use Rattle.rng_emit.proofs.Shapes.{printed_more}
+use Rattle.odd_printing.proofs.Shapes.{printed_more}
 use Rattle.odd_emit.proofs.components.add_members.Goals as goal
 
 pub loop-key-preserved : goal.loop-key-preserved

@@ -1,7 +1,7 @@
 use Rattle.std.proofs.Common.{◌++◌, map, ap, sym, ◌∙◌}
 use Rattle.std.proofs.lemmas.Result.{on_ok_weaker}
 use Rattle.odd_tree.specs.Markup.{printed}
-use Rattle.rng_emit.proofs.Shapes.{printed_more, some_made}
+use Rattle.odd_printing.proofs.Shapes.{printed_more, some_made}
 use Rattle.odd_emit.specs.Contents.{bounds_said, part_markup}
 use Rattle.odd_emit.proofs.Put.{full_put}
 use Rattle.odd_emit.proofs.Rows.{alternate_is, sequence_is}

@@ -1,5 +1,5 @@
 use Rattle.odd_emit.specs.Contents.{facet_markup}
-use Rattle.rng_emit.proofs.Shapes.{printed_more}
+use Rattle.odd_printing.proofs.Shapes.{printed_more}
 use Rattle.odd_emit.proofs.data.add_facets.Goals as goal
 
 pub loop-facet-preserved : goal.loop-facet-preserved

@@ -1,6 +1,6 @@
 use Rattle.std.proofs.Common.{◌∷◌, [], codes, map}
 use Rattle.std.proofs.lemmas.Result.{on_ok_weaker}
-use Rattle.rng_emit.proofs.Shapes.{some_made}
+use Rattle.odd_printing.proofs.Shapes.{some_made}
 use Rattle.odd_emit.specs.Contents.{mode_said, type_said, value_markup}
 use Rattle.odd_emit.proofs.Put.{full_put, said_put}
 use Rattle.odd_emit.proofs.data.add_list.Goals as goal

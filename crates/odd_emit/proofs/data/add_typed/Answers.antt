@@ -1,6 +1,6 @@
 use Rattle.std.proofs.Common.{◌∷◌, [], codes, map}
 use Rattle.std.proofs.lemmas.Result.{on_ok_weaker}
-use Rattle.rng_emit.proofs.Shapes.{some_made}
+use Rattle.odd_printing.proofs.Shapes.{some_made}
 use Rattle.odd_emit.specs.Contents.{facet_markup, type_name}
 use Rattle.odd_emit.specs.Saying.{a_text, says}
 use Rattle.odd_emit.proofs.Put.{full_put}

@@ -1,5 +1,5 @@
 use Rattle.odd_emit.specs.Contents.{value_markup}
-use Rattle.rng_emit.proofs.Shapes.{printed_more}
+use Rattle.odd_printing.proofs.Shapes.{printed_more}
 use Rattle.odd_emit.proofs.data.add_values.Goals as goal
 
 pub loop-value-preserved : goal.loop-value-preserved

@@ -1,6 +1,6 @@
 use Rattle.std.proofs.Common.{◌∷◌, [], codes, map}
 use Rattle.std.proofs.lemmas.Result.{on_ok_weaker}
-use Rattle.rng_emit.proofs.Shapes.{some_made}
+use Rattle.odd_printing.proofs.Shapes.{some_made}
 use Rattle.odd_emit.specs.Attributes.{kind_value, mark_markup}
 use Rattle.odd_emit.specs.Contents.{mode_said}
 use Rattle.odd_emit.specs.Saying.{says_if}

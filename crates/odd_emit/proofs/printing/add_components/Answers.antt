@@ -1,5 +1,5 @@
 use Rattle.odd_emit.specs.Components.{entry_markup}
-use Rattle.rng_emit.proofs.Shapes.{printed_more}
+use Rattle.odd_printing.proofs.Shapes.{printed_more}
 use Rattle.odd_emit.proofs.printing.add_components.Goals as goal
 
 pub loop-key-preserved : goal.loop-key-preserved

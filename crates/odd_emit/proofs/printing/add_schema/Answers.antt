@@ -1,6 +1,6 @@
 use Rattle.std.proofs.Common.{◌∷◌, [], codes, map}
 use Rattle.std.proofs.lemmas.Result.{on_ok_weaker}
-use Rattle.rng_emit.proofs.Shapes.{some_made}
+use Rattle.odd_printing.proofs.Shapes.{some_made}
 use Rattle.odd_forms.specs.Names.{tei_namespace}
 use Rattle.odd_emit.specs.Attributes.{ident_said}
 use Rattle.odd_emit.specs.Components.{entry_markup}

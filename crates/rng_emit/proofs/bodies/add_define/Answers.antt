@@ -1,8 +1,8 @@
 use Rattle.std.proofs.Common.{[], ◌∷◌, ◌++◌, codes, ap, ◌∙◌}
 use Rattle.std.proofs.lemmas.Result.{on_ok_weaker}
 use Rattle.odd_tree.specs.Markup.{attributes_printed}
+use Rattle.odd_printing.proofs.Shapes.{full_of_one}
 use Rattle.rng_emit.specs.Grammar.{body_markup}
-use Rattle.rng_emit.proofs.Shapes.{full_of_one}
 use Rattle.rng_emit.proofs.bodies.add_define.Goals as goal
 
 pub returns : goal.returns

@@ -1,5 +1,5 @@
+use Rattle.odd_printing.proofs.Shapes.{printed_more}
 use Rattle.rng_emit.specs.Grammar.{define_markup}
-use Rattle.rng_emit.proofs.Shapes.{printed_more}
 use Rattle.rng_emit.proofs.bodies.add_defines.Goals as goal
 
 pub loop-define-preserved : goal.loop-define-preserved

@@ -1,6 +1,6 @@
 use Rattle.std.proofs.Common.{◌≡◌, ◌++◌, map, take}
-use Rattle.odd_tree.specs.Markup.{all_printed}
-use Rattle.rng_emit.specs.Grammar.{all_of, define_markup}
+use Rattle.odd_tree.specs.Markup.{all_of, all_printed}
+use Rattle.rng_emit.specs.Grammar.{define_markup}
 use Rattle.rng_emit.proofs.bodies.add_defines.Given as goal
 
 abbrev pub invariant-loop-define : goal.invariant-loop-define

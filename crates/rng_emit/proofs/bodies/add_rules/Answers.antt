@@ -1,5 +1,5 @@
+use Rattle.odd_printing.proofs.Shapes.{printed_more}
 use Rattle.rng_emit.specs.Grammar.{rule_markup}
-use Rattle.rng_emit.proofs.Shapes.{printed_more}
 use Rattle.rng_emit.proofs.bodies.add_rules.Goals as goal
 
 pub loop-rule-preserved : goal.loop-rule-preserved

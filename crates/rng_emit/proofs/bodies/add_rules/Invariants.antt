@@ -1,6 +1,6 @@
 use Rattle.std.proofs.Common.{◌≡◌, ◌++◌, map, take}
-use Rattle.odd_tree.specs.Markup.{all_printed}
-use Rattle.rng_emit.specs.Grammar.{all_of, rule_markup}
+use Rattle.odd_tree.specs.Markup.{all_of, all_printed}
+use Rattle.rng_emit.specs.Grammar.{rule_markup}
 use Rattle.rng_emit.proofs.bodies.add_rules.Given as goal
 
 abbrev pub invariant-loop-rule : goal.invariant-loop-rule

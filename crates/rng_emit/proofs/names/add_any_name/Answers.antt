@@ -1,8 +1,9 @@
 use Rattle.std.proofs.Common.{map, sym, ◌∙◌}
 use Rattle.std.proofs.lemmas.Bool.{false≢true}
 use Rattle.std.proofs.lemmas.Result.{on_ok_weaker}
+use Rattle.odd_printing.proofs.Shapes.{none_of_two}
 use Rattle.rng_emit.specs.Grammar.{name_markup, space_markup}
-use Rattle.rng_emit.proofs.Shapes.{any_name, none_of_two}
+use Rattle.rng_emit.proofs.Shapes.{any_name}
 use Rattle.rng_emit.proofs.names.add_any_name.Goals as goal
 
 pub returns : goal.returns

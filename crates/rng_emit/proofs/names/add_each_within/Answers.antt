@@ -1,5 +1,5 @@
+use Rattle.odd_printing.proofs.Shapes.{printed_more}
 use Rattle.rng_emit.specs.Grammar.{part_markup}
-use Rattle.rng_emit.proofs.Shapes.{printed_more}
 use Rattle.rng_emit.proofs.names.add_each_within.Goals as goal
 
 pub loop-part-preserved : goal.loop-part-preserved

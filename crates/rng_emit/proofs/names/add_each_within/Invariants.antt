@@ -1,6 +1,6 @@
 use Rattle.std.proofs.Common.{◌≡◌, ◌++◌, map, take}
-use Rattle.odd_tree.specs.Markup.{all_printed}
-use Rattle.rng_emit.specs.Grammar.{all_of, part_markup}
+use Rattle.odd_tree.specs.Markup.{all_of, all_printed}
+use Rattle.rng_emit.specs.Grammar.{part_markup}
 use Rattle.rng_emit.proofs.names.add_each_within.Given as goal
 
 abbrev pub invariant-loop-part : goal.invariant-loop-part

@@ -1,5 +1,5 @@
+use Rattle.odd_printing.proofs.Shapes.{printed_more}
 use Rattle.rng_emit.specs.Grammar.{name_markup}
-use Rattle.rng_emit.proofs.Shapes.{printed_more}
 use Rattle.rng_emit.proofs.names.add_excepted_names.Goals as goal
 
 pub loop-name-preserved : goal.loop-name-preserved

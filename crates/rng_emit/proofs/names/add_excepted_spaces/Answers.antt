@@ -1,7 +1,7 @@
 use Rattle.std.proofs.Common.{◌++◌, ap, ◌∙◌}
 use Rattle.odd_tree.specs.Markup.{printed}
+use Rattle.odd_printing.proofs.Shapes.{printed_more}
 use Rattle.rng_emit.specs.Grammar.{space_markup}
-use Rattle.rng_emit.proofs.Shapes.{printed_more}
 use Rattle.rng_emit.proofs.names.add_excepted_spaces.Goals as goal
 
 pub loop-space-preserved : goal.loop-space-preserved

@@ -1,8 +1,9 @@
 use Rattle.std.proofs.Common.{[], ◌∷◌, ◌++◌, codes, map, ap, ◌∙◌}
 use Rattle.std.proofs.lemmas.Result.{on_ok_weaker}
 use Rattle.odd_tree.specs.Markup.{attributes_printed}
+use Rattle.odd_printing.proofs.Shapes.{some_made}
 use Rattle.rng_emit.specs.Grammar.{name_markup}
-use Rattle.rng_emit.proofs.Shapes.{around_except, some_made}
+use Rattle.rng_emit.proofs.Shapes.{around_except}
 use Rattle.rng_emit.proofs.names.add_space_within.Goals as goal
 
 pub returns : goal.returns

@@ -1,8 +1,9 @@
 use Rattle.std.proofs.Common.{◌++◌, map, ap, sym, ◌∙◌}
 use Rattle.std.proofs.lemmas.Result.{on_ok_weaker}
 use Rattle.odd_tree.specs.Markup.{printed}
+use Rattle.odd_printing.proofs.Shapes.{full_plain, printed_more, some_made}
 use Rattle.rng_emit.specs.Grammar.{pattern_markup}
-use Rattle.rng_emit.proofs.Shapes.{full_plain, not_allowed_is, printed_more, some_made}
+use Rattle.rng_emit.proofs.Shapes.{not_allowed_is}
 use Rattle.rng_emit.proofs.patterns.+patterns.Goals as goal
 
 pub add_pattern-returns-in-NotAllowed : goal.add_pattern-returns-in-NotAllowed

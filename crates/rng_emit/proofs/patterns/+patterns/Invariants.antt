@@ -1,6 +1,6 @@
 use Rattle.std.proofs.Common.{◌≡◌, ◌++◌, map, take}
-use Rattle.odd_tree.specs.Markup.{all_printed}
-use Rattle.rng_emit.specs.Grammar.{all_of, pattern_markup}
+use Rattle.odd_tree.specs.Markup.{all_of, all_printed}
+use Rattle.rng_emit.specs.Grammar.{pattern_markup}
 use Rattle.rng_emit.proofs.patterns.+patterns.Given as goal
 
 abbrev pub invariant-add_patterns-loop-pattern : goal.invariant-add_patterns-loop-pattern

@@ -1,8 +1,8 @@
 use Rattle.std.proofs.Common.{[], ◌∷◌, ◌++◌, codes, map, ap, ◌∙◌}
 use Rattle.std.proofs.lemmas.Result.{on_ok_weaker}
 use Rattle.odd_tree.specs.Markup.{attributes_printed}
+use Rattle.odd_printing.proofs.Shapes.{full, some_made}
 use Rattle.rng_emit.specs.Grammar.{param_markup, type_name}
-use Rattle.rng_emit.proofs.Shapes.{full, some_made}
 use Rattle.rng_emit.proofs.values.add_data.Goals as goal
 
 pub returns : goal.returns

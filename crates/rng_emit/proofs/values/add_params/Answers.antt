@@ -1,5 +1,5 @@
+use Rattle.odd_printing.proofs.Shapes.{printed_more}
 use Rattle.rng_emit.specs.Grammar.{param_markup}
-use Rattle.rng_emit.proofs.Shapes.{printed_more}
 use Rattle.rng_emit.proofs.values.add_params.Goals as goal
 
 pub loop-facet-preserved : goal.loop-facet-preserved

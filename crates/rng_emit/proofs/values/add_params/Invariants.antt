@@ -1,6 +1,6 @@
 use Rattle.std.proofs.Common.{◌≡◌, ◌++◌, map, take}
-use Rattle.odd_tree.specs.Markup.{all_printed}
-use Rattle.rng_emit.specs.Grammar.{all_of, param_markup}
+use Rattle.odd_tree.specs.Markup.{all_of, all_printed}
+use Rattle.rng_emit.specs.Grammar.{param_markup}
 use Rattle.rng_emit.proofs.values.add_params.Given as goal
 
 abbrev pub invariant-loop-facet : goal.invariant-loop-facet

@@ -1,29 +1,16 @@
-use Rattle.std.proofs.Common.{◌≡◌, ◌⊎◌, ⊎_elim, ℕ, sym, ◌∙◌, subst}
+use Rattle.std.proofs.Common.{◌≡◌, ℕ, sym, ◌∙◌, subst}
 use Rattle.odd_tokens.specs.declared.lexer.Fault.{Fault}
 use Rattle.odd_tokens.specs.declared.lexer.Fault.TheVariants as fault
-use Rattle.odd_reader.specs.Building.{Built}
-use Rattle.std.specs.Prelude.{Err}
-use Rattle.odd_reader.specs.Reading.{refusal_of_fault, refusal_of_misfit}
+use Rattle.odd_reader.specs.Reading.{refusal_of_fault}
 use Rattle.odd_tree.specs.Spelled.{DepthPlace, IsNotXml}
-use Rattle.odd_reader.specs.declared.misfit.Misfit.{Misfit}
-use Rattle.odd_reader.specs.declared.misfit.Misfit.TheVariants as misfit
 use Rattle.odd_reader.specs.declared.reader.ReadRefusal.TheVariants as refusal
+use Rattle.odd_reader.proofs.Refusals.{misplaced_so, too_deep_so}
 use Rattle.odd_reader.proofs.Taken.{place_between, goes_on, token_taken, malformed_place, misplaced_place, too_deep_place}
 use Rattle.odd_reader.proofs.reader.Reader.take.Goals as goal
 
 fault_so : (at place : ℕ) (f : Fault) → refusal_of_fault at f ≡ refusal.NotXml place → (f ≡ fault.Malformed) × (at ≡ place)
 fault_so at place fault.Malformed e = (cc, cc)
 fault_so at place fault.NoMemory e = cc
-
-misplaced_so : (at place : ℕ) (m : Misfit) (b : Built) → refusal_of_misfit at m ≡ refusal.NotXml place → (m ≡ misfit.NoMemory) ⊎ (b ≡ Err m) → (b ≡ Err misfit.Misplaced) × (at ≡ place)
-misplaced_so at place misfit.Misplaced b e f = (⊎_elim (λ g. cc) (λ g. g) f, cc)
-misplaced_so at place misfit.TooDeep b e f = cc
-misplaced_so at place misfit.NoMemory b e f = cc
-
-too_deep_so : (at place : ℕ) (m : Misfit) (b : Built) → refusal_of_misfit at m ≡ refusal.TooDeep place → (m ≡ misfit.NoMemory) ⊎ (b ≡ Err m) → (b ≡ Err misfit.TooDeep) × (at ≡ place)
-too_deep_so at place misfit.Misplaced b e f = cc
-too_deep_so at place misfit.TooDeep b e f = (⊎_elim (λ g. cc) (λ g. g) f, cc)
-too_deep_so at place misfit.NoMemory b e f = cc
 
 pub returns-in-Ok-None-clause-ok : goal.returns-in-Ok-None-clause-ok
 returns-in-Ok-None-clause-ok c = λ cs e h. goes_on h c.args.c ((rw c.in-Ok-None.field-0-is at c.in-Ok-None.ensures.unfinished) _ _ h.unfinished h.read (λ n. place_between h n ∙ sym e))

@@ -1,8 +1,7 @@
 ghost use Rattle.std.specs.Prelude.{◌≡◌, ℕ, List, [], ◌∷◌, ◌++◌, OnOk, codes};
-ghost use Rattle.odd_tree.specs.Markup.{Pair, attributes_printed, line, printed};
-ghost use Rattle.rng_emit.specs.Grammar.{plain};
+ghost use Rattle.odd_tree.specs.Markup.{Pair, attributes_printed, line, plain, printed};
 
-use odd_printing::{
+use crate::printing::{
     add_attribute, add_end_tag, add_escaped_text, begin_tag, end_empty_tag, end_start_tag,
 };
 use odd_text::{NoMemory, Text};

@@ -1,0 +1,95 @@
+-- Tags that are read at once from the text that is left: names of ASCII, and values without references and line ends.
+use Rattle.std.specs.Prelude.{◌≡◌, ◌<◌, ℕ, length, Bool, true, ◌&&◌, ◌||◌, ◌==◌, not, List, ◌∷◌, ◌++◌, map, All, IsTrue}
+use Rattle.std.specs.List.{list_all}
+use Rattle.std.specs.Str.{encode_utf8_all}
+use Rattle.odd_tokens.specs.Characters.{is_char, is_ncname, is_white, is_within}
+use Rattle.odd_tokens.specs.Making.{attribute_made, token_made}
+use Rattle.odd_tokens.specs.Tokens.{Attribute, IsAttribute, IsQName, QName, Token, attribute_written, attributes_written, comment, name_written, token_written}
+use Rattle.odd_tokens.specs.Whole.{IsLexed}
+use Rattle.odd_tokens.specs.declared.token.Token.{Token as Made}
+use Rattle.odd_tokens.specs.declared.token.WrittenAttr.{WrittenAttr}
+
+-- a letter of ASCII, or a low line
+abbrev pub begins_plain : ℕ → Bool
+begins_plain b = is_within 0x41 0x5A b || b == 0x5F || is_within 0x61 0x7A b
+
+abbrev pub is_plain_part : ℕ → Bool
+is_plain_part b = begins_plain b || b == 0x2D || b == 0x2E || is_within 0x30 0x39 b
+
+-- a name of ASCII
+pub record IsPlainName (name : List ℕ) : Type 0 where
+  pub bytes : encode_utf8_all name ≡ name
+  pub named : IsTrue (is_ncname name)
+
+abbrev pub qname : List ℕ → List ℕ → QName
+qname prefix local = record { prefix = prefix; local = local }
+
+-- a name of ASCII stands first in the text
+pub record IsNamed (text prefix local rest : List ℕ) : Type 0 where
+  pub named : IsQName (qname prefix local)
+  pub prefix_bytes : encode_utf8_all prefix ≡ prefix
+  pub local_bytes : encode_utf8_all local ≡ local
+  pub parts : text ≡ name_written (qname prefix local) ++ rest
+
+-- white space stands first in the text
+pub record IsSpaced (text rest : List ℕ) : Type 0 where
+  pub space : List ℕ
+  pub white : IsTrue (is_white space)
+  pub parts : text ≡ space ++ rest
+
+-- a character that is read as itself in a value with these quotes
+abbrev pub is_plain_in : ℕ → ℕ → Bool
+is_plain_in quote c = is_char c && not (c == 0x9 || c == 0xA || c == 0xD || c == 0x26 || c == 0x3C || c == quote)
+
+abbrev pub is_plain_byte_in : ℕ → ℕ → Bool
+is_plain_byte_in quote b = is_plain_in quote b && not (b == 0xEF)
+
+-- a value of such characters stands first in the text, after its quote
+pub record IsValued (quote : ℕ) (text value rest : List ℕ) : Type 0 where
+  pub characters : List ℕ
+  pub all_plain : list_all (is_plain_in quote) characters ≡ true
+  pub written : encode_utf8_all characters ≡ value
+  pub parts : text ≡ value ++ quote ∷ rest
+
+pub record IsQuoted (text value rest : List ℕ) : Type 0 where
+  pub quote : ℕ
+  pub quoted : IsTrue (quote == 0x22 || quote == 0x27)
+  pub inner : List ℕ
+  pub valued : IsValued quote inner value rest
+  pub parts : text ≡ quote ∷ inner
+
+-- an attribute stands first in the text, and is read as this
+pub record IsAttributeFirst (text : List ℕ) (made : WrittenAttr) (rest : List ℕ) : Type 0 where
+  pub attribute : Attribute
+  pub is_attribute : IsAttribute attribute
+  pub is_made : made ≡ attribute_made attribute
+  pub parts : text ≡ encode_utf8_all (attribute_written attribute) ++ rest
+
+-- attributes stand first in the text
+pub record AreAttributesFirst (text : List ℕ) (made : List WrittenAttr) (rest : List ℕ) : Type 0 where
+  pub attributes : List Attribute
+  pub are_attributes : All IsAttribute attributes
+  pub are_made : made ≡ map attribute_made attributes
+  pub parts : text ≡ encode_utf8_all (attributes_written attributes) ++ rest
+
+-- a character of a comment, but for a dash
+abbrev pub is_in_comment : ℕ → Bool
+is_in_comment c = is_char c && not (c == 0x2D)
+
+abbrev pub is_comment_byte : ℕ → Bool
+is_comment_byte b = is_in_comment b && not (b == 0xEF)
+
+-- a comment without dashes in it stands first in the text
+pub record IsCommentFirst (text rest : List ℕ) : Type 0 where
+  pub inside : List ℕ
+  pub all_plain : list_all is_in_comment inside ≡ true
+  pub parts : text ≡ encode_utf8_all (token_written (comment inside)) ++ rest
+  pub shorter : length rest < length text
+
+-- a token stands first in the text, which begins at the byte
+pub record IsTokenFirst (at : ℕ) (text : List ℕ) (made : Made) (rest : List ℕ) : Type 0 where
+  pub token : Token
+  pub is_lexed : IsLexed token
+  pub is_made : made ≡ token_made at token
+  pub parts : text ≡ encode_utf8_all (token_written token) ++ rest
+  pub shorter : length rest < length text
