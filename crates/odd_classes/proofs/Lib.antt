@@ -1,4 +1,5 @@
 pub mod Asking
+pub mod ClassesReached
 pub mod DataLaws
 pub mod FactsTold
 pub mod FirstOfAll

@@ -2,30 +2,25 @@
 use Rattle.std.proofs.Common.{◌≡◌, ℕ, List, inl, inr, ap, subst}
 use Rattle.std.specs.FinMap.{is_sorted}
 use Rattle.std.specs.Prelude.{IsTrue}
-use Rattle.odd_graph.proofs.Chains.{last_step}
 use Rattle.odd_graph.specs.Graph.{Chained, Leads}
 use Rattle.odd_graph.specs.Ordering.{IsApart}
 use Rattle.odd_library.specs.Odd.{element_key}
 use Rattle.odd_library.specs.declared.library.Library.{Library}
-use Rattle.odd_meaning.specs.Links.{IsLinked, class_key, classes_of, memberships}
+use Rattle.odd_meaning.specs.Links.{IsLinked, class_key, classes_of}
 use Rattle.odd_text.specs.Key.{key_cmp}
 use Rattle.odd_text.specs.declared.key.Key.{Key}
 use Rattle.odd_text.specs.declared.key.Kind.TheVariants as kind
 use Rattle.odd_classes.proofs.Linked.{chain_linked, chains_agree, linked_chain}
-use Rattle.odd_classes.proofs.OnCycles.{class_among, class_loops}
+use Rattle.odd_classes.proofs.OnCycles.{class_loops, reached_class}
 use Rattle.odd_classes.specs.Offered.{ReachesLoop}
 use Rattle.odd_classes.specs.Placing.{IsGraphOf, IsPlaceOf}
 
 module _ (library : Library) (up : IsTrue (is_sorted key_cmp library.parts)) (arrows : List (List ℕ)) (graph : IsGraphOf classes_of library.parts arrows) (place : ℕ) (key : Key) (here : IsPlaceOf library.parts place key) where
-  -- what is reached is a class
-  reached_class : (other : Key) → Chained (IsLinked classes_of library) key other → other ≡ class_key other.ident
-  reached_class other l = let step = (last_step (IsLinked classes_of library) key other l).1 in class_among (memberships step.part) other step.among
-
   -- a place that leads to one which leads to itself
   pub leads_reach : (other : ℕ) → Leads arrows place other → Leads arrows other other → ReachesLoop library key
   leads_reach other leads loops =
       let there = chain_linked classes_of library up arrows graph place other key here leads in
-      let is = reached_class there.0 there.2 in
+      let is = reached_class library key there.0 there.2 in
       let back = (chains_agree classes_of library up arrows graph other other there.0 there.0 there.1 there.1).0 loops in
       (there.0.ident, subst (Chained (IsLinked classes_of library) key) is there.2, subst (λ k. Chained (IsLinked classes_of library) k k) is back)
 

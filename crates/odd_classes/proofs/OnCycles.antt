@@ -3,6 +3,7 @@ use Rattle.std.proofs.Common.{◌≡◌, ◌≢◌, ℕ, Bool, true, List, [], f
 use Rattle.std.proofs.lemmas.List.Elements.{All-contains, All-from_get_or, All-map, filter_passes}
 use Rattle.std.specs.declared.cmp.Ordering.TheVariants.{Greater}
 use Rattle.odd_graph.proofs.Chains.{last_step}
+use Rattle.odd_graph.specs.Graph.{Chained}
 use Rattle.odd_library.specs.declared.library.Library.{Library}
 use Rattle.odd_meaning.specs.Links.{IsLinked, class_key, classes_of, datatype_key, datatypes_of, is_datatype, is_macro, macro_key, macros_of, memberships, named_by}
 use Rattle.odd_meaning.specs.Rules.{Breaks, BreaksByCycle, IsFirstBreak, datatype_reaches_itself, own_member, reaches_itself}
@@ -51,9 +52,13 @@ datatype_among : (keys : List Key) (key : Key) → StandsIn (filter (λ k. is_da
 datatype_among = of_kind is_datatype kind.Datatype datatype_kind
 
 module _ (library : Library) where
-  -- what leads to itself by classes is a class
+  -- what is reached by classes is a class
+  pub reached_class : (key other : Key) → Chained (IsLinked classes_of library) key other → other ≡ class_key other.ident
+  reached_class key other l = let step = (last_step (IsLinked classes_of library) key other l).1 in class_among (memberships step.part) other step.among
+
+  -- so is what leads to itself by classes
   pub class_loops : (key : Key) → LeadsToItself link.Classes library key → key ≡ class_key key.ident
-  class_loops key l = let step = (last_step (IsLinked classes_of library) key key l).1 in class_among (memberships step.part) key step.among
+  class_loops key l = reached_class key key l
 
   -- by macros a macro
   macro_loops : (key : Key) → LeadsToItself link.Macros library key → key ≡ macro_key key.ident

@@ -28,7 +28,7 @@ use Rattle.odd_tree.specs.Elements.{StandsIn}
 use Rattle.odd_classes.proofs.Listed.{part_no_longer, sums_le}
 use Rattle.odd_classes.proofs.Places.{IsFilled, filled_more, filled_none, one_place, entry_held, held_at, model_or_not, both_more, none_more}
 use Rattle.odd_classes.specs.Listing.{IsModelAt, IsTableOf, AreListed, AreListsOf}
-use Rattle.odd_classes.specs.Placing.{IsEntryAt}
+use Rattle.odd_classes.specs.Placing.{IsEntryAt, IsIdentAt}
 
 -- idents that tie are one
 pub one_ident : (a b : List ℕ) → eq_by_cmp text_cmp a b ≡ true → a ≡ b
@@ -145,9 +145,13 @@ module _ (library : Library) (up : IsTrue (is_sorted key_cmp library.parts)) (li
 abbrev pub IsElementAt : List (Key × Component) → List ℕ → ℕ → Type 0
 IsElementAt entries ident place = (part : ElementPart) × IsEntryAt entries place (element_key ident) (component.Element part)
 
--- the idents are those of the elements at these places
+-- the idents are those that stand so at these places
+abbrev pub AreThose : (List ℕ → ℕ → Type 0) → List ℕ → List (List ℕ) → Type 0
+AreThose StandsAt places idents = (ident : List ℕ) → StandsIn idents ident ↔ ((place : ℕ) × StandsAt ident place × Contains places place)
+
+-- those of the elements there
 abbrev pub AreAmong : List (Key × Component) → List ℕ → List (List ℕ) → Type 0
-AreAmong entries places idents = (ident : List ℕ) → StandsIn idents ident ↔ ((place : ℕ) × IsElementAt entries ident place × Contains places place)
+AreAmong entries = AreThose (IsElementAt entries)
 
 -- what is such at the first places is so at the next, or at one before
 at_next : (Is : ℕ → Type 0) (places : List ℕ) (i : ℕ) → i < length places
@@ -157,15 +161,26 @@ at_next Is places i within = (
   λ h. ⊎_elim (λ s. (s.0, s.1, (contains_next places i 0 s.0 within).1 (inl s.2))) (λ is. (get_or places i 0, is, (contains_next places i 0 (get_or places i 0) within).1 (inr (λ n. get_or places i 0)))) h,
 )
 
-module _ (entries : List (Key × Component)) (places : List ℕ) (i : ℕ) (idents : List (List ℕ)) (before : AreAmong entries (take i places) idents) (within : i < length places) where
-  -- an element stands there
-  pub among_more : (here : Key × Component) (part : ElementPart) → IsEntryAt entries (get_or places i 0) here.0 here.1 → here ≡ (element_key here.0.ident, component.Element part)
-      → AreAmong entries (take (i + 1) places) (idents ++ here.0.ident ∷ [])
-  among_more here part at element ident = both_more (stands_push idents here.0.ident ident) (before ident) (at_next (IsElementAt entries ident) places i within) (
-    λ m. ap (λ (e : Key × Component). e.0.ident) (same_Some _ _ (sym at ∙ m.1)),
-    λ e. (part, at ∙ ap Some (element ∙ ap (λ x. (element_key x, component.Element part)) e)),
-  )
+module _ (StandsAt : List ℕ → ℕ → Type 0) (places : List ℕ) (i : ℕ) (idents : List (List ℕ)) (before : AreThose StandsAt (take i places) idents) (within : i < length places) where
+  -- one ident stands at the next place
+  those_more : (here : List ℕ) → ((ident : List ℕ) → StandsAt ident (get_or places i 0) ↔ (here ≡ ident)) → AreThose StandsAt (take (i + 1) places) (idents ++ here ∷ [])
+  those_more here one ident = both_more (stands_push idents here ident) (before ident) (at_next (StandsAt ident) places i within) (one ident)
 
   -- none stands there
-  pub among_none : ((ident : List ℕ) → IsElementAt entries ident (get_or places i 0) → ⊥) → AreAmong entries (take (i + 1) places) idents
-  among_none not ident = none_more (before ident) (at_next (IsElementAt entries ident) places i within) (not ident)
+  pub those_none : ((ident : List ℕ) → StandsAt ident (get_or places i 0) → ⊥) → AreThose StandsAt (take (i + 1) places) idents
+  those_none not ident = none_more (before ident) (at_next (StandsAt ident) places i within) (not ident)
+
+module _ (entries : List (Key × Component)) (places : List ℕ) (i : ℕ) (idents : List (List ℕ)) (within : i < length places) (here : Key × Component) (at : IsEntryAt entries (get_or places i 0) here.0 here.1) where
+  -- an element stands there
+  pub element_more : AreAmong entries (take i places) idents → (part : ElementPart) → here ≡ (element_key here.0.ident, component.Element part) → AreAmong entries (take (i + 1) places) (idents ++ here.0.ident ∷ [])
+  element_more before part element = those_more (IsElementAt entries) places i idents before within here.0.ident (λ ident. (
+    λ m. ap (λ (e : Key × Component). e.0.ident) (same_Some _ _ (sym at ∙ m.1)),
+    λ e. (part, at ∙ ap Some (element ∙ ap (λ x. (element_key x, component.Element part)) e)),
+  ))
+
+  -- any entry stands there
+  pub entry_more : AreThose (IsIdentAt entries) (take i places) idents → AreThose (IsIdentAt entries) (take (i + 1) places) (idents ++ here.0.ident ∷ [])
+  entry_more before = those_more (IsIdentAt entries) places i idents before within here.0.ident (λ ident. (
+    λ m. ap (λ (e : Key × Component). e.0.ident) (same_Some _ _ (sym at ∙ m.1.1)) ∙ m.2,
+    λ e. (here.0, (here.1, at), e),
+  ))

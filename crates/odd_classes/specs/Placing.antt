@@ -67,6 +67,10 @@ IsEntryAt entries place key part = slice_get entries place ≡ Some (key, part)
 abbrev pub IsPlaceOf : List (Key × Component) → ℕ → Key → Type 0
 IsPlaceOf entries place key = (part : Component) × IsEntryAt entries place key part
 
+-- the ident is that of the entry at a place
+abbrev pub IsIdentAt : List (Key × Component) → List ℕ → ℕ → Type 0
+IsIdentAt entries ident place = (key : Key) × IsPlaceOf entries place key × (key.ident ≡ ident)
+
 -- the nodes are the places of those of the keys that have one
 abbrev pub ArePlacesOf : List (Key × Component) → List Key → List ℕ → Type 0
 ArePlacesOf entries keys nodes = (place : ℕ) → Contains nodes place ↔ ((key : Key) × StandsIn keys key × IsPlaceOf entries place key)

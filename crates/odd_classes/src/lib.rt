@@ -1,5 +1,6 @@
-//! Which elements are members of a class, what elements offer of attributes, in which order macros stand in one another, and which
-//! libraries break a rule: the rules on what components name, on cycles, on what elements offer, and on data.
+//! Which elements are members of a class and of which classes an element is one, what elements offer of attributes, in which order
+//! macros stand in one another, and which libraries break a rule: the rules on what components name, on cycles, on what elements
+//! offer, and on data.
 #![tactic(auto)]
 
 mod class_members;
@@ -14,7 +15,7 @@ mod offer_lists;
 mod offering;
 mod rules;
 
-pub use class_members::members;
+pub use class_members::{members, memberships};
 pub use cycles::{CycleRefusal, check_cycles};
 pub use macro_order::in_macro_order;
 pub use member_lists::{MemberTable, TableRefusal, member_table};

@@ -230,8 +230,8 @@ fn offers_of(alloc: Global, givens: Givens) -> Result<Offers, NoMemory>
     Ok(made)
 }
 
-// The key of an element.
-fn element_key(alloc: Global, element: &Text) -> Result<Key, NoMemory>
+/// The key of an element.
+pub fn element_key(alloc: Global, element: &Text) -> Result<Key, NoMemory>
     ensures { IfOk result (λ key. key ≡ the_element_key element.now) }
 {
     let ident = element.copy(alloc)?;

@@ -16,9 +16,8 @@ use Rattle.odd_cli.specs.Outcome.{answers, gives}
 use Rattle.odd_cli.specs.Reading.{IsChainRead, IsOfFile, IsOfTrees, IsTreeRead, StopsAt}
 use Rattle.odd_cli.specs.Reply.{FileGives, FileStops, GiveTrees, IsReached, ReadsChain, stops, NamesFiles, Reply, TreesComeTo, answered, chain_files, done, file_bytes, WordsComeTo}
 use Rattle.odd_cli.specs.Running.{AreBegun, AreReadWhole, BeginsFiles, GoesOn, IsFaultPlace, IsReplied, counted, AsidesOfTrees, AsidesOfWords, IsReadPlace, IsComplete, IsSilent, IsSound, ServesTrees, ServesWords}
-use Rattle.odd_cli.specs.Words.{Asks, WordsMean, command_word, files_named, of_chain, with_aside}
-use Rattle.odd_cli.specs.declared.words.Command.{Command}
-use Rattle.odd_cli.specs.declared.words.Command.TheVariants as command
+use Rattle.odd_cli.specs.Words as task
+use Rattle.odd_cli.specs.Words.{Asks, Task, WordsMean, files_named, of_chain, task_words, with_aside}
 use Rattle.odd_cli.specs.declared.running.Answer.{Answer}
 use Rattle.odd_cli.specs.declared.status.LimitKind.TheVariants as limit
 use Rattle.odd_cli.specs.declared.status.Status.{Status}
@@ -131,15 +130,17 @@ module _ {S : Type 0} (holds : S → Option FileMap) (steady : S → Bool) (faul
       (λ k below from. let at = whole k from (omega arith) in (at.0, at.1, at.2, at.3, goes_later at.0 between new at.4 q))
       (λ from. (new, count, ended, goes_later old between new p q, (refl, refl, omega arith, omega arith, omega arith))) file (omega arith) first
 
--- the words after the command are the files
-files_are : (asked : Command) (aside : Bool) (names : List (List ℕ)) → files_named (with_aside aside (command_word asked ∷ names)) ≡ length names
-files_are command.Merge true names = omega arith
-files_are command.Merge false names = refl
-files_are command.Compile true names = omega arith
-files_are command.Compile false names = refl
+-- the words after the command are the files, and for `explain` those after the ident
+files_are : (asked : Task) (aside : Bool) (names : List (List ℕ)) → files_named (with_aside aside (task_words asked ++ names)) ≡ length names
+files_are task.merge true names = refl
+files_are task.merge false names = refl
+files_are task.compile true names = refl
+files_are task.compile false names = refl
+files_are (task.explain ident) true names = omega arith
+files_are (task.explain ident) false names = omega arith
 
 -- the files that words name: how many there are, and that they are those of the job
-module _ (words : List (List ℕ)) (asked : Command) (aside : Bool) (names : List (List ℕ)) where
+module _ (words : List (List ℕ)) (asked : Task) (aside : Bool) (names : List (List ℕ)) where
   pub named_asks : NamesFiles words (gives (asked, aside, names)) → Asks words asked aside names
   named_asks (NamesFiles.named c few) = c
 
@@ -165,10 +166,10 @@ named_usage words s (NamesFiles.too_many asked aside chain c many) none = absurd
 pub named_answer : (words : List (List ℕ)) (s r : Status) → NamesFiles words (answers s) → NamesFiles words (answers r) → s ≡ r
 named_answer words s r n m = let same = names_one words (answers s) (answers r) n m in cc
 
-pub named_none : (words : List (List ℕ)) (asked : Command) (aside : Bool) (names : List (List ℕ)) (s : Status) → NamesFiles words (gives (asked, aside, names)) → NamesFiles words (answers s) → ⊥
+pub named_none : (words : List (List ℕ)) (asked : Task) (aside : Bool) (names : List (List ℕ)) (s : Status) → NamesFiles words (gives (asked, aside, names)) → NamesFiles words (answers s) → ⊥
 named_none words asked aside names s n m = let no = names_one words (gives (asked, aside, names)) (answers s) n m in cc
 
-module _ (holds : Option FileMap) (words : List (List ℕ)) (asked : Command) (aside : Bool) (names : List (List ℕ)) (chain : Chain) (n : NamesFiles words (gives (asked, aside, names)))
+module _ (holds : Option FileMap) (words : List (List ℕ)) (asked : Task) (aside : Bool) (names : List (List ℕ)) (chain : Chain) (n : NamesFiles words (gives (asked, aside, names)))
     (r : IsChainRead aside holds names chain) where
   pub few_read : HasFewDocs chain
   few_read = few_docs aside chain r.trees r.is_chain (omega (arith, r.many, named_few words asked aside names n))
@@ -211,13 +212,13 @@ module _ (holds : Option FileMap) (words : List (List ℕ)) (asked : Command) (a
       (λ s come replied. answered (inr ((asked, aside, names), n, inr (r.trees, ReadsChain.all_spelled (r.given files h), come r.trees r.is_chain (sym r.many) replied))))
 
 -- a file of the chain that was not read
-pub fault_placed : (words : List (List ℕ)) (asked : Command) (aside : Bool) (names : List (List ℕ)) (files : FileMap) (number : ℕ) (rest : Option (List ℕ)) (steady : Bool)
+pub fault_placed : (words : List (List ℕ)) (asked : Task) (aside : Bool) (names : List (List ℕ)) (files : FileMap) (number : ℕ) (rest : Option (List ℕ)) (steady : Bool)
     → NamesFiles words (gives (asked, aside, names)) → IsFaultPlace names files number rest steady → IsReadPlace words files number rest steady
 fault_placed words asked aside names files number rest steady n p =
     record { asked = asked; aside = aside; chain = names; asks = named_asks words asked aside names n; within = named_few words asked aside names n; place = p }
 
 -- the status of a file that was not read
-pub stop_comes : (files : FileMap) (words : List (List ℕ)) (asked : Command) (aside : Bool) (names : List (List ℕ)) (s : Status) → NamesFiles words (gives (asked, aside, names))
+pub stop_comes : (files : FileMap) (words : List (List ℕ)) (asked : Task) (aside : Bool) (names : List (List ℕ)) (s : Status) → NamesFiles words (gives (asked, aside, names))
     → (IsReplied s → ReadsChain files names (answers s)) → IsReplied s → Reply words files [] s
 stop_comes files words asked aside names s n reads replied = answered (inr ((asked, aside, names), n, inl (reads replied)))
 
@@ -227,7 +228,7 @@ on_any (Ok answer) P p = p
 on_any (Err s) P p = tt
 
 -- How many files are begun
-module _ (words : List (List ℕ)) (asked : Command) (aside : Bool) (names : List (List ℕ)) (n : NamesFiles words (gives (asked, aside, names))) (begins_old begins_new reads_old reads_new : ℕ) where
+module _ (words : List (List ℕ)) (asked : Task) (aside : Bool) (names : List (List ℕ)) (n : NamesFiles words (gives (asked, aside, names))) (begins_old begins_new reads_old reads_new : ℕ) where
   pub begun_on_err : (r : Result Answer Status) → begins_new ≡ counted begins_old (length names) → reads_new ≤ reads_old + length names * (file_bytes + 1) → IfErr r IsOfTrees
       → IfErr r (λ s. BeginsFiles s (files_named words) begins_old begins_new reads_old reads_new)
   begun_on_err r e few = IfErr-weaker r _ _ (λ s of. subst (λ files. BeginsFiles s files begins_old begins_new reads_old reads_new) (named_many words asked aside names n)

@@ -11,16 +11,16 @@ use Rattle.odd_tree.specs.declared.tree.Tree.{Tree}
 use Rattle.odd_cli.specs.Outcome.{answers, gives}
 use Rattle.odd_cli.specs.Reply.{HasText, Merges, TreesComeTo}
 use Rattle.odd_cli.specs.Running.{IsReplied, Serves, ServesTrees}
+use Rattle.odd_cli.specs.Words.{Task}
 use Rattle.odd_cli.specs.declared.status.Status.{Status}
 use Rattle.odd_cli.specs.declared.status.Status.TheVariants as status
-use Rattle.odd_cli.specs.declared.words.Command.{Command}
 
 -- an offence
-pub refused_come : (asked : Command) (aside : Bool) (trees : List Tree) (offence : Offence) → IsChainRefusal aside trees offence
+pub refused_come : (asked : Task) (aside : Bool) (trees : List Tree) (offence : Offence) → IsChainRefusal aside trees offence
     → TreesComeTo asked aside trees (answers (status.Refused offence))
 refused_come asked aside trees offence r = inl (Merges.refused r)
 
-module _ (asked : Command) (chain : Chain) (library : Library) (given : (aside : Bool) (trees : List Tree) → IsChainOf aside chain trees → Gives aside trees library) where
+module _ (asked : Task) (chain : Chain) (library : Library) (given : (aside : Bool) (trees : List Tree) → IsChainOf aside chain trees → Gives aside trees library) where
   -- what is written of the library
   pub library_comes : (files : ℕ) (r : Result (List ℕ) Status) → IfOk r (λ text. HasText asked files library (gives text))
       → IfOk r (λ text. (aside : Bool) (trees : List Tree) → IsChainOf aside chain trees → files ≡ length trees → TreesComeTo asked aside trees (gives text))

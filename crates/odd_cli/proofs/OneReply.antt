@@ -22,14 +22,14 @@ use Rattle.odd_tree.specs.Elements.{StandsIn}
 use Rattle.odd_tree.specs.Spelled.{DepthPlace, IsNotXml, Spells}
 use Rattle.odd_tree.specs.declared.tree.Tree.{Tree}
 use Rattle.rng_patterns.specs.declared.grammar.Grammar.{Grammar}
-use Rattle.odd_cli.proofs.Commands.{command_once, never_aside}
+use Rattle.odd_account.proofs.OneAccount.{one_account}
+use Rattle.odd_cli.proofs.Commands.{never_aside, task_once}
 use Rattle.odd_cli.specs.Outcome.{Outcome, Then, IsOne, answers, gives}
 use Rattle.odd_cli.specs.Reading.{IsOfFile, IsOfTrees}
-use Rattle.odd_cli.specs.Reply.{FileGives, FileStops, GiveTrees, IsReached, IsRead, file_bytes, more, none, not_held, not_xml, too_deep, too_long, AskedFiles, HasMergedOdd, HasSchema, HasStart, HasText, Merges, NamesFiles, ChainComesTo, ReadsChain, Reply, TreesComeTo, WordsComeTo, all_spelled, answered, done, merged, named, no_job, refused, schema, start_held, start_missing, start_offence, stops, too_large, too_many}
+use Rattle.odd_cli.specs.Reply.{FileGives, FileStops, GiveTrees, IsReached, IsRead, file_bytes, more, none, not_held, not_xml, too_deep, too_long, AskedFiles, HasAccount, HasMergedOdd, HasSchema, HasStart, HasText, Merges, NamesFiles, ChainComesTo, ReadsChain, Reply, TreesComeTo, WordsComeTo, account, all_spelled, answered, asked_missing, done, merged, named, no_job, refused, schema, start_held, start_missing, start_offence, stops, too_large, too_many}
 use Rattle.odd_cli.specs.Running.{IsCompiled, IsFitFor, IsSilent, IsSound}
-use Rattle.odd_cli.specs.Words.{Asks, WordsMean, command_word, of_chain, with_aside}
-use Rattle.odd_cli.specs.declared.words.Command.{Command}
-use Rattle.odd_cli.specs.declared.words.Command.TheVariants as command
+use Rattle.odd_cli.specs.Words as task
+use Rattle.odd_cli.specs.Words.{Asks, Task, WordsMean, command_of, command_word, of_chain, task_words, with_aside}
 use Rattle.odd_cli.specs.declared.status.LimitKind.TheVariants as limit
 use Rattle.odd_cli.specs.declared.status.Status.{Status}
 use Rattle.odd_cli.specs.declared.status.Status.TheVariants as status
@@ -141,34 +141,29 @@ module _ {X Y Z : Type 0} (R : X → Outcome Y → Type 0) (S : Y → Outcome Z 
   then_one other x (answers s) p (inr r) q = other r.0 (answers s) p r.2 (after x r.0 p r.1 q)
   then_one other x (gives z) p r q = other r.0 (gives z) p r.2 (after x r.0 p r.1 q)
 
--- the word of a command and files are those of one command and one chain
-same_asked : (c d : Command) (f g : List (List ℕ)) (x : Bool) → command_word c ∷ f ≡ command_word d ∷ g → ◌≡◌ {A = AskedFiles} (c, x, f) (d, x, g)
-same_asked c d f g x e =
-    let words : command_word c ≡ command_word d = cc in
-    let chains : f ≡ g = cc in
-    let commands = command_once c d words in
-    λ i. (commands i, x, chains i)
+-- words ask for what is done with one chain, with `aside` or without
+same_asked : (c d : Task) (f g : List (List ℕ)) (x : Bool) → task_words c ++ f ≡ task_words d ++ g → ◌≡◌ {A = AskedFiles} (c, x, f) (d, x, g)
+same_asked c d f g x e = let same = task_once c d f g e in λ i. (same.0 i, x, same.1 i)
 
--- words ask for what one command writes of one chain, with `aside` or without
-pub one_asked : (words : List (List ℕ)) (c d : Command) (a b : Bool) (f g : List (List ℕ)) → Asks words c a f → Asks words d b g → ◌≡◌ {A = AskedFiles} (c, a, f) (d, b, g)
+pub one_asked : (words : List (List ℕ)) (c d : Task) (a b : Bool) (f g : List (List ℕ)) → Asks words c a f → Asks words d b g → ◌≡◌ {A = AskedFiles} (c, a, f) (d, b, g)
 one_asked words c d a b f g p q = same a b (sym p.words_are ∙ q.words_are)
   where
-    same : (x y : Bool) → with_aside x (command_word c ∷ f) ≡ with_aside y (command_word d ∷ g) → ◌≡◌ {A = AskedFiles} (c, x, f) (d, y, g)
-    same true true e = let tails : command_word c ∷ f ≡ command_word d ∷ g = cc in same_asked c d f g true tails
+    same : (x y : Bool) → with_aside x (task_words c ++ f) ≡ with_aside y (task_words d ++ g) → ◌≡◌ {A = AskedFiles} (c, x, f) (d, y, g)
+    same true true e = let tails : task_words c ++ f ≡ task_words d ++ g = cc in same_asked c d f g true tails
     same false false e = same_asked c d f g false e
-    same true false e = let no : codes "aside" ≡ command_word d = cc in absurd (never_aside d no)
-    same false true e = let no : codes "aside" ≡ command_word c = cc in absurd (never_aside c no)
+    same true false e = let no : codes "aside" ≡ command_word (command_of d) = cc in absurd (never_aside (command_of d) no)
+    same false true e = let no : codes "aside" ≡ command_word (command_of c) = cc in absurd (never_aside (command_of c) no)
 
 -- so the words name the files of one chain
-pub one_chain : (words : List (List ℕ)) (c d : Command) (a b : Bool) (f g : List (List ℕ)) → Asks words c a f → Asks words d b g → f ≡ g
+pub one_chain : (words : List (List ℕ)) (c d : Task) (a b : Bool) (f g : List (List ℕ)) → Asks words c a f → Asks words d b g → f ≡ g
 one_chain words c d a b f g p q = ap (λ (x : AskedFiles). x.2) (one_asked words c d a b f g p q)
 
 -- words that name files have a job
-pub no_job_but : (words : List (List ℕ)) (c : Command) (a : Bool) (chain : List (List ℕ)) → ((job : Job) → WordsMean words job → ⊥) → Asks words c a chain → ⊥
+pub no_job_but : (words : List (List ℕ)) (c : Task) (a : Bool) (chain : List (List ℕ)) → ((job : Job) → WordsMean words job → ⊥) → Asks words c a chain → ⊥
 no_job_but words c a chain without asks = without _ (of_chain c a chain asks refl)
 
 -- and no chain is both too long and not
-many_but : (words : List (List ℕ)) (c d : Command) (a b : Bool) (f g : List (List ℕ)) → Asks words c a f → Asks words d b g → 16 < length f → length g ≤ 16 → ⊥
+many_but : (words : List (List ℕ)) (c d : Task) (a b : Bool) (f g : List (List ℕ)) → Asks words c a f → Asks words d b g → 16 < length f → length g ≤ 16 → ⊥
 many_but words c d a b f g p q long short = omega (arith, long, short, ap length (one_chain words c d a b f g p q))
 
 pub names_one : IsOne NamesFiles
@@ -223,11 +218,19 @@ schema_one l o p (schema g i e) (schema h j f) = ap gives (one_schema_text l l.s
 odd_one : IsOne HasMergedOdd
 odd_one l o p HasMergedOdd.printed HasMergedOdd.printed = refl
 
-text_one : (asked : Command) (files : ℕ) → IsOne (HasText asked files)
-text_one command.Merge files = odd_one
-text_one command.Compile files = then_one (HasStart files) HasSchema (start_one files) schema_one
+-- an element that is held has one account
+account_one : (ident : List ℕ) (files : ℕ) → IsOne (HasAccount ident files)
+account_one ident files l o p (asked_missing absent) (asked_missing also) = refl
+account_one ident files l o p (asked_missing absent) (account {text = text} a) = absurd (absent (a.part, a.held))
+account_one ident files l o p (account {text = text} a) (asked_missing absent) = absurd (absent (a.part, a.held))
+account_one ident files l o p (account {text = text} a) (account {text = other} b) = ap gives (one_account l ident text other a b)
 
-pub trees_one : (asked : Command) (aside : Bool) → IsOne (TreesComeTo asked aside)
+text_one : (asked : Task) (files : ℕ) → IsOne (HasText asked files)
+text_one task.merge files = odd_one
+text_one task.compile files = then_one (HasStart files) HasSchema (start_one files) schema_one
+text_one (task.explain ident) files = account_one ident files
+
+pub trees_one : (asked : Task) (aside : Bool) → IsOne (TreesComeTo asked aside)
 trees_one asked aside trees = then_one (Merges aside) (HasText asked (length trees)) (merges_one aside) (text_one asked (length trees)) trees
 
 chain_comes_one : (files : FileMap) → IsOne (ChainComesTo files)
@@ -251,11 +254,12 @@ of_schema files library s (inr (same, h, too_large l)) = tt
 pub odd_answers : (library : Library) (s : Status) → HasMergedOdd library (answers s) → ⊥
 odd_answers library s h = elim h [ ]
 
-of_text : (asked : Command) (files : ℕ) (library : Library) (s : Status) → HasText asked files library (answers s) → IsOfTrees s
-of_text command.Merge files library s h = absurd (odd_answers library s h)
-of_text command.Compile files library s h = of_schema files library s h
+of_text : (asked : Task) (files : ℕ) (library : Library) (s : Status) → HasText asked files library (answers s) → IsOfTrees s
+of_text task.merge files library s h = absurd (odd_answers library s h)
+of_text task.compile files library s h = of_schema files library s h
+of_text (task.explain ident) files library s (asked_missing absent) = tt
 
-pub of_trees : (asked : Command) (aside : Bool) (trees : List Tree) (s : Status) → TreesComeTo asked aside trees (answers s) → IsOfTrees s
+pub of_trees : (asked : Task) (aside : Bool) (trees : List Tree) (s : Status) → TreesComeTo asked aside trees (answers s) → IsOfTrees s
 of_trees asked aside trees s (inl (refused r)) = tt
 of_trees asked aside trees s (inr (library, m, h)) = of_text asked (length trees) library s h
 
@@ -275,10 +279,11 @@ schema_sound : (aside : Bool) (trees : List Tree) (library : Library) (s : Statu
 schema_sound aside trees library s fit g (inl (start_missing word least)) = held_but library word least (fit.holds_start library g)
 schema_sound aside trees library s fit g (inr (same, start_held h, too_large l)) = fit.within library l.grammar g l.is_grammar l.too_large
 
-text_sound : (asked : Command) (aside : Bool) (trees : List Tree) (library : Library) (s : Status) → IsFitFor asked aside trees → Gives aside trees library
+text_sound : (asked : Task) (aside : Bool) (trees : List Tree) (library : Library) (s : Status) → IsFitFor asked aside trees → Gives aside trees library
     → HasText asked (length trees) library (answers s) → ⊥
-text_sound command.Merge aside trees library s fit g h = odd_answers library s h
-text_sound command.Compile aside trees library s fit g h = schema_sound aside trees library s fit g h
+text_sound task.merge aside trees library s fit g h = odd_answers library s h
+text_sound task.compile aside trees library s fit g h = schema_sound aside trees library s fit g h
+text_sound (task.explain ident) aside trees library s fit g (asked_missing absent) = absent (fit library g)
 
 trees_sound : (words : List (List ℕ)) (files : FileMap) (s : Status) (sound : IsSound words files) → TreesComeTo sound.asked sound.aside sound.trees (answers s) → ⊥
 trees_sound words files s sound (inl (refused r)) = sound.unoffended _ r.at r.is_one

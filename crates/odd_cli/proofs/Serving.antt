@@ -14,18 +14,18 @@ use Rattle.odd_tree.specs.declared.tree.Tree.{Tree}
 use Rattle.odd_cli.proofs.OneReply.{after, names_one, none_stops, odd_answers, one_asked, one_trees}
 use Rattle.odd_cli.specs.Base.{IsBase, IsPut, moved_status}
 use Rattle.odd_cli.specs.Outcome.{Then, answers, gives}
-use Rattle.odd_cli.specs.Reply.{AskedFiles, ChainComesTo, FileGives, FileStops, GiveTrees, HasSchema, HasStart, HasText, IsRead, NamesFiles, ReadsChain, Reply, TreesComeTo, all_spelled, answered, chain_files, done, merged, more, named, none, not_held, not_xml, refused, start_held, start_missing, stops, too_deep, too_large, too_long}
+use Rattle.odd_cli.specs.Reply.{AskedFiles, ChainComesTo, FileGives, FileStops, GiveTrees, HasSchema, HasStart, HasText, IsRead, NamesFiles, ReadsChain, Reply, TreesComeTo, account, all_spelled, answered, asked_missing, chain_files, done, merged, more, named, none, not_held, not_xml, refused, start_held, start_missing, stops, too_deep, too_large, too_long}
 use Rattle.odd_cli.specs.Running.{AcceptsIfSchema, AcceptsOfWords, ServesTrees, ServesWords}
-use Rattle.odd_cli.specs.Words.{Asks}
+use Rattle.odd_cli.specs.Words as task
+use Rattle.odd_cli.specs.Words.{Asks, Task}
 use Rattle.odd_cli.specs.declared.status.Status.{Status}
-use Rattle.odd_cli.specs.declared.words.Command.{Command}
-use Rattle.odd_cli.specs.declared.words.Command.TheVariants as command
 
 -- a schema accepts
 
-trees_accept : (asked : Command) (aside : Bool) (trees : List Tree) (text : List ℕ) → ServesTrees asked aside trees text → AcceptsIfSchema asked aside trees text
-trees_accept command.Merge aside trees text s = tt
-trees_accept command.Compile aside trees text s = record { library = s.library; gives = s.gives; right = s.serves }
+trees_accept : (asked : Task) (aside : Bool) (trees : List Tree) (text : List ℕ) → ServesTrees asked aside trees text → AcceptsIfSchema asked aside trees text
+trees_accept task.merge aside trees text s = tt
+trees_accept task.compile aside trees text s = record { library = s.library; gives = s.gives; right = s.serves }
+trees_accept (task.explain ident) aside trees text s = tt
 
 pub accepts_of : (words : List (List ℕ)) (files : FileMap) (text : List ℕ) → ServesWords words files text → AcceptsOfWords words files text
 accepts_of words files text s = record {
@@ -91,21 +91,23 @@ module _ {files others : FileMap} {name text : List ℕ} {later : List (List ℕ
   still_stops by other number s stands (too_deep bytes r d) = too_deep bytes (still_read other bytes stands r) d
 
 -- what is written of a library is the same after fewer files
-text_on : (asked : Command) (files fewer : ℕ) (library : Library) (text : List ℕ) → HasText asked files library (gives text) → HasText asked fewer library (gives text)
-text_on command.Merge files fewer library text h = h
-text_on command.Compile files fewer library text (same, start_held h, made) = (same, start_held h, made)
+text_on : (asked : Task) (files fewer : ℕ) (library : Library) (text : List ℕ) → HasText asked files library (gives text) → HasText asked fewer library (gives text)
+text_on task.merge files fewer library text h = h
+text_on task.compile files fewer library text (same, start_held h, made) = (same, start_held h, made)
+text_on (task.explain ident) files fewer library text (account a) = account a
 
 -- and where nothing is, the offence of a start word tells of fewer files
 schema_moves : (files by : ℕ) (library : Library) (s : Status) → Then (HasStart files) HasSchema library (answers s) → Then (HasStart (files - by)) HasSchema library (answers (moved_status by s))
 schema_moves files by library s (inl (start_missing word least)) = inl (start_missing word least)
 schema_moves files by library s (inr (same, start_held h, too_large large)) = inr (same, start_held h, too_large large)
 
-text_moves : (asked : Command) (files by : ℕ) (library : Library) (s : Status) → HasText asked files library (answers s) → HasText asked (files - by) library (answers (moved_status by s))
-text_moves command.Merge files by library s h = absurd (odd_answers library s h)
-text_moves command.Compile files by library s h = schema_moves files by library s h
+text_moves : (asked : Task) (files by : ℕ) (library : Library) (s : Status) → HasText asked files library (answers s) → HasText asked (files - by) library (answers (moved_status by s))
+text_moves task.merge files by library s h = absurd (odd_answers library s h)
+text_moves task.compile files by library s h = schema_moves files by library s h
+text_moves (task.explain ident) files by library s (asked_missing absent) = asked_missing absent
 
 -- what trees come to where one tree stands for the first of them
-module _ {aside : Bool} (asked : Command) (trees : List Tree) (tree : Tree) (library : Library) (some : 1 ≤ length trees) (g : Gives aside trees library)
+module _ {aside : Bool} (asked : Task) (trees : List Tree) (tree : Tree) (library : Library) (some : 1 ≤ length trees) (g : Gives aside trees library)
     (stands : StandsFor library tree) (rest : List Tree) where
   fewer : length (trees ++ rest) - (length trees - 1) ≡ length (tree ∷ rest)
   fewer = omega (arith, length-append trees rest, some)
@@ -170,7 +172,7 @@ module _ {files others : FileMap} {name text : List ℕ} {first later : List (Li
       (parts.1, parts.2 ∙ ap (λ ts. ts ++ parts.1) same, more base_given (still_give r.put later parts.1 (λ other stands. stands) parts.4))
 
   -- what is written of a chain
-  module _ (asked : Command) where
+  module _ (asked : Task) where
     chain_moves : (s : Status) → ChainComesTo files (asked, aside, first ++ later) (answers s) → ChainComesTo others (asked, aside, name ∷ later) (answers (moved_status by s))
     chain_moves s (inl stop) = inl (stops_on s stop)
     chain_moves s (inr (all, all_spelled g, come)) =
@@ -210,15 +212,15 @@ gives_too true false trees library formed too g = let no : false ≡ true = too 
 abbrev ServesAsked : FileMap → List ℕ → AskedFiles → Type 0
 ServesAsked files text asked = (trees : List Tree) × GiveTrees files asked.2 trees × ServesTrees asked.0 asked.1 trees text
 
-serves_asked : (words : List (List ℕ)) (files : FileMap) (text : List ℕ) (asked : Command) (aside : Bool) (chain : List (List ℕ)) → Asks words asked aside chain → ServesWords words files text
+serves_asked : (words : List (List ℕ)) (files : FileMap) (text : List ℕ) (asked : Task) (aside : Bool) (chain : List (List ℕ)) → Asks words asked aside chain → ServesWords words files text
     → ServesAsked files text (asked, aside, chain)
 serves_asked words files text asked aside chain asks s =
     subst (ServesAsked files text) (one_asked words s.asked asked s.aside aside s.chain chain s.asks asks) (s.trees, s.given, s.serves)
 
-pub base_of : (words : List (List ℕ)) (files : FileMap) (aside : Bool) (first : List (List ℕ)) (text : List ℕ) → Asks words command.Merge aside first → ServesWords words files text
+pub base_of : (words : List (List ℕ)) (files : FileMap) (aside : Bool) (first : List (List ℕ)) (text : List ℕ) → Asks words task.merge aside first → ServesWords words files text
     → IsBase files aside first text
 base_of words files aside first text asks s =
-    let of = serves_asked words files text command.Merge aside first asks s in
+    let of = serves_asked words files text task.merge aside first asks s in
     let many = as_many_given files first of.0 of.1 in
     record {
       same = λ others name later chain base asked asked_aside reply status put too chain_asks base_asks few replied.

@@ -5,11 +5,10 @@ use Rattle.odd_base.specs.Shelf.{FileMap, Held}
 use Rattle.odd_tree.specs.Elements.{StandsIn}
 use Rattle.odd_chain.specs.Base.{moved}
 use Rattle.odd_cli.specs.Reply.{Reply, chain_files, file_bytes}
-use Rattle.odd_cli.specs.Words.{Asks}
+use Rattle.odd_cli.specs.Words.{Asks, Task}
 use Rattle.odd_cli.specs.declared.status.LimitKind.TheVariants as limit
 use Rattle.odd_cli.specs.declared.status.Status.{Status}
 use Rattle.odd_cli.specs.declared.status.Status.TheVariants as status
-use Rattle.odd_cli.specs.declared.words.Command.{Command}
 
 -- the number of the file that a status names, where it names one, is less by so much
 abbrev pub moved_status : ℕ → Status → Status
@@ -28,6 +27,6 @@ pub record IsPut (files others : FileMap) (name text : List ℕ) (later : List (
 
 -- The text stands for the first files of any chain that goes on behind them, within the number of files that a chain may have, and with `aside` where that was asked.
 pub record IsBase (files : FileMap) (aside : Bool) (first : List (List ℕ)) (text : List ℕ) : Type 0 where
-  pub same : (others : FileMap) (name : List ℕ) (later words base : List (List ℕ)) (asked : Command) (asked_aside : Bool) (reply : List ℕ) (s : Status) → IsPut files others name text later
+  pub same : (others : FileMap) (name : List ℕ) (later words base : List (List ℕ)) (asked : Task) (asked_aside : Bool) (reply : List ℕ) (s : Status) → IsPut files others name text later
       → (aside ≡ true → asked_aside ≡ true) → Asks words asked asked_aside (first ++ later) → Asks base asked asked_aside (name ∷ later) → length (first ++ later) ≤ chain_files
       → Reply words files reply s → Reply base others reply (moved_status (length first - 1) s)

@@ -13,14 +13,14 @@ use Rattle.compile_defines.specs.Compiled.{HoldsStart}
 use Rattle.compile_core.specs.Schema.{HasLargeSchema, IsLeastMissing, IsSchema}
 use Rattle.compile_core.specs.SchemaText.{IsSchemaText}
 use Rattle.odd_emit.specs.Components.{merged_odd}
+use Rattle.odd_account.specs.Account.{IsAccount, IsHeldElement}
 use Rattle.odd_cli.specs.declared.status.Status.{Status}
 use Rattle.odd_cli.specs.declared.status.Status.TheVariants as status
 use Rattle.odd_cli.specs.declared.status.LimitKind.TheVariants as limit
-use Rattle.odd_cli.specs.declared.words.Command.{Command}
-use Rattle.odd_cli.specs.declared.words.Command.TheVariants as command
 use Rattle.odd_cli.specs.declared.words.Job.{Job}
 use Rattle.odd_cli.specs.Outcome.{Outcome, Then, answers, gives}
-use Rattle.odd_cli.specs.Words.{Asks, WordsMean}
+use Rattle.odd_cli.specs.Words as task
+use Rattle.odd_cli.specs.Words.{Asks, WordsMean, Task}
 
 -- how many files a chain may have, and how many bytes a file
 abbrev pub chain_files : ℕ
@@ -29,16 +29,16 @@ chain_files = 16
 abbrev pub file_bytes : ℕ
 file_bytes = 16777216
 
--- a command, whether constraints are taken out, and the files of a chain
+-- what is done, whether constraints are taken out, and the files of a chain
 abbrev pub AskedFiles : Type 0
-AskedFiles = Command × Bool × List (List ℕ)
+AskedFiles = Task × Bool × List (List ℕ)
 
 -- the words, and what they ask for
 pub data NamesFiles (words : List (List ℕ)) : Outcome AskedFiles → Type 0 where
   no_job : ((job : Job) → WordsMean words job → ⊥) → NamesFiles words (answers status.Usage)
-  too_many : (asked : Command) (aside : Bool) (chain : List (List ℕ)) → Asks words asked aside chain → chain_files < length chain
+  too_many : (asked : Task) (aside : Bool) (chain : List (List ℕ)) → Asks words asked aside chain → chain_files < length chain
       → NamesFiles words (answers (status.Limit limit.Files))
-  named : {asked : Command} {aside : Bool} {chain : List (List ℕ)} → Asks words asked aside chain → length chain ≤ chain_files → NamesFiles words (gives (asked, aside, chain))
+  named : {asked : Task} {aside : Bool} {chain : List (List ℕ)} → Asks words asked aside chain → length chain ≤ chain_files → NamesFiles words (gives (asked, aside, chain))
 
 -- the file of the name is held with these bytes, which are within the limit
 pub record IsRead (files : FileMap) (name bytes : List ℕ) : Type 0 where
@@ -100,13 +100,22 @@ pub data HasSchema (library : Library) : Outcome (List ℕ) → Type 0 where
 pub data HasMergedOdd (library : Library) : Outcome (List ℕ) → Type 0 where
   printed : HasMergedOdd library (gives (merged_odd library))
 
+abbrev pub asked_offence : ℕ → List ℕ → Offence
+asked_offence files ident = record { file = files; who = who.Asked ident; rule = 21 }
+
+-- a library after so many files, and the account of the element at an ident, where it holds one
+pub data HasAccount (ident : List ℕ) (files : ℕ) (library : Library) : Outcome (List ℕ) → Type 0 where
+  asked_missing : (IsHeldElement library ident → ⊥) → HasAccount ident files library (answers (status.Refused (asked_offence files ident)))
+  account : {text : List ℕ} → IsAccount library ident text → HasAccount ident files library (gives text)
+
 -- a library after so many files, and what a command writes of it
-abbrev pub HasText : Command → ℕ → Library → Outcome (List ℕ) → Type 0
-HasText command.Merge files = HasMergedOdd
-HasText command.Compile files = Then (HasStart files) HasSchema
+abbrev pub HasText : Task → ℕ → Library → Outcome (List ℕ) → Type 0
+HasText task.merge files = HasMergedOdd
+HasText task.compile files = Then (HasStart files) HasSchema
+HasText (task.explain ident) files = HasAccount ident files
 
 -- trees, and what a command writes of the library after them
-abbrev pub TreesComeTo : Command → Bool → List Tree → Outcome (List ℕ) → Type 0
+abbrev pub TreesComeTo : Task → Bool → List Tree → Outcome (List ℕ) → Type 0
 TreesComeTo asked aside trees = Then (Merges aside) (HasText asked (length trees)) trees
 
 -- files, and what is written of the library after them

@@ -3,6 +3,7 @@ use Rattle.std.specs.Prelude.{◌≡◌, ◌↔◌, ◌⊎◌, ◌≤◌, ◌+�
 use Rattle.odd_text.specs.Count.{HasRisen, last_count, next_count}
 use Rattle.odd_base.specs.Shelf.{FileMap, Held, NotHeld, LeavesSuffix}
 use Rattle.odd_library.specs.declared.library.Library.{Library}
+use Rattle.odd_account.specs.Account.{IsAccount, IsHeldElement}
 use Rattle.odd_tree.specs.declared.tree.Tree.{Tree}
 use Rattle.odd_chain.specs.Base.{SpellsBase}
 use Rattle.odd_chain.specs.Files.{ChainOffends, Gives, HasAsides}
@@ -16,9 +17,8 @@ use Rattle.compile_defines.specs.Compiled.{HoldsStart, IsGrammarOf}
 use Rattle.odd_cli.specs.declared.status.LimitKind.TheVariants as limit
 use Rattle.odd_cli.specs.declared.status.Status.{Status}
 use Rattle.odd_cli.specs.declared.status.Status.TheVariants as status
-use Rattle.odd_cli.specs.Words.{Asks}
-use Rattle.odd_cli.specs.declared.words.Command.{Command}
-use Rattle.odd_cli.specs.declared.words.Command.TheVariants as command
+use Rattle.odd_cli.specs.Words as task
+use Rattle.odd_cli.specs.Words.{Asks, Task}
 use Rattle.odd_cli.specs.Note.{IsFrontWritten}
 use Rattle.odd_cli.specs.Reply.{GiveTrees, IsReached, chain_files, file_bytes}
 
@@ -78,7 +78,7 @@ pub record IsFaultPlace (chain : List (List ℕ)) (files : FileMap) (number : �
 
 -- the file of the number is reached by the words
 pub record IsReadPlace (words : List (List ℕ)) (files : FileMap) (number : ℕ) (rest : Option (List ℕ)) (steady : Bool) : Type 0 where
-  pub asked : Command
+  pub asked : Task
   pub aside : Bool
   pub chain : List (List ℕ)
   pub asks : Asks words asked aside chain
@@ -89,19 +89,24 @@ pub record IsReadPlace (words : List (List ℕ)) (files : FileMap) (number : ℕ
 abbrev pub IsNoted : List ℕ → List ℕ → Option (List ℕ) → ℕ → ℕ → Type 0
 IsNoted before text written old new = (written ≡ Some (before ++ text)) ⊎ (IsFrontWritten before text written × HasRisen old new)
 
--- What a command asks of a chain without an offence: `compile` that each start word is a held element and that the schema passes no limit, and `merge` nothing.
+-- What a command asks of a chain without an offence: `compile` that each start word is a held element and that the schema passes no limit, `explain` that the element is held, and `merge` nothing.
 pub record IsCompiled (aside : Bool) (trees : List Tree) : Type 0 where
   pub holds_start : (library : Library) → Gives aside trees library → HoldsStart library library.start
   pub within : (library : Library) (g : Grammar) → Gives aside trees library → IsGrammarOf library library.start g → IsTooLarge g → ⊥
 
-abbrev pub IsFitFor : Command → Bool → List Tree → Type 0
-IsFitFor command.Merge aside trees = Unit {0}
-IsFitFor command.Compile aside trees = IsCompiled aside trees
+-- that the element is held that is asked for
+abbrev pub HoldsAsked : List ℕ → Bool → List Tree → Type 0
+HoldsAsked ident aside trees = (library : Library) → Gives aside trees library → IsHeldElement library ident
+
+abbrev pub IsFitFor : Task → Bool → List Tree → Type 0
+IsFitFor task.merge aside trees = Unit {0}
+IsFitFor task.compile aside trees = IsCompiled aside trees
+IsFitFor (task.explain ident) aside trees = HoldsAsked ident aside trees
 
 -- The words have a job of no more files than a chain may have; each file is held, within its limits, and spells a tree; the chain
 -- has no offence; and it is what the command asks for.
 pub record IsSound (words : List (List ℕ)) (files : FileMap) : Type 0 where
-  pub asked : Command
+  pub asked : Task
   pub aside : Bool
   pub chain : List (List ℕ)
   pub asks : Asks words asked aside chain
@@ -121,20 +126,21 @@ pub record AcceptsAdmitted (library : Library) (text : List ℕ) : Type 0 where
   pub denotes : DenotesOnly text grammar
   pub accepts : (t : Tree) → Accepts grammar t ↔ Admits library library.start t
 
--- What a command writes of a library does what it is for: a merged ODD stands for its files, and a schema accepts what it admits.
-abbrev pub Serves : Command → Library → List ℕ → Type 0
-Serves command.Merge library text = SpellsBase library text
-Serves command.Compile library text = AcceptsAdmitted library text
+-- What a command writes of a library does what it is for: a merged ODD stands for its files, a schema accepts what it admits, and an account tells of an element.
+abbrev pub Serves : Task → Library → List ℕ → Type 0
+Serves task.merge library text = SpellsBase library text
+Serves task.compile library text = AcceptsAdmitted library text
+Serves (task.explain ident) library text = IsAccount library ident text
 
 -- the same of the library after the trees of a chain
-pub record ServesTrees (asked : Command) (aside : Bool) (trees : List Tree) (text : List ℕ) : Type 0 where
+pub record ServesTrees (asked : Task) (aside : Bool) (trees : List Tree) (text : List ℕ) : Type 0 where
   pub library : Library
   pub gives : Gives aside trees library
   pub serves : Serves asked library text
 
 -- and of the chain that the words name
 pub record ServesWords (words : List (List ℕ)) (files : FileMap) (text : List ℕ) : Type 0 where
-  pub asked : Command
+  pub asked : Task
   pub aside : Bool
   pub chain : List (List ℕ)
   pub asks : Asks words asked aside chain
@@ -150,13 +156,14 @@ pub record AcceptsOfTrees (aside : Bool) (trees : List Tree) (text : List ℕ) :
   pub right : AcceptsAdmitted library text
 
 -- so does what a command writes, where that is a schema
-abbrev pub AcceptsIfSchema : Command → Bool → List Tree → List ℕ → Type 0
-AcceptsIfSchema command.Merge aside trees text = Unit {0}
-AcceptsIfSchema command.Compile aside trees text = AcceptsOfTrees aside trees text
+abbrev pub AcceptsIfSchema : Task → Bool → List Tree → List ℕ → Type 0
+AcceptsIfSchema task.merge aside trees text = Unit {0}
+AcceptsIfSchema task.compile aside trees text = AcceptsOfTrees aside trees text
+AcceptsIfSchema (task.explain ident) aside trees text = Unit {0}
 
 -- and of the chain that the words name
 pub record AcceptsOfWords (words : List (List ℕ)) (files : FileMap) (text : List ℕ) : Type 0 where
-  pub asked : Command
+  pub asked : Task
   pub aside : Bool
   pub chain : List (List ℕ)
   pub asks : Asks words asked aside chain
@@ -172,7 +179,7 @@ AsidesOfTrees true trees asides = (count : ℕ) × HasAsides true trees count ×
 
 -- the same of the chain that the words name
 pub record AsidesOfWords (words : List (List ℕ)) (files : FileMap) (asides : Option ℕ) : Type 0 where
-  pub asked : Command
+  pub asked : Task
   pub aside : Bool
   pub chain : List (List ℕ)
   pub asks : Asks words asked aside chain

@@ -8,10 +8,10 @@ ghost use Rattle.odd_chain.specs.Files.{AreDeclared};
 ghost use Rattle.odd_chain.specs.Reading.{AreFormedDocs, HasFewDocs, IsChainOf};
 ghost use Rattle.odd_library.specs.declared.odd.OddDoc.{OddDoc as ADoc};
 ghost use Rattle.odd_cli.specs.Note.{note_text};
-ghost use Rattle.odd_cli.specs.declared.words.Command.TheVariants as command;
 ghost use Rattle.odd_cli.specs.Outcome.{answers, gives};
 ghost use Rattle.odd_cli.specs.Base.{IsBase};
-ghost use Rattle.odd_cli.specs.Words.{Asks, WordsMean, files_named};
+ghost use Rattle.odd_cli.specs.Words as task_is;
+ghost use Rattle.odd_cli.specs.Words.{Asks, WordsMean, files_named, told};
 ghost use Rattle.odd_cli.specs.declared.words.Job.{Job as AJob};
 ghost use Rattle.odd_cli.specs.declared.status.Status.{Status as AStatus};
 ghost use Rattle.odd_cli.specs.Reply.{FileStops, NamesFiles, ReadsChain, Reply, TreesComeTo, chain_files, file_bytes};
@@ -21,7 +21,7 @@ ghost use Rattle.odd_cli.specs.Running.{AcceptsOfWords, AsidesOfTrees, AsidesOfW
 use crate::note::write_note;
 use crate::status::{LimitKind, Status};
 use crate::texts::text_of_chain;
-use crate::words::{Asked, Job, job_asked};
+use crate::words::{Asked, Task, job_asked};
 use odd_base::{Shelf, Sink, SlurpRefusal, slurp, write_whole};
 use odd_chain::Chain;
 use odd_reader::{ReadRefusal, read_tree};
@@ -46,7 +46,7 @@ pub fn run<F: Shelf, W: Sink, N: Sink>(
 ) -> Status
     ensures reply { (files : FileMap) (before : List ℕ) → F.holds shelf.old ≡ Some files → W.written out.old ≡ Some before → IsReplied result → ((text : List ℕ) × (W.written out.new ≡ Some (before ++ text)) × Reply words.now files text result) }
     ensures accepts { (files : FileMap) (before : List ℕ) → F.holds shelf.old ≡ Some files → W.written out.old ≡ Some before → result ≡ Status.Done → ((text : List ℕ) × (W.written out.new ≡ Some (before ++ text)) × AcceptsOfWords words.now files text) }
-    ensures base { (files : FileMap) (before : List ℕ) (aside : Bool) (first : List (List ℕ)) → F.holds shelf.old ≡ Some files → W.written out.old ≡ Some before → result ≡ Status.Done → Asks words.now command.Merge aside first → ((text : List ℕ) × (W.written out.new ≡ Some (before ++ text)) × IsBase files aside first text) }
+    ensures base { (files : FileMap) (before : List ℕ) (aside : Bool) (first : List (List ℕ)) → F.holds shelf.old ≡ Some files → W.written out.old ≡ Some before → result ≡ Status.Done → Asks words.now task_is.merge aside first → ((text : List ℕ) × (W.written out.new ≡ Some (before ++ text)) × IsBase files aside first text) }
     ensures usage { (result ≡ Status.Usage) ↔ ((job : AJob) → WordsMean words.now job → ⊥) }
     ensures files { (result ≡ Status.Limit LimitKind.Files) ↔ NamesFiles words.now (answers (Status.Limit LimitKind.Files)) }
     ensures silent { IsSilent result → W.written out.new ≡ W.written out.old }
@@ -114,29 +114,35 @@ fn reply_text<F: Shelf>(alloc: Global, words: &Words, shelf: &mut F) -> Result<A
     ensures to_the_end { (files : FileMap) → F.holds shelf.old ≡ Some files → OnOk result (AreReadWhole F.begins F.rest (GoesOn F.holds F.steady F.faults F.begins F.reads) (files_named words.now) shelf.old shelf.new × (F.rest shelf.new ≡ Some [])) }
     ensures goes_on { GoesOn F.holds F.steady F.faults F.begins F.reads shelf.old shelf.new }
 {
-    let asked = match chain_asked(words) {
+    let job = match chain_asked(words) {
         Ok(asked) => asked,
         Err(status) => return Err(status),
     };
-    match read_chain(alloc, asked.chain, asked.job.aside, shelf) {
-        Ok(chain) => answer_of(alloc, chain, asked.job, asked.chain.len() as u32),
+    match read_chain(alloc, job.chain, job.aside, shelf) {
+        Ok(chain) => answer_of(alloc, chain, job.task, job.aside, job.chain.len() as u32),
         Err(status) => Err(status),
     }
 }
 
-// What a command writes of the library after the files of a chain, of which there are so many, with the number of constraints
-// that were taken out, or why it writes nothing.
-fn answer_of(alloc: Global, chain: Chain, job: Job, files: u32) -> Result<Answer, Status>
+// What is written of the library after the files of a chain, of which there are so many, with the number of constraints
+// that were taken out, or why nothing is written.
+fn answer_of(
+    alloc: Global,
+    chain: Chain,
+    task: Task<'_>,
+    aside: bool,
+    files: u32,
+) -> Result<Answer, Status>
     requires few { HasFewDocs chain }
     requires formed { AreFormedDocs chain }
-    ensures ok { IfOk result (λ answer. (trees : List ATree) → IsChainOf job.aside chain trees → files ≡ length trees → TreesComeTo job.command job.aside trees (gives answer.text)) }
-    ensures serves { IfOk result (λ answer. (trees : List ATree) → IsChainOf job.aside chain trees → ServesTrees job.command job.aside trees answer.text) }
-    ensures asides { IfOk result (λ answer. (trees : List ATree) → IsChainOf job.aside chain trees → AsidesOfTrees job.aside trees answer.asides) }
-    ensures err { IfErr result (λ status. (trees : List ATree) → IsChainOf job.aside chain trees → files ≡ length trees → IsReplied status → TreesComeTo job.command job.aside trees (answers status)) }
+    ensures ok { IfOk result (λ answer. (trees : List ATree) → IsChainOf aside chain trees → files ≡ length trees → TreesComeTo (told task.entry) aside trees (gives answer.text)) }
+    ensures serves { IfOk result (λ answer. (trees : List ATree) → IsChainOf aside chain trees → ServesTrees (told task.entry) aside trees answer.text) }
+    ensures asides { IfOk result (λ answer. (trees : List ATree) → IsChainOf aside chain trees → AsidesOfTrees aside trees answer.asides) }
+    ensures err { IfErr result (λ status. (trees : List ATree) → IsChainOf aside chain trees → files ≡ length trees → IsReplied status → TreesComeTo (told task.entry) aside trees (answers status)) }
     ensures of_trees { IfErr result IsOfTrees }
 {
-    let asides = asides_of(&chain, job.aside);
-    match text_of_chain(alloc, chain, job.command, files) {
+    let asides = asides_of(&chain, aside);
+    match text_of_chain(alloc, chain, task, files) {
         Ok(text) => Ok(Answer { text, asides }),
         Err(status) => Err(status),
     }
@@ -151,7 +157,7 @@ fn asides_of(chain: &Chain, aside: bool) -> Option<u64>
 
 // The files of the chain that the words name.
 fn chain_asked(words: &Words) -> Result<Asked<'_>, Status>
-    ensures ok { IfOk result (λ asked. NamesFiles words.now (gives (asked.job.command, asked.job.aside, asked.chain.now))) }
+    ensures ok { IfOk result (λ asked. NamesFiles words.now (gives (told asked.task, asked.aside, asked.chain.now))) }
     ensures err { IfErr result (λ status. NamesFiles words.now (answers status)) }
 {
     let Some(asked) = job_asked(words) else {

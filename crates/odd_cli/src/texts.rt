@@ -9,59 +9,62 @@ ghost use Rattle.odd_library.specs.Formed.{IsFormedLibrary};
 ghost use Rattle.odd_library.specs.declared.library.Library.{Library as ALibrary};
 ghost use Rattle.odd_emit.specs.Components.{merged_odd};
 ghost use Rattle.odd_cli.specs.Outcome.{answers, gives};
-ghost use Rattle.odd_cli.specs.Reply.{HasText, TreesComeTo};
+ghost use Rattle.odd_cli.specs.Reply.{HasAccount, HasText, TreesComeTo};
 ghost use Rattle.odd_cli.specs.Reading.{IsOfTrees};
 ghost use Rattle.odd_cli.specs.Running.{AcceptsAdmitted, IsReplied, Serves, ServesTrees};
-ghost use Rattle.odd_cli.specs.declared.words.Command.TheVariants as command;
+ghost use Rattle.odd_cli.specs.Words as task_is;
+ghost use Rattle.odd_cli.specs.Words.{told};
+ghost use Rattle.odd_account.specs.Account.{IsAccount};
 
 use crate::status::{LimitKind, Status};
-use crate::words::Command;
-use compile_core::{CompileRefusal, compile};
+use crate::words::Task;
+use compile_core::{CompileRefusal, compile, explain};
 use odd_chain::{Chain, ChainRefusal, print_odd};
-use odd_library::Library;
+use odd_library::{Library, OddRefusal};
 use odd_text::{NoMemory, Offence, Text};
 use rng_emit::print_rng;
 use std::alloc::Global;
 
-/// What a command writes of the library after the files of a chain, of which there are so many, or why it writes nothing.
+/// What is written of the library after the files of a chain, of which there are so many, or why nothing is written.
 pub fn text_of_chain(
     alloc: Global,
     chain: Chain,
-    command: Command,
+    task: Task<'_>,
     files: u32,
 ) -> Result<Text, Status>
     requires few { HasFewDocs chain }
     requires formed { AreFormedDocs chain }
-    ensures ok { IfOk result (λ text. (aside : Bool) (trees : List ATree) → IsChainOf aside chain trees → files ≡ length trees → TreesComeTo command aside trees (gives text)) }
-    ensures serves { IfOk result (λ text. (aside : Bool) (trees : List ATree) → IsChainOf aside chain trees → ServesTrees command aside trees text) }
+    ensures ok { IfOk result (λ text. (aside : Bool) (trees : List ATree) → IsChainOf aside chain trees → files ≡ length trees → TreesComeTo (told task.entry) aside trees (gives text)) }
+    ensures serves { IfOk result (λ text. (aside : Bool) (trees : List ATree) → IsChainOf aside chain trees → ServesTrees (told task.entry) aside trees text) }
     ensures whole { IfOk result (λ text. (aside : Bool) (trees : List ATree) → IsChainOf aside chain trees → (library : ALibrary) × Gives aside trees library) }
-    ensures err { IfErr result (λ status. (aside : Bool) (trees : List ATree) → IsChainOf aside chain trees → files ≡ length trees → IsReplied status → TreesComeTo command aside trees (answers status)) }
+    ensures err { IfErr result (λ status. (aside : Bool) (trees : List ATree) → IsChainOf aside chain trees → files ≡ length trees → IsReplied status → TreesComeTo (told task.entry) aside trees (answers status)) }
     ensures of_trees { IfErr result IsOfTrees }
 {
     match chain.library(alloc) {
-        Ok(library) => text_of_library(alloc, &library, command, files),
+        Ok(library) => text_of_library(alloc, &library, task, files),
         Err(ChainRefusal::Offence(offence)) => Err(Status::Refused(offence)),
         Err(ChainRefusal::NoMemory) => Err(Status::NoMemory),
     }
 }
 
-// What a command writes of the library after so many files, which breaks no rule.
+// What is written of the library after so many files, which breaks no rule.
 fn text_of_library(
     alloc: Global,
     library: &Library,
-    command: Command,
+    task: Task<'_>,
     files: u32,
 ) -> Result<Text, Status>
     requires unbroken { (key : AKey) (rule : ℕ) → Breaks library.now key rule → ⊥ }
     requires formed { IsFormedLibrary library.now }
-    ensures ok { IfOk result (λ text. HasText command files library.now (gives text)) }
-    ensures serves { IfOk result (Serves command library.now) }
-    ensures err { IfErr result (λ status. IsReplied status → HasText command files library.now (answers status)) }
+    ensures ok { IfOk result (λ text. HasText (told task.entry) files library.now (gives text)) }
+    ensures serves { IfOk result (Serves (told task.entry) library.now) }
+    ensures err { IfErr result (λ status. IsReplied status → HasText (told task.entry) files library.now (answers status)) }
     ensures of_trees { IfErr result IsOfTrees }
 {
-    match command {
-        Command::Merge => merged_odd_of(alloc, library),
-        Command::Compile => schema_of(alloc, library, files),
+    match task {
+        Task::Merge => merged_odd_of(alloc, library),
+        Task::Compile => schema_of(alloc, library, files),
+        Task::Explain(ident) => account_of(alloc, library, ident, files),
     }
 }
 
@@ -83,9 +86,9 @@ fn merged_odd_of(alloc: Global, library: &Library) -> Result<Text, Status>
 fn schema_of(alloc: Global, library: &Library, files: u32) -> Result<Text, Status>
     requires unbroken { (key : AKey) (rule : ℕ) → Breaks library.now key rule → ⊥ }
     requires formed { IsFormedLibrary library.now }
-    ensures ok { IfOk result (λ text. HasText command.Compile files library.now (gives text)) }
+    ensures ok { IfOk result (λ text. HasText task_is.compile files library.now (gives text)) }
     ensures accepts { IfOk result (AcceptsAdmitted library.now) }
-    ensures err { IfErr result (λ status. IsReplied status → HasText command.Compile files library.now (answers status)) }
+    ensures err { IfErr result (λ status. IsReplied status → HasText task_is.compile files library.now (answers status)) }
     ensures of_trees { IfErr result IsOfTrees }
 {
     let grammar = match compile(alloc, library, &library.start) {
@@ -99,6 +102,20 @@ fn schema_of(alloc: Global, library: &Library, files: u32) -> Result<Text, Statu
     match print_rng(alloc, &grammar) {
         Ok(text) => Ok(text),
         Err(NoMemory) => Err(Status::NoMemory),
+    }
+}
+
+// The account of the element at an ident, or the offence that none is held there.
+fn account_of(alloc: Global, library: &Library, ident: &Text, files: u32) -> Result<Text, Status>
+    requires unbroken { (key : AKey) (rule : ℕ) → Breaks library.now key rule → ⊥ }
+    ensures ok { IfOk result (IsAccount library.now ident.now) }
+    ensures err { IfErr result (λ status. IsReplied status → HasAccount ident.now files library.now (answers status)) }
+    ensures of_trees { IfErr result IsOfTrees }
+{
+    match explain(alloc, library, ident) {
+        Ok(text) => Ok(text),
+        Err(OddRefusal::Offence(offence)) => Err(Status::Refused(in_file(offence, files))),
+        Err(OddRefusal::NoMemory) => Err(Status::NoMemory),
     }
 }
 
