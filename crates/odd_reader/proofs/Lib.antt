@@ -9,6 +9,7 @@ pub mod PlainText
 pub mod Readings
 pub mod Refusals
 pub mod Refusing
+pub mod SectionProofs
 pub mod Stands
 pub mod StandsContent
 pub mod StandsLevels

@@ -91,9 +91,6 @@ some_name : (name : List ℕ) → IsPlainName name → name ≢ []
 some_name [] n e = let h : false ≡ true = n.named in cc h
 some_name (c ∷ cs) n e = cc e
 
-pub only_local : (text local rest : List ℕ) → IsPlainName local → text ≡ local ++ rest → IsNamed text [] local rest
-only_local text local rest n e = record { named = (refl, n.named); prefix_bytes = refl; local_bytes = n.bytes; parts = e }
-
 with_prefix : (p : List ℕ) (local : List ℕ) → IsPlainName p → IsPlainName local → IsQName (qname p local)
 with_prefix [] local n m = absurd (some_name [] n refl)
 with_prefix (c ∷ cs) local n m = (n.named, m.named)
@@ -228,9 +225,6 @@ module _ (text begun named equals valued value rest : List ℕ) (prefix local : 
   }
 
 -- attributes
-
-pub no_attributes : (text : List ℕ) → AreAttributesFirst text [] text
-no_attributes text = record { attributes = []; are_attributes = All-nil IsAttribute; are_made = refl; parts = refl }
 
 attributes_more : (xs : List Attribute) (a : Attribute) → attributes_written (xs ++ a ∷ []) ≡ attributes_written xs ++ attribute_written a
 attributes_more [] a = append-nil (attribute_written a)

@@ -36,6 +36,9 @@ abbrev pub prefix_declared : WrittenName → Option (List ℕ)
 prefix_declared n = if is_same n.prefix (codes "xmlns") then Some n.local
     else (if is_same n.prefix [] && is_same n.local (codes "xmlns") then Some [] else None)
 
+abbrev pub is_declared : WrittenAttr → Bool
+is_declared a = is_same a.name.prefix (codes "xmlns") || (is_same a.name.prefix [] && is_same a.name.local (codes "xmlns"))
+
 abbrev pub bind_made : List ℕ → Option (List ℕ) → List Bind
 bind_made value None = []
 bind_made value (Some prefix) = record { prefix = prefix; ns = value } ∷ []

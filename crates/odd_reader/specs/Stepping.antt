@@ -6,7 +6,7 @@ use Rattle.odd_tokens.specs.Characters.{is_char}
 use Rattle.odd_tokens.specs.Tokens.{size_of}
 use Rattle.odd_tokens.specs.Unfinished.{Reads}
 use Rattle.odd_tokens.specs.declared.token.WrittenName.{WrittenName}
-use Rattle.odd_reader.specs.Building.{Kept, kept_of, element_closed}
+use Rattle.odd_reader.specs.Building.{Kept, kept_of, element_closed, with_text}
 use Rattle.odd_reader.specs.Reading.{HasRead}
 use Rattle.odd_reader.specs.declared.builder.Last.{Last}
 use Rattle.odd_reader.specs.declared.builder.Last.TheVariants as last
@@ -41,6 +41,10 @@ takes_plain k = some_open k.open_elements && is_other k.last
 
 abbrev pub with_plain : List ℕ → Kept → Kept
 with_plain bytes k = record k { text = k.text ++ bytes }
+
+-- text whose characters are not read by themselves
+abbrev pub with_inside : List ℕ → Kept → Kept
+with_inside bytes k = with_text bytes last.Other k
 
 -- the bytes of a name as it is written
 abbrev pub prefix_bytes : List ℕ → List ℕ

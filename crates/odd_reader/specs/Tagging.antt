@@ -1,10 +1,10 @@
--- Tags that are read at once from the text that is left: names of ASCII, and values without references and line ends.
+-- What is read at once of the text that is left: tags with names of ASCII and values without references and line ends, comments, CDATA sections, references.
 use Rattle.std.specs.Prelude.{◌≡◌, ◌<◌, ℕ, length, Bool, true, ◌&&◌, ◌||◌, ◌==◌, not, List, ◌∷◌, ◌++◌, map, All, IsTrue}
 use Rattle.std.specs.List.{list_all}
 use Rattle.std.specs.Str.{encode_utf8_all}
 use Rattle.odd_tokens.specs.Characters.{is_char, is_ncname, is_white, is_within}
 use Rattle.odd_tokens.specs.Making.{attribute_made, token_made}
-use Rattle.odd_tokens.specs.Tokens.{Attribute, IsAttribute, IsQName, QName, Token, attribute_written, attributes_written, comment, name_written, token_written}
+use Rattle.odd_tokens.specs.Tokens.{Attribute, IsAttribute, IsQName, IsReference, QName, Reference, Token, attribute_written, attributes_written, cdata, character_of, comment, name_written, reference_written, token_written}
 use Rattle.odd_tokens.specs.Whole.{IsLexed}
 use Rattle.odd_tokens.specs.declared.token.Token.{Token as Made}
 use Rattle.odd_tokens.specs.declared.token.WrittenAttr.{WrittenAttr}
@@ -84,6 +84,29 @@ pub record IsCommentFirst (text rest : List ℕ) : Type 0 where
   pub inside : List ℕ
   pub all_plain : list_all is_in_comment inside ≡ true
   pub parts : text ≡ encode_utf8_all (token_written (comment inside)) ++ rest
+  pub shorter : length rest < length text
+
+-- a character of a CDATA section that is read as itself, but for a bracket
+abbrev pub is_in_section : ℕ → Bool
+is_in_section c = is_char c && not (c == 0xD || c == 0x5D)
+
+abbrev pub is_section_byte : ℕ → Bool
+is_section_byte b = is_in_section b && not (b == 0xEF)
+
+-- a CDATA section with these bytes of such characters stands first in the text
+pub record IsSectionFirst (text inside rest : List ℕ) : Type 0 where
+  pub characters : List ℕ
+  pub all_plain : list_all is_in_section characters ≡ true
+  pub written : encode_utf8_all characters ≡ inside
+  pub parts : text ≡ encode_utf8_all (token_written (cdata characters)) ++ rest
+  pub shorter : length rest < length text
+
+-- a reference to the character stands first in the text
+pub record IsReferenceFirst (text : List ℕ) (c : ℕ) (rest : List ℕ) : Type 0 where
+  pub reference : Reference
+  pub is_reference : IsReference reference
+  pub is_made : c ≡ character_of reference
+  pub parts : text ≡ encode_utf8_all (reference_written reference) ++ rest
   pub shorter : length rest < length text
 
 -- a token stands first in the text, which begins at the byte

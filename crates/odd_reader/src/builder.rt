@@ -1,16 +1,17 @@
 ghost use Rattle.std.specs.Prelude.{◌≡◌, ◌++◌, None, Some, Ok, IfOk, IfSome, OnOk, length, nat_le, encode_utf8, string_bytes};
 ghost use Rattle.odd_reader.specs.Building.{Follows, begun, build, character as a_character, character_text as text_of_character, element_closed, element_opened, ends_innermost as ends_the_innermost, inside as an_inside, is_root_closed as has_closed_root, kept_of, last_after as what_is_last_after, text_ended, then_closed, then_other};
-ghost use Rattle.odd_reader.specs.Stepping.{EndsFirst, ended, some_open, takes_plain as can_take_plain, with_plain};
+ghost use Rattle.odd_reader.specs.Stepping.{EndsFirst, ended, some_open, takes_plain as can_take_plain, with_inside, with_plain};
 ghost use Rattle.odd_tree.specs.Spelled.{deepest};
 
 use crate::around::Around;
 use crate::element::{OpenElement, add_child, tree_of};
 use crate::ends::after_end;
 use crate::misfit::Misfit;
+use crate::names::NameTable;
 use crate::twice::is_written_twice;
 use crate::xml::XmlNamespace;
 use odd_text::{NoMemory, Text};
-use odd_tokens::{TextTable, Token, WrittenName, WrittenTag, is_space};
+use odd_tokens::{Token, WrittenName, WrittenTag, is_space};
 use odd_tree::{Node, Tree};
 use std::alloc::{AllocError, Global};
 
@@ -38,8 +39,7 @@ pub struct Builder {
     last: Last,
     xml: XmlNamespace,
     // the texts of white space alone, of which there are many that are alike
-    spaces: TextTable,
-    space: Text,
+    spaces: NameTable,
 }
 
 impl Builder {
@@ -53,8 +53,7 @@ impl Builder {
             text: String::new(alloc),
             last: Last::Other,
             xml: XmlNamespace::new(alloc)?,
-            spaces: TextTable::new(alloc),
-            space: Text::new(alloc),
+            spaces: NameTable::new(alloc),
         })
     }
 
@@ -98,6 +97,24 @@ impl Builder {
         Ok(())
     }
 
+    /// Takes a character that is referred to, inside an element.
+    pub fn take_referred(&mut self, c: char) -> Result<(), NoMemory>
+        ensures { OnOk result (kept_of self.new ≡ with_inside (encode_utf8 c) (kept_of self.old)) }
+    {
+        self.text.push(c)?;
+        self.last = Last::Other;
+        Ok(())
+    }
+
+    /// Takes the text of a CDATA section, inside an element.
+    pub fn take_section(&mut self, text: &str) -> Result<(), NoMemory>
+        ensures { OnOk result (kept_of self.new ≡ with_inside text.now (kept_of self.old)) }
+    {
+        self.text.push_str(text)?;
+        self.last = Last::Other;
+        Ok(())
+    }
+
     /// What follows an end tag of the innermost open element that stands first in a text.
     pub fn after_end<'a>(&self, text: &'a str) -> Option<&'a str>
         ensures { IfSome result (λ rest. EndsFirst (kept_of self.now).open_elements text.now rest.now) }
@@ -136,7 +153,6 @@ impl Builder {
             last: _,
             xml: _,
             spaces: _,
-            space: _,
         } = self;
         root
     }
@@ -240,9 +256,7 @@ impl Builder {
         if !self.text.chars().all(|c| is_space(c)) {
             return Text::from_str(self.alloc, self.text.as_str());
         }
-        self.space.clear();
-        self.space.push_str(self.text.as_str())?;
-        self.spaces.share(&self.space)
+        self.spaces.share(self.text.as_str())
     }
 
     fn open_element(&mut self, tag: WrittenTag) -> Result<(), Misfit>

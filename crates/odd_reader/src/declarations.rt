@@ -1,6 +1,6 @@
 ghost use Rattle.std.specs.Prelude.{◌≡◌, None, Some, IfOk, MatchResult, codes, ◌||◌, not, if◌then◌else◌};
-ghost use Rattle.std.specs.List.{list_all};
-ghost use Rattle.odd_reader.specs.Resolving.{binds_made, is_nothing, may_bind as can_bind, plain_made, prefix_declared};
+ghost use Rattle.std.specs.List.{list_all, list_any};
+ghost use Rattle.odd_reader.specs.Resolving.{binds_made, is_declared, is_nothing, may_bind as can_bind, plain_made, prefix_declared};
 ghost use Rattle.odd_tokens.specs.Same.{is_same};
 ghost use Rattle.odd_tree.specs.Names.{xml_namespace};
 
@@ -33,6 +33,21 @@ fn declaration(attr: WrittenAttr) -> Result<Bind, WrittenAttr>
     })
 }
 
+// Whether an attribute is a declaration.
+fn declares(attr: &WrittenAttr) -> bool
+    ensures { result ≡ is_declared attr.now }
+{
+    let prefix = attr.name.prefix.as_str();
+    prefix == "xmlns" || (prefix.is_empty() && attr.name.local.as_str() == "xmlns")
+}
+
+// Whether one of the attributes is a declaration.
+fn some_declare(attrs: &WrittenAttrs) -> bool
+    ensures { result ≡ list_any is_declared attrs.now }
+{
+    attrs.as_slice().iter().any(declares)
+}
+
 /// Parts the declarations from the other attributes. The only error is NoMemory, for want of memory.
 pub fn declarations(
     alloc: Global,
@@ -41,6 +56,9 @@ pub fn declarations(
     ensures { IfOk result (λ parts. (parts.0 ≡ binds_made attrs) × (parts.1.items ≡ plain_made attrs)) }
 {
     let mut binds = Scope::new(alloc);
+    if !some_declare(&attrs) {
+        return Ok((binds, attrs.into_items()));
+    }
     let mut plain = Vec::new(alloc);
     for attr in attrs.into_items() {
         match declaration(attr) {

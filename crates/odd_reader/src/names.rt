@@ -5,9 +5,9 @@ use odd_tokens::TextTable;
 use std::alloc::Global;
 
 // How many names stand where they are found at once.
-const SLOTS: usize = 256;
+const SLOTS: usize = 512;
 
-/// The names that were met so far, each kept once, and those that were met last where they are found at once.
+/// The names or other short texts that were met so far, each kept once, and those that were met last where they are found at once.
 #[derive(Drop)]
 pub struct NameTable {
     alloc: Global,
@@ -21,7 +21,7 @@ fn slot_of(name: &str) -> usize {
     for b in name.as_bytes() {
         hash = hash.wrapping_mul(31) ^ u32::from(*b);
     }
-    ((hash ^ (hash >> 8)) & 255) as usize
+    ((hash ^ (hash >> 5) ^ (hash >> 13)) & 511) as usize
 }
 
 impl NameTable {

@@ -9,7 +9,9 @@ ghost use Rattle.odd_tree.specs.Spelled.{DepthPlace, GivesTree, IsNotXml};
 use crate::builder::Builder;
 use crate::comments::after_comment;
 use crate::misfit::Misfit;
+use crate::references::after_reference;
 use crate::runs::plain_run;
+use crate::sections::after_section;
 use crate::simple_tags::TagReader;
 use odd_text::NoMemory;
 use odd_tokens::{Fault, Lexer};
@@ -122,12 +124,29 @@ impl Reader {
         ensures too_deep { IfErr result (λ e. (place : ℕ) → e ≡ ReadRefusal.TooDeep place → Refuses DepthPlace self.old at text.now place) }
     {
         if !self.builder.takes_plain() {
-            return self.character(at, text);
+            return self.reference(at, text);
         }
         let Some((front, rest)) = plain_run(text) else {
-            return self.character(at, text);
+            return self.reference(at, text);
         };
         match self.builder.take_plain(front) {
+            Ok(()) => Ok(rest),
+            Err(NoMemory) => Err(ReadRefusal::NoMemory),
+        }
+    }
+
+    // Takes the reference that stands first, inside an element, or a character.
+    fn reference<'a>(&mut self, at: u64, text: &'a str) -> Result<&'a str, ReadRefusal>
+        requires some { 0 < length text.now }
+        requires inside { IsInside self.old }
+        ensures ok { IfOk result (λ rest. Advances self.old self.new at text.now rest.now) }
+        ensures not_xml { IfErr result (λ e. (place : ℕ) → e ≡ ReadRefusal.NotXml place → Refuses IsNotXml self.old at text.now place) }
+        ensures too_deep { IfErr result (λ e. (place : ℕ) → e ≡ ReadRefusal.TooDeep place → Refuses DepthPlace self.old at text.now place) }
+    {
+        let Some((c, rest)) = after_reference(text) else {
+            return self.character(at, text);
+        };
+        match self.builder.take_referred(c) {
             Ok(()) => Ok(rest),
             Err(NoMemory) => Err(ReadRefusal::NoMemory),
         }
@@ -178,7 +197,7 @@ impl Reader {
         }
     }
 
-    // Takes the comment that stands first, inside an element, or a character.
+    // Takes the comment that stands first, inside an element, or other markup.
     fn comment<'a>(&mut self, at: u64, text: &'a str) -> Result<&'a str, ReadRefusal>
         requires some { 0 < length text.now }
         requires inside { IsInside self.old }
@@ -187,10 +206,27 @@ impl Reader {
         ensures too_deep { IfErr result (λ e. (place : ℕ) → e ≡ ReadRefusal.TooDeep place → Refuses DepthPlace self.old at text.now place) }
     {
         let Some(rest) = after_comment(text) else {
-            return self.character(at, text);
+            return self.section(at, text);
         };
         self.builder.pass();
         Ok(rest)
+    }
+
+    // Takes the CDATA section that stands first, inside an element, or a character.
+    fn section<'a>(&mut self, at: u64, text: &'a str) -> Result<&'a str, ReadRefusal>
+        requires some { 0 < length text.now }
+        requires inside { IsInside self.old }
+        ensures ok { IfOk result (λ rest. Advances self.old self.new at text.now rest.now) }
+        ensures not_xml { IfErr result (λ e. (place : ℕ) → e ≡ ReadRefusal.NotXml place → Refuses IsNotXml self.old at text.now place) }
+        ensures too_deep { IfErr result (λ e. (place : ℕ) → e ≡ ReadRefusal.TooDeep place → Refuses DepthPlace self.old at text.now place) }
+    {
+        let Some((inside, rest)) = after_section(text) else {
+            return self.character(at, text);
+        };
+        match self.builder.take_section(inside) {
+            Ok(()) => Ok(rest),
+            Err(NoMemory) => Err(ReadRefusal::NoMemory),
+        }
     }
 
     // Takes what stands first in the text, which begins at a byte, and gives what follows.

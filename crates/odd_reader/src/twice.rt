@@ -10,6 +10,16 @@ use std::alloc::Global;
 pub fn is_written_twice(alloc: Global, attrs: &WrittenAttrs) -> Result<bool, NoMemory>
     ensures { IfOk result (λ twice. twice ≡ some_twice is_written_same (map (λ a. a.name) attrs.now)) }
 {
+    if attrs.len() < 2 {
+        return Ok(false);
+    }
+    are_written_twice(alloc, attrs)
+}
+
+// The same, by all names in order.
+fn are_written_twice(alloc: Global, attrs: &WrittenAttrs) -> Result<bool, NoMemory>
+    ensures { IfOk result (λ twice. twice ≡ some_twice is_written_same (map (λ a. a.name) attrs.now)) }
+{
     let mut names = Vec::new(alloc);
     for attr in attrs.as_slice() {
         names.push((&attr.name.prefix, &attr.name.local))?;
@@ -19,6 +29,16 @@ pub fn is_written_twice(alloc: Global, attrs: &WrittenAttrs) -> Result<bool, NoM
 
 /// Whether two attributes have one expanded name. The only error is NoMemory, for want of memory.
 pub fn is_named_twice(alloc: Global, attrs: &Attrs) -> Result<bool, NoMemory>
+    ensures { IfOk result (λ twice. twice ≡ some_twice is_same_name (map (λ a. a.name) attrs.now)) }
+{
+    if attrs.len() < 2 {
+        return Ok(false);
+    }
+    are_named_twice(alloc, attrs)
+}
+
+// The same, by all names in order.
+fn are_named_twice(alloc: Global, attrs: &Attrs) -> Result<bool, NoMemory>
     ensures { IfOk result (λ twice. twice ≡ some_twice is_same_name (map (λ a. a.name) attrs.now)) }
 {
     let mut names = Vec::new(alloc);

@@ -1,5 +1,5 @@
 use Rattle.std.proofs.Common.{◌≡◌, ℕ, List, map, take}
-use Rattle.odd_reader.proofs.twice.is_written_twice.Given as goal
+use Rattle.odd_reader.proofs.twice.are_written_twice.Given as goal
 
 abbrev pub invariant-loop-attr : goal.invariant-loop-attr
 invariant-loop-attr l =
