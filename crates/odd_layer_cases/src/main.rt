@@ -12,6 +12,7 @@ mod edits;
 mod letters;
 mod offers;
 mod patterns;
+mod pooled;
 mod postfix;
 mod question;
 mod regexes;

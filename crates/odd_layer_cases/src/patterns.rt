@@ -1,3 +1,4 @@
+use crate::pooled::matches_pooled;
 use crate::postfix::{Making, add_pattern, read_pattern};
 use crate::spelled::Spelled;
 use odd_case_files::CaseFault;
@@ -74,7 +75,7 @@ fn add_all_matched<A: Spelled>(
     Ok(())
 }
 
-// Puts a word where the pattern matches it in each form, and with a '?' where in some.
+// Puts a word where the pattern matches it in each form, by itself and in a pool, and with a '?' where in some.
 fn add_matched<A: Spelled>(
     alloc: Global,
     alphabet: &A,
@@ -88,11 +89,15 @@ fn add_matched<A: Spelled>(
         if matches(alloc, alphabet, pat, word.as_slice())? {
             count = count.saturating_add(1);
         }
+        if matches_pooled(alloc, alphabet, pat, word.as_slice())? {
+            count = count.saturating_add(1);
+        }
     }
     if count == 0 {
         return Ok(());
     }
-    out.push_str(if count == forms.len() { " " } else { " ?" })?;
+    let all = forms.len().saturating_mul(2);
+    out.push_str(if count == all { " " } else { " ?" })?;
     out.push_str(text)?;
     Ok(())
 }

@@ -1,9 +1,11 @@
 ghost use Rattle.std.specs.Prelude.{◌≡◌, Bool, true};
 
+use std::hash::Hash;
+
 /// Which leaves take which symbols.
 pub trait Alphabet: Drop {
     /// What a pattern asks of one symbol.
-    type Leaf: Copy + Eq;
+    type Leaf: Copy + Eq + Hash;
 
     /// What a word is made of.
     type Symbol;

@@ -8,7 +8,7 @@ use odd_text::Seq;
 pub type Marks = Seq<bool>;
 
 /// What a pattern asks of one child.
-#[derive(Clone, Copy, Debug, PartialEq, Eq)]
+#[derive(Clone, Copy, Debug, PartialEq, Eq, Hash)]
 pub enum ChildLeaf {
     /// The child is text.
     Text,

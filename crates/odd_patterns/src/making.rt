@@ -10,7 +10,8 @@ use std::alloc::Global;
 /// Either of two patterns. A side that is Never is dropped, and one of two equal sides. The only error is NoMemory, for
 /// want of memory. It takes stack for the depth of the patterns.
 pub fn choice<A: Alphabet>(alloc: Global, left: Pat<A>, right: Pat<A>) -> Result<Pat<A>, NoMemory>
-    ensures { IfOk result (λ made. SameWords made (Pat.Choice left right)) }
+    ensures words { IfOk result (λ made. SameWords made (Pat.Choice left right)) }
+    ensures equal { left ≡ right → IfOk result (λ made. made ≡ left) }
 {
     match left {
         Pat::Never => Ok(right),

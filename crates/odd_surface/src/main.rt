@@ -15,6 +15,7 @@ mod fault;
 mod making;
 mod modes;
 mod patterns;
+mod pool;
 mod reader;
 mod values;
 
@@ -26,6 +27,7 @@ fn main(rt: HostRuntime) -> Result<()> {
     println!(rt; "{}", reader::names(alloc)?)?;
     println!(rt; "{}", values::names(alloc)?)?;
     println!(rt; "{}", patterns::names(alloc)?)?;
+    println!(rt; "{}", pool::names(alloc)?)?;
     println!(rt; "{}", content::names(alloc)?)?;
     println!(rt; "{}", attributes::names(alloc)?)?;
     println!(rt; "{}", decls::names(alloc)?)?;

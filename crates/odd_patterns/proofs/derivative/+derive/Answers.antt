@@ -15,7 +15,7 @@ returns-in_ok-right-in-Choice g t c =
     let last = subst (λ y. IsLeft takes y s e) c.get-in-Choice.ensures c.in_ok-right-in-Choice.ensures in
     IfOk-weaker c.choice.result (λ made. SameWords made (Choice d e)) (λ made. IsLeft takes c.args.pat.now s made)
     (λ made one. choice_left takes s c.args.pat.now c.in-Choice.left c.in-Choice.right d e made c.in-Choice.is first last one)
-    c.choice.ensures
+    c.choice.ensures.words
 
 pub returns-in_ok-passed-in-Group : goal.returns-in_ok-passed-in-Group
 returns-in_ok-passed-in-Group g t c =
@@ -31,7 +31,7 @@ returns-in_ok-passed-in-Group g t c =
     IfOk-weaker c.choice-then-nullable.result (λ made. SameWords made (Choice b e)) (λ made. IsLeft takes c.args.pat.now s made)
     (λ made two. group_left_by_both takes s c.args.pat.now c.in-Group.left c.in-Group.right d c.in_ok-rest-in-Group.rest b e made
     c.in-Group.is first rest none c.in_ok-begun-in-Group-2.ensures last two)
-    c.choice-then-nullable.ensures
+    c.choice-then-nullable.ensures.words
 
 pub returns-else-nullable : goal.returns-else-nullable
 returns-else-nullable g t c =
@@ -54,5 +54,5 @@ returns-in_ok-rest-in-More g t c =
     let again = subst (λ y. c.in_ok-again-in-More.again ≡ y) c.get-in-More-2.ensures c.in_ok-again-in-More.ensures in
     IfOk-weaker c.group-in-More.result (λ made. SameWords made (Group d r)) (λ made. IsLeft takes c.args.pat.now s made)
     (λ made three. more_left takes s c.args.pat.now c.in-More.part d c.in_ok-again-in-More.again c.in_ok-again-in-More-2.again r made
-    c.in-More.is first again c.in_ok-again-in-More-2.ensures c.in_ok-rest-in-More.ensures three)
+    c.in-More.is first again c.in_ok-again-in-More-2.ensures c.in_ok-rest-in-More.ensures.words three)
     c.group-in-More.ensures

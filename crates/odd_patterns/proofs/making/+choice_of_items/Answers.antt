@@ -13,4 +13,4 @@ returns g t c =
     let q = c.in_ok-right.right in
     let cut = c.in_ok-rest.ensures in
     IfOk-weaker c.choice.result (λ made. SameWords made (Choice p q)) (λ made. IsChoiceOf c.args.items.items made)
-    (λ made one. choice_halves c.args.items.items _ _ _ p q made cut.items cut.tail c.in_ok-left.ensures c.in_ok-right.ensures one) c.choice.ensures
+    (λ made one. choice_halves c.args.items.items _ _ _ p q made cut.items cut.tail c.in_ok-left.ensures c.in_ok-right.ensures one) c.choice.ensures.words

@@ -1,0 +1,9 @@
+pub mod Kept
+pub mod Once
+pub mod Unique
+pub mod Begin
+pub mod Shapes
+pub mod Stands
+pub mod Members
+pub mod Shape
+pub mod Walks

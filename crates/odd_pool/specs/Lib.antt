@@ -1,0 +1,4 @@
+pub mod Pattern
+pub mod Pool
+pub mod Left
+pub mod Code
