@@ -246,7 +246,7 @@ one_status words files t u s r (done a) (answered b) = let no = words_one files 
 one_status words files t u s r (done a) (done b) = refl
 
 -- where it is done it comes to its text
-done_gives : (words : List (List ℕ)) (files : FileMap) (text : List ℕ) → Reply words files text status.Done → WordsComeTo files words (gives text)
+pub done_gives : (words : List (List ℕ)) (files : FileMap) (text : List ℕ) → Reply words files text status.Done → WordsComeTo files words (gives text)
 done_gives words files text (answered a) = absurd (never_done words files a)
 done_gives words files text (done a) = a
 

@@ -47,7 +47,7 @@ as_many_given files [] trees none = refl
 as_many_given files (name ∷ names) trees (more {trees = ts} g gs) = ap suc (as_many_given files names ts gs)
 
 -- each of them is formed
-each_formed : (files : FileMap) (names : List (List ℕ)) (trees : List Tree) → GiveTrees files names trees → (t : Tree) → StandsIn trees t → (end : ℕ) × IsFormed 0 end t
+pub each_formed : (files : FileMap) (names : List (List ℕ)) (trees : List Tree) → GiveTrees files names trees → (t : Tree) → StandsIn trees t → (end : ℕ) × IsFormed 0 end t
 each_formed files [] trees none t stands = absurd (nothing_stands t stands)
 each_formed files (name ∷ names) trees (more {tree = u} {trees = us} g gs) t stands =
     ⊎_elim (λ e. (length g.bytes, subst (IsFormed 0 (length g.bytes)) (sym e) (spelled_formed g.bytes u g.given.spelled))) (λ later. each_formed files names us gs t later)
@@ -91,7 +91,7 @@ module _ {files others : FileMap} {name text : List ℕ} {later : List (List ℕ
   still_stops by other number s stands (too_deep bytes r d) = too_deep bytes (still_read other bytes stands r) d
 
 -- what is written of a library is the same after fewer files
-text_on : (asked : Task) (files fewer : ℕ) (library : Library) (text : List ℕ) → HasText asked files library (gives text) → HasText asked fewer library (gives text)
+pub text_on : (asked : Task) (files fewer : ℕ) (library : Library) (text : List ℕ) → HasText asked files library (gives text) → HasText asked fewer library (gives text)
 text_on task.merge files fewer library text h = h
 text_on task.compile files fewer library text (same, start_held h, made) = (same, start_held h, made)
 text_on (task.explain ident) files fewer library text (account a) = account a

@@ -1,5 +1,6 @@
 pub mod Base
 pub mod Note
+pub mod Order
 pub mod Outcome
 pub mod Reading
 pub mod Reply

@@ -89,15 +89,16 @@ pub record IsReadPlace (words : List (List ℕ)) (files : FileMap) (number : ℕ
 abbrev pub IsNoted : List ℕ → List ℕ → Option (List ℕ) → ℕ → ℕ → Type 0
 IsNoted before text written old new = (written ≡ Some (before ++ text)) ⊎ (IsFrontWritten before text written × HasRisen old new)
 
--- What a command asks of a chain without an offence: `compile` that each start word is a held element and that the schema passes no limit, `explain` that the element is held, and `merge` nothing.
+-- each start word is a held element, and the schema passes no limit
 pub record IsCompiled (aside : Bool) (trees : List Tree) : Type 0 where
   pub holds_start : (library : Library) → Gives aside trees library → HoldsStart library library.start
   pub within : (library : Library) (g : Grammar) → Gives aside trees library → IsGrammarOf library library.start g → IsTooLarge g → ⊥
 
--- that the element is held that is asked for
+-- the element that is asked for is held
 abbrev pub HoldsAsked : List ℕ → Bool → List Tree → Type 0
 HoldsAsked ident aside trees = (library : Library) → Gives aside trees library → IsHeldElement library ident
 
+-- What a command asks of a chain without an offence: `compile` that it has a schema, `explain` that it holds the element, and `merge` nothing.
 abbrev pub IsFitFor : Task → Bool → List Tree → Type 0
 IsFitFor task.merge aside trees = Unit {0}
 IsFitFor task.compile aside trees = IsCompiled aside trees

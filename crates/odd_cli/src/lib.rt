@@ -4,7 +4,7 @@
 pub mod note;
 pub mod running;
 pub mod status;
-pub mod texts;
+mod texts;
 pub mod words;
 
 pub use note::write_note;

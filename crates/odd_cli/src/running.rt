@@ -10,6 +10,7 @@ ghost use Rattle.odd_library.specs.declared.odd.OddDoc.{OddDoc as ADoc};
 ghost use Rattle.odd_cli.specs.Note.{note_text};
 ghost use Rattle.odd_cli.specs.Outcome.{answers, gives};
 ghost use Rattle.odd_cli.specs.Base.{IsBase};
+ghost use Rattle.odd_cli.specs.Order.{IsInAnyOrder};
 ghost use Rattle.odd_cli.specs.Words as task_is;
 ghost use Rattle.odd_cli.specs.Words.{Asks, WordsMean, files_named, told};
 ghost use Rattle.odd_cli.specs.declared.words.Job.{Job as AJob};
@@ -47,6 +48,7 @@ pub fn run<F: Shelf, W: Sink, N: Sink>(
     ensures reply { (files : FileMap) (before : List ℕ) → F.holds shelf.old ≡ Some files → W.written out.old ≡ Some before → IsReplied result → ((text : List ℕ) × (W.written out.new ≡ Some (before ++ text)) × Reply words.now files text result) }
     ensures accepts { (files : FileMap) (before : List ℕ) → F.holds shelf.old ≡ Some files → W.written out.old ≡ Some before → result ≡ Status.Done → ((text : List ℕ) × (W.written out.new ≡ Some (before ++ text)) × AcceptsOfWords words.now files text) }
     ensures base { (files : FileMap) (before : List ℕ) (aside : Bool) (first : List (List ℕ)) → F.holds shelf.old ≡ Some files → W.written out.old ≡ Some before → result ≡ Status.Done → Asks words.now task_is.merge aside first → ((text : List ℕ) × (W.written out.new ≡ Some (before ++ text)) × IsBase files aside first text) }
+    ensures order { (files : FileMap) (before : List ℕ) → F.holds shelf.old ≡ Some files → W.written out.old ≡ Some before → result ≡ Status.Done → ((text : List ℕ) × (W.written out.new ≡ Some (before ++ text)) × IsInAnyOrder files words.now text) }
     ensures usage { (result ≡ Status.Usage) ↔ ((job : AJob) → WordsMean words.now job → ⊥) }
     ensures files { (result ≡ Status.Limit LimitKind.Files) ↔ NamesFiles words.now (answers (Status.Limit LimitKind.Files)) }
     ensures silent { IsSilent result → W.written out.new ≡ W.written out.old }

@@ -1,6 +1,7 @@
 use Rattle.std.proofs.Common.{◌≡◌, ◌≤◌, ◌+◌, ◌++◌, None, Some, length, false, true, ap, sym, subst, ◌∙◌, Err, []}
 use Rattle.std.proofs.lemmas.List.{append-nil}
 use Rattle.odd_cli.proofs.Answering.{one_text, one_status, silent_complete, silent_text, reads_steady}
+use Rattle.odd_cli.proofs.Reordered.{in_any_order}
 use Rattle.odd_cli.proofs.Serving.{accepts_of, base_of}
 use Rattle.odd_cli.specs.Reply.{Reply}
 use Rattle.odd_cli.specs.declared.status.Status.TheVariants as status
@@ -70,6 +71,11 @@ returns-in-Ok-write_whole-clause-base g c = λ files before aside first h b is a
       c.in-Ok-write_whole.ensures.whole before b ∙ ap (λ t. Some (before ++ t)) same,
       base_of c.args.words.now files aside first c.in-Ok.answer.text asks (c.in-Ok.ensures.serves files h),
     )
+
+pub returns-in-Ok-write_whole-clause-order : goal.returns-in-Ok-write_whole-clause-order
+returns-in-Ok-write_whole-clause-order g c = λ files before h b is.
+    let same : c.as_bytes.result.now ≡ c.in-Ok.answer.text = c.as_bytes.ensures.value ∙ c.as_str.ensures in
+    (c.in-Ok.answer.text, c.in-Ok-write_whole.ensures.whole before b ∙ ap (λ t. Some (before ++ t)) same, in_any_order c.args.words.now files c.in-Ok.answer.text (c.in-Ok.ensures.ok files h))
 
 pub returns-in-Ok-write_whole-clause-note : goal.returns-in-Ok-write_whole-clause-note
 returns-in-Ok-write_whole-clause-note g c = λ before e. (

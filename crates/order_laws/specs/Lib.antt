@@ -1,0 +1,4 @@
+pub mod AlikeDocs
+pub mod Pairs
+pub mod Reordered
+pub mod Reorderings

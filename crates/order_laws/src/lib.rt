@@ -1,0 +1,2 @@
+//! That the order in which an ODD file says things makes no difference, as proofs.
+#![tactic(auto)]
