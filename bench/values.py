@@ -1,17 +1,20 @@
 #!/usr/bin/env python3
-"""How fast patterns of values are read, texts are tested and collapsed, and items are made, at two sizes.
+"""How fast patterns of values are read and matched, texts are tested and collapsed, and items are made, at two sizes.
 
     bench/values.py PROGRAM
 
 PROGRAM is the built program of crates/odd_layer_cases. Each question is given to it as one case, with the answer worked out here; a wrong answer
 ends with 1. The least processor time of three runs in seconds, the greatest memory in MB and how many times those of the smaller size
 that is are printed. Beside them stand the time and memory of `xmllint --noout --relaxng` over a schema with that pattern or type and a small
-document, and of `jing` for the same files; a dash where it refuses them or is not asked, and "longer" where it has not ended after
-20 seconds.
+document, of `jing` for the same files, and of Python's `re` for the match alone; a dash where it refuses them or is not asked, and "longer"
+where it has not ended after 20 seconds.
 
 GNU time (Debian's package `time`) starts each run and tells its memory.
 """
 import pathlib
+import random
+import re
+import string
 import subprocess
 import sys
 import tempfile
@@ -69,6 +72,50 @@ def facets(size):
     return "item\ttoken" + "\tpattern=a" * size + "\trule 4", None, None, None
 
 
+def matched(pattern, texts, told=None):
+    """A question of texts, of which other validators are asked where it is one."""
+    told = told or ["yes" if re.fullmatch(pattern, text) else "no" for text in texts]
+    line = "\t".join(["match", pattern, *texts, " ".join(told)])
+    return (line, "token", pattern, texts[0]) if len(texts) == 1 else (line, None, None, None)
+
+
+def optional_copies(size):
+    """(a?){n}a{n}, and so many letters."""
+    return matched(f"(a?){{{size}}}a{{{size}}}", ["a" * size], ["yes"])
+
+
+def stars(size):
+    """(a*)*b, and so many letters."""
+    return matched("(a*)*b", ["a" * size + "b"], ["yes"])
+
+
+def late(size):
+    """[ab]*a[ab]{14}, and so many letters."""
+    letters = random.Random(size).choices("ab", k=size)
+    letters[-15] = "a"
+    return matched("[ab]*a[ab]{14}", ["".join(letters)])
+
+
+def ranges(size):
+    """A class of 10,000 ranges, and so many characters of them."""
+    low = [chr(0x4E00 + 2 * place) for place in range(10_000)]
+    return matched("[" + "".join(f"{c}-{c}" for c in low) + "]*", ["".join(random.Random(size).choices(low, k=size))])
+
+
+def alternation(size):
+    """So many words of four letters as branches, and each of them."""
+    rng = random.Random(size)
+    words = set()
+    while len(words) < size:
+        words.add("".join(rng.choices(string.ascii_lowercase, k=4)))
+    return matched("|".join(sorted(words)), sorted(words))
+
+
+def others(size):
+    """[^ ]+, and so many letters."""
+    return matched("[^ ]+", ["a" * size])
+
+
 QUESTIONS = [
     (class_of_many, 500_000, 1_000_000),
     (branches, 9_500, 19_000),
@@ -78,7 +125,21 @@ QUESTIONS = [
     (name, 4_000_000, 8_000_000),
     (words, 2_000_000, 4_000_000),
     (facets, 500_000, 1_000_000),
+    (optional_copies, 250, 500),
+    (stars, 50_000, 100_000),
+    (late, 50_000, 100_000),
+    (ranges, 166_666, 333_333),
+    (alternation, 2_450, 4_900),
+    (others, 5_000_000, 10_000_000),
 ]
+MATCHING = """import re, sys, time
+pattern, *texts = open(sys.argv[1], encoding="utf-8").read().split("\\t")
+begun = time.process_time()
+pattern = re.compile(pattern)
+for text in texts:
+    pattern.fullmatch(text)
+print(time.process_time() - begun)
+"""
 
 
 def timed(command, folder, wants):
@@ -101,7 +162,7 @@ def of_program(program, line):
     with tempfile.TemporaryDirectory() as folder:
         for sub in ("cases", "wrong", "malformed"):
             (pathlib.Path(folder) / sub).mkdir()
-        (pathlib.Path(folder) / "cases" / "one").write_text("=== values\n" + line + "\n")
+        (pathlib.Path(folder) / "cases" / "one").write_text("=== values\n" + line + "\n", encoding="utf-8")
         return timed([program], folder, lambda run: run.stdout == "1 cases, 0 differ\n") or sys.exit(f"another answer: {line[:60]}")
 
 
@@ -116,6 +177,21 @@ def of_other(command, kind, pattern, text):
         return timed([*command, "s.rng", "d.xml"], folder, lambda run: run.returncode == 0)
 
 
+def of_python(line):
+    """The processor time in seconds that Python's `re` takes for the patterns and texts of a question, or None where it is another."""
+    call, *fields = line.split("\t")
+    if call != "match":
+        return None
+    with tempfile.NamedTemporaryFile("w", encoding="utf-8", newline="") as file:
+        file.write("\t".join(fields[:-1]))
+        file.flush()
+        try:
+            run = subprocess.run([sys.executable, "-c", MATCHING, file.name], capture_output=True, text=True, timeout=LIMIT)
+        except subprocess.TimeoutExpired:
+            return LONGER
+        return f"{float(run.stdout):.3f} s"
+
+
 def shown(figures):
     if figures == LONGER:
         return LONGER
@@ -124,15 +200,15 @@ def shown(figures):
 
 def main(program):
     program = str(pathlib.Path(program).resolve())
-    print("question | size | odd | times the smaller: time, memory | xmllint | jing")
+    print("question | size | odd | times the smaller: time, memory | xmllint | jing | Python's re")
     for question, *sizes in QUESTIONS:
         before = None
         for size in sizes:
             line, kind, pattern, text = question(size)
             own = of_program(program, line)
             growth = "" if before is None else f"{own[0] / max(before[0], 0.01):.1f}, {own[1] / before[1]:.1f}"
-            others = [of_other(command, kind, pattern, text) for command in (["xmllint", "--huge", "--noout", "--relaxng"], ["jing"])]
-            print(f"{question.__doc__} | {size:,} | {shown(own)} | {growth} | {shown(others[0])} | {shown(others[1])}", flush=True)
+            validators = [of_other(command, kind, pattern, text) for command in (["xmllint", "--huge", "--noout", "--relaxng"], ["jing"])]
+            print(f"{question.__doc__} | {size:,} | {shown(own)} | {growth} | {shown(validators[0])} | {shown(validators[1])} | {of_python(line) or '-'}", flush=True)
             before = own
 
 

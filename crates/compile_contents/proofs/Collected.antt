@@ -34,7 +34,7 @@ use Rattle.odd_text.specs.declared.key.Key.{Key}
 use Rattle.odd_tokens.specs.Same.{is_same}
 use Rattle.odd_tree.proofs.InList.{first_or_later, nothing_stands, stands_first, stands_later}
 use Rattle.odd_tree.specs.Elements.{StandsIn}
-use Rattle.rng_patterns.specs.declared.grammar.Expr.{Expr}
+use Rattle.rng_grammar.specs.declared.grammar.Expr.{Expr}
 use Rattle.rng_types.specs.declared.bounds.Bounds.{Bounds}
 use Rattle.compile_contents.proofs.Elements.{part_within}
 use Rattle.compile_contents.proofs.Standing.{stands_either, stands_left, stands_right, is_less}

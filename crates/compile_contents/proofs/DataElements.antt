@@ -7,8 +7,8 @@ use Rattle.odd_meaning.specs.Values.{bounds_of}
 use Rattle.rng_emit.proofs.Shapes.{list_is, same_is, typed_is}
 use Rattle.rng_emit.specs.Grammar.{all_of, param_markup}
 use Rattle.rng_emit.specs.Nodes.{elements_among, elements_in}
-use Rattle.rng_patterns.specs.declared.grammar.Expr.{Expr}
-use Rattle.rng_patterns.specs.declared.grammar.Expr.TheVariants as expr
+use Rattle.rng_grammar.specs.declared.grammar.Expr.{Expr}
+use Rattle.rng_grammar.specs.declared.grammar.Expr.TheVariants as expr
 use Rattle.rng_types.specs.declared.bounds.Bounds.{Bounds}
 use Rattle.rng_types.specs.declared.data_type.DataType.{DataType}
 use Rattle.rng_types.specs.declared.facet.Facet.{Facet}

@@ -9,8 +9,8 @@ use Rattle.odd_tree.specs.Markup.{Markup, declaring, element, line}
 use Rattle.rng_emit.proofs.Shapes.{choice_is, empty_is, group_is, not_allowed_is, one_or_more_is, optional_is, ref_is, text_is, zero_or_more_is}
 use Rattle.rng_emit.specs.Grammar.{all_of, pattern_markup}
 use Rattle.rng_emit.specs.Nodes.{elements_among, elements_in}
-use Rattle.rng_patterns.specs.declared.grammar.Expr.{Expr}
-use Rattle.rng_patterns.specs.declared.grammar.Expr.TheVariants as expr
+use Rattle.rng_grammar.specs.declared.grammar.Expr.{Expr}
+use Rattle.rng_grammar.specs.declared.grammar.Expr.TheVariants as expr
 use Rattle.rng_types.specs.declared.bounds.Bounds.{Bounds}
 use Rattle.compile_contents.specs.Budget.{joined_elements, joint_elements, pattern_elements}
 use Rattle.compile_contents.specs.Contents.{define_name, reference, references_pattern}

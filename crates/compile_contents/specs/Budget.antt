@@ -2,7 +2,7 @@
 use Rattle.std.specs.Prelude.{◌≡◌, ℕ, zero, suc, ◌+◌, ◌<◌, List, Result, Ok, Err, length, sum_by}
 use Rattle.rng_emit.specs.Grammar.{pattern_markup}
 use Rattle.rng_emit.specs.Nodes.{elements_in}
-use Rattle.rng_patterns.specs.declared.grammar.Expr.{Expr}
+use Rattle.rng_grammar.specs.declared.grammar.Expr.{Expr}
 use Rattle.compile_contents.specs.declared.budget.Budget.{Budget}
 use Rattle.compile_contents.specs.declared.budget.MakeRefusal.{MakeRefusal}
 use Rattle.compile_contents.specs.declared.budget.MakeRefusal.TheVariants as refusal

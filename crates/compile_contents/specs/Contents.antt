@@ -16,8 +16,8 @@ use Rattle.odd_library.specs.declared.library.Component.TheVariants as component
 use Rattle.odd_library.specs.declared.library.Library.{Library}
 use Rattle.odd_meaning.specs.Classes.{Members}
 use Rattle.odd_meaning.specs.Links.{macro_key}
-use Rattle.rng_patterns.specs.declared.grammar.Expr.{Expr}
-use Rattle.rng_patterns.specs.declared.grammar.Expr.TheVariants as expr
+use Rattle.rng_grammar.specs.declared.grammar.Expr.{Expr}
+use Rattle.rng_grammar.specs.declared.grammar.Expr.TheVariants as expr
 use Rattle.odd_content.specs.ConditionOrder.{condition_cmp}
 use Rattle.compile_contents.specs.Data.{item_pattern, list_pattern}
 use Rattle.compile_contents.specs.Repeating.{choice_pattern, group_pattern, repeated}

@@ -11,9 +11,9 @@ use Rattle.odd_content.specs.declared.content.Content.{Content, Empty, Text, Val
 use Rattle.odd_attributes.specs.declared.att_def.AttDef.{AttDef}
 use Rattle.odd_attributes.specs.declared.att_def.Datatype.{Datatype}
 use Rattle.odd_meaning.specs.Values.{bounds_of}
-use Rattle.rng_patterns.specs.Denoting.{read_as}
-use Rattle.rng_patterns.specs.declared.grammar.Expr.{Expr}
-use Rattle.rng_patterns.specs.declared.grammar.Expr.TheVariants as expr
+use Rattle.rng_grammar.specs.Denoting.{read_as}
+use Rattle.rng_grammar.specs.declared.grammar.Expr.{Expr}
+use Rattle.rng_grammar.specs.declared.grammar.Expr.TheVariants as expr
 use Rattle.compile_contents.specs.Repeating.{choice_pattern, repeated_within}
 
 -- the name of the define of a datatype

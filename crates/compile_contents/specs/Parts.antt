@@ -4,8 +4,8 @@ use Rattle.odd_content.specs.declared.content.Condition.{Condition}
 use Rattle.odd_content.specs.declared.content.Content.{Content, Empty, Text, Value, Vals, Element, Class, Macro, Any, Sequence', Alternate'}
 use Rattle.odd_library.specs.declared.library.Library.{Library}
 use Rattle.odd_meaning.specs.Classes.{Members}
-use Rattle.rng_patterns.specs.declared.grammar.Expr.{Expr}
-use Rattle.rng_patterns.specs.declared.grammar.Expr.TheVariants as expr
+use Rattle.rng_grammar.specs.declared.grammar.Expr.{Expr}
+use Rattle.rng_grammar.specs.declared.grammar.Expr.TheVariants as expr
 use Rattle.rng_types.specs.declared.bounds.Bounds.{Bounds}
 use Rattle.compile_contents.specs.Contents.{condition_pattern, element_pattern, macro_pattern, members_pattern, part_patterns}
 use Rattle.compile_contents.specs.Data.{item_pattern, list_pattern}

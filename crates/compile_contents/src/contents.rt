@@ -16,7 +16,7 @@ use odd_classes::MemberTable;
 use odd_content::{Condition, Content, Contents, Pick};
 use odd_library::{Component, Library};
 use odd_text::{Kind, NoMemory, Text, Words};
-use rng_patterns::{Expr, Exprs};
+use rng_grammar::{Expr, Exprs};
 use rng_types::Bounds;
 use std::alloc::Global;
 

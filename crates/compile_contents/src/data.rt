@@ -1,6 +1,6 @@
 ghost use Rattle.std.specs.Prelude.{◌≡◌, IfOk, map};
-ghost use Rattle.rng_patterns.specs.Denoting.{read_as};
-ghost use Rattle.rng_patterns.specs.declared.grammar.Expr.TheVariants as expr;
+ghost use Rattle.rng_grammar.specs.Denoting.{read_as};
+ghost use Rattle.rng_grammar.specs.declared.grammar.Expr.TheVariants as expr;
 ghost use Rattle.compile_contents.specs.Budget.{IsMadeWithin, joined_elements, pattern_elements};
 ghost use Rattle.compile_contents.specs.Data.{data_pattern as the_data_pattern, item_pattern as the_item_pattern, list_pattern as the_list_pattern, piece_pattern as the_piece_pattern, value_pattern as the_value_pattern, values_pattern as the_values_pattern};
 
@@ -10,7 +10,7 @@ use crate::repeating::{choice_pattern, repeated};
 use odd_attributes::AttDef;
 use odd_content::{Content, Contents};
 use odd_text::{NoMemory, TryCopy, Words};
-use rng_patterns::{Expr, Exprs};
+use rng_grammar::{Expr, Exprs};
 use rng_types::{Bounds, DataType, Facets, Item, ListKind, ValList};
 use sqlite_items::Boxed;
 use std::alloc::Global;

@@ -4,7 +4,7 @@ ghost use Rattle.compile_contents.specs.Repeating.{choice_pattern as the_choice_
 
 use crate::budget::{Budget, MakeRefusal};
 use odd_text::TryCopy;
-use rng_patterns::{Expr, Exprs};
+use rng_grammar::{Expr, Exprs};
 use rng_types::Bounds;
 use sqlite_items::Boxed;
 use std::alloc::Global;

@@ -31,7 +31,7 @@ use Rattle.odd_text.specs.declared.key.Kind.{Kind}
 use Rattle.odd_text.specs.declared.key.Kind.TheVariants as kind
 use Rattle.odd_tree.proofs.InList.{first_or_later, nothing_stands, stands_first}
 use Rattle.odd_tree.specs.Elements.{StandsIn}
-use Rattle.rng_patterns.specs.declared.grammar.Define.{Define}
+use Rattle.rng_grammar.specs.declared.grammar.Define.{Define}
 
 -- nothing, or one item that is such
 pub data IsAtMostOne {A : Type 0} (Is : A → Type 0) (xs : List A) : Type 0 where

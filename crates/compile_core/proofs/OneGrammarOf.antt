@@ -23,9 +23,9 @@ use Rattle.odd_meaning.specs.Classes.{AreMembers, IsElementOf, IsListed, Members
 use Rattle.odd_text.specs.Lesser.{lesser_of}
 use Rattle.odd_text.specs.Text.{text_cmp}
 use Rattle.odd_tree.proofs.InList.{stands_push}
-use Rattle.rng_patterns.specs.Denoting.{entry_of}
-use Rattle.rng_patterns.specs.declared.grammar.Define.{Define}
-use Rattle.rng_patterns.specs.declared.grammar.Grammar.{Grammar}
+use Rattle.rng_grammar.specs.Denoting.{entry_of}
+use Rattle.rng_grammar.specs.declared.grammar.Define.{Define}
+use Rattle.rng_grammar.specs.declared.grammar.Grammar.{Grammar}
 use Rattle.compile_core.specs.Schema.{IsLeast, IsLeastMissing}
 
 module _ (library : Library) (words : List (List ℕ)) (v : List ℕ) where

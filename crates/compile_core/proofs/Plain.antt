@@ -41,13 +41,13 @@ use Rattle.rng_emit.proofs.Plain.{printable_plain}
 use Rattle.rng_emit.proofs.Printable as plain_form
 use Rattle.rng_emit.proofs.Printable.{IsPlainBody, IsPlainDefine, IsPlainPattern, IsPlainRule}
 use Rattle.rng_emit.specs.Plain.{IsPlain}
-use Rattle.rng_patterns.specs.Linked.{Reaches, at_once, through, names_of, patterns_of}
-use Rattle.rng_patterns.specs.declared.grammar.Body.{Body}
-use Rattle.rng_patterns.specs.declared.grammar.Body.TheVariants as body
-use Rattle.rng_patterns.specs.declared.grammar.Define.{Define}
-use Rattle.rng_patterns.specs.declared.grammar.Expr.{Expr}
-use Rattle.rng_patterns.specs.declared.grammar.Expr.TheVariants as expr
-use Rattle.rng_patterns.specs.declared.grammar.Grammar.{Grammar}
+use Rattle.rng_grammar.specs.Linked.{Reaches, at_once, through, names_of, patterns_of}
+use Rattle.rng_grammar.specs.declared.grammar.Body.{Body}
+use Rattle.rng_grammar.specs.declared.grammar.Body.TheVariants as body
+use Rattle.rng_grammar.specs.declared.grammar.Define.{Define}
+use Rattle.rng_grammar.specs.declared.grammar.Expr.{Expr}
+use Rattle.rng_grammar.specs.declared.grammar.Expr.TheVariants as expr
+use Rattle.rng_grammar.specs.declared.grammar.Grammar.{Grammar}
 use Rattle.compile_core.proofs.OneGrammarOf.{offer_total, rising_sorted}
 use Rattle.compile_laws.proofs.Good.{content_good}
 use Rattle.std.proofs.lemmas.Cmp.{nat_list_cmp_total}
@@ -77,7 +77,7 @@ use Rattle.odd_tokens.specs.Tokens.{NoneTwice}
 use Rattle.odd_tree.specs.Names.{xml_namespace}
 use Rattle.odd_tree.proofs.InList.{stands_first, stands_later, stands_map}
 use Rattle.rng_emit.proofs.Printable.{IsPlainName}
-use Rattle.rng_patterns.specs.declared.grammar.AttrRule.{AttrRule}
+use Rattle.rng_grammar.specs.declared.grammar.AttrRule.{AttrRule}
 use Rattle.rng_types.specs.declared.item.Item.TheVariants as items
 use Rattle.compile_laws.proofs.GoodData.{value_good}
 use Rattle.compile_laws.proofs.GoodDefines.{pattern_good, start_good}

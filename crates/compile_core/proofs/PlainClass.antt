@@ -9,13 +9,13 @@ use Rattle.odd_text.specs.declared.name.Name.{Name}
 use Rattle.odd_tokens.specs.Characters.{IsLegal}
 use Rattle.odd_tokens.specs.Same.{is_same}
 use Rattle.rng_emit.proofs.Printable.{IsPlainClass, IsPlainName, IsPlainPart}
-use Rattle.rng_patterns.specs.declared.grammar.AttrPart.TheVariants as attributes
-use Rattle.rng_patterns.specs.declared.grammar.Body.{Body}
-use Rattle.rng_patterns.specs.declared.grammar.Body.TheVariants as body
-use Rattle.rng_patterns.specs.declared.grammar.Expr.TheVariants as expr
-use Rattle.rng_patterns.specs.declared.grammar.NameClass.{NameClass}
-use Rattle.rng_patterns.specs.declared.grammar.NameClass.TheVariants as class
-use Rattle.rng_patterns.specs.declared.grammar.NsPart.{NsPart}
+use Rattle.rng_grammar.specs.declared.grammar.AttrPart.TheVariants as attributes
+use Rattle.rng_grammar.specs.declared.grammar.Body.{Body}
+use Rattle.rng_grammar.specs.declared.grammar.Body.TheVariants as body
+use Rattle.rng_grammar.specs.declared.grammar.Expr.TheVariants as expr
+use Rattle.rng_grammar.specs.declared.grammar.NameClass.{NameClass}
+use Rattle.rng_grammar.specs.declared.grammar.NameClass.TheVariants as class
+use Rattle.rng_grammar.specs.declared.grammar.NsPart.{NsPart}
 
 -- the names that a condition excepts
 names_plain : (c : Condition) → IsFormedCondition c → All IsPlainName c.names

@@ -28,8 +28,8 @@ use Rattle.rng_types.specs.declared.val_list.ListKind.{ListKind}
 use Rattle.rng_types.specs.declared.val_list.ListKind.TheVariants as listing
 use Rattle.rng_types.specs.declared.val_list.ValList.{ValList}
 use Rattle.compile_contents.proofs.Standing.{each_stands, stands_either, stands_left, stands_right}
-use Rattle.rng_patterns.proofs.Values.{same_shown, typed_shown}
-use Rattle.rng_patterns.specs.Denoting.{read_as}
+use Rattle.rng_grammar.proofs.Values.{same_shown, typed_shown}
+use Rattle.rng_grammar.specs.Denoting.{read_as}
 use Rattle.rng_types.specs.declared.data_type.DataType.{DataType}
 use Rattle.rng_types.specs.declared.data_type.DataType.TheVariants as kind
 use Rattle.rng_types.specs.declared.facet.Facet.{Facet}
@@ -39,12 +39,12 @@ use Rattle.rng_values.specs.Items as fault
 use Rattle.rng_values.specs.Items.{ItemFault}
 use Rattle.rng_emit.proofs.Printable as is
 use Rattle.rng_emit.proofs.Printable.{ArePlainPatterns, IsPlainPattern, IsPlainType}
-use Rattle.rng_patterns.proofs.OnePattern.{choice_shown, empty_shown, group_shown, list_shown, one_or_more_shown, optional_shown, parts_in, ref_shown, refers, text_shown, zero_or_more_shown}
-use Rattle.rng_patterns.specs.Linked.{RefersTo}
-use Rattle.rng_patterns.specs.declared.grammar.Expr.{Expr, Expr-F, out-Expr}
-use Rattle.rng_patterns.specs.declared.grammar.Expr as E
-use Rattle.rng_patterns.specs.declared.grammar.Expr.TheOpen as shape
-use Rattle.rng_patterns.specs.declared.grammar.Expr.TheVariants as expr
+use Rattle.rng_grammar.proofs.OnePattern.{choice_shown, empty_shown, group_shown, list_shown, one_or_more_shown, optional_shown, parts_in, ref_shown, refers, text_shown, zero_or_more_shown}
+use Rattle.rng_grammar.specs.Linked.{RefersTo}
+use Rattle.rng_grammar.specs.declared.grammar.Expr.{Expr, Expr-F, out-Expr}
+use Rattle.rng_grammar.specs.declared.grammar.Expr as E
+use Rattle.rng_grammar.specs.declared.grammar.Expr.TheOpen as shape
+use Rattle.rng_grammar.specs.declared.grammar.Expr.TheVariants as expr
 
 -- an ident after a letter and a point makes a name
 module _ (prefix : List ℕ) (named : is_ascii_name prefix ≡ true) (front : (cs : List ℕ) → list_all is_name_char cs ≡ true → is_ncname (prefix ++ cs) ≡ true) where

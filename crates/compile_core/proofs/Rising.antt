@@ -17,7 +17,7 @@ use Rattle.odd_forms.specs.Sorted.{AreRising}
 use Rattle.odd_text.specs.Text.{text_cmp}
 use Rattle.odd_tree.proofs.InList.{stands_first, stands_later}
 use Rattle.odd_tree.specs.Elements.{StandsIn}
-use Rattle.rng_patterns.specs.declared.grammar.Define.{Define}
+use Rattle.rng_grammar.specs.declared.grammar.Define.{Define}
 
 module _ {A : Type 0} (order : A → A → Ordering) (total : IsTotalOrder order) where
   -- at most one item rises

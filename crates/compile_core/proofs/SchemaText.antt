@@ -29,7 +29,7 @@ use Rattle.odd_library.specs.declared.library.Library.{Library}
 use Rattle.odd_meaning.specs.Naming.{attribute_name, element_name}
 use Rattle.odd_meaning.specs.Values.{bounds_of}
 use Rattle.odd_tokens.specs.Same.{is_same}
-use Rattle.rng_patterns.specs.Denoting.{read_as}
+use Rattle.rng_grammar.specs.Denoting.{read_as}
 use Rattle.rng_types.specs.declared.data_type.DataType.{DataType}
 use Rattle.rng_types.specs.declared.data_type.DataType.TheVariants as datatypes
 use Rattle.rng_types.specs.declared.item.Item.{Item}
@@ -43,11 +43,11 @@ use Rattle.odd_tree.specs.Elements.{StandsIn}
 use Rattle.odd_tree.specs.Markup.{Markup, element, file_printed, line, none}
 use Rattle.rng_emit.proofs.Shapes.{choice_is, empty_is, group_is, list_is, same_is, typed_is, not_allowed_is, one_or_more_is, optional_is, ref_is, text_is, zero_or_more_is}
 use Rattle.rng_emit.specs.Grammar.{all_of, any_attributes, body_markup, param_markup, rule_markup, type_name, grammar_markup, grammar_text, named, part_markup, pattern_markup, plain}
-use Rattle.rng_patterns.specs.declared.grammar.Define.{Define}
-use Rattle.rng_patterns.specs.declared.grammar.Expr.{Expr}
-use Rattle.rng_patterns.specs.declared.grammar.Expr.TheVariants as expr
-use Rattle.rng_patterns.specs.declared.grammar.Grammar.{Grammar}
-use Rattle.rng_patterns.specs.declared.grammar.NsPart.{NsPart}
+use Rattle.rng_grammar.specs.declared.grammar.Define.{Define}
+use Rattle.rng_grammar.specs.declared.grammar.Expr.{Expr}
+use Rattle.rng_grammar.specs.declared.grammar.Expr.TheVariants as expr
+use Rattle.rng_grammar.specs.declared.grammar.Grammar.{Grammar}
+use Rattle.rng_grammar.specs.declared.grammar.NsPart.{NsPart}
 use Rattle.rng_types.specs.declared.bounds.Bounds.{Bounds}
 use Rattle.std.specs.declared.cmp.Ordering.TheVariants.{Less}
 

@@ -29,11 +29,11 @@ use Rattle.odd_text.specs.declared.key.Kind.{Kind}
 use Rattle.odd_text.specs.declared.key.Kind.TheVariants as kind
 use Rattle.rng_emit.specs.Grammar.{define_markup}
 use Rattle.rng_emit.specs.Nodes.{elements_in, text_nodes}
-use Rattle.rng_patterns.specs.Counted.{counted}
-use Rattle.rng_patterns.specs.Nodes.{linked_nodes}
-use Rattle.rng_patterns.specs.declared.grammar.Define.{Define}
-use Rattle.rng_patterns.specs.declared.grammar.Expr.{Expr}
-use Rattle.rng_patterns.specs.declared.grammar.Grammar.{Grammar}
+use Rattle.rng_grammar.specs.Counted.{counted}
+use Rattle.rng_grammar.specs.Nodes.{linked_nodes}
+use Rattle.rng_grammar.specs.declared.grammar.Define.{Define}
+use Rattle.rng_grammar.specs.declared.grammar.Expr.{Expr}
+use Rattle.rng_grammar.specs.declared.grammar.Grammar.{Grammar}
 use Rattle.compile_core.proofs.Blocks.{made}
 use Rattle.compile_core.proofs.MembersExist.{members_exist}
 use Rattle.compile_core.specs.Schema.{HasLargeSchema, IsTooLarge}

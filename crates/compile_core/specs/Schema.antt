@@ -5,8 +5,8 @@ use Rattle.odd_text.specs.declared.offence.Offence.{Offence}
 use Rattle.odd_text.specs.declared.offence.Who.TheVariants as who
 use Rattle.odd_library.specs.declared.library.Library.{Library}
 use Rattle.odd_tree.specs.Elements.{StandsIn}
-use Rattle.rng_patterns.specs.Nodes.{linked_nodes}
-use Rattle.rng_patterns.specs.declared.grammar.Grammar.{Grammar}
+use Rattle.rng_grammar.specs.Nodes.{linked_nodes}
+use Rattle.rng_grammar.specs.declared.grammar.Grammar.{Grammar}
 use Rattle.rng_emit.specs.Nodes.{text_nodes}
 use Rattle.std.specs.declared.cmp.Ordering.TheVariants.{Less}
 use Rattle.compile_defines.specs.Compiled.{HoldsStart, IsGrammarOf, IsMissing}

@@ -27,7 +27,7 @@ use Rattle.odd_meaning.specs.Links.{datatype_key, macro_key}
 use Rattle.odd_meaning.specs.Naming.{attribute_name, element_name}
 use Rattle.odd_meaning.specs.Values.{bounds_of}
 use Rattle.rng_emit.specs.Grammar.{all_of, named, param_markup, plain, type_name}
-use Rattle.rng_patterns.specs.Names.{datatype_library, relax_ng_namespace}
+use Rattle.rng_grammar.specs.Names.{datatype_library, relax_ng_namespace}
 use Rattle.rng_types.specs.declared.bounds.Bounds.{Bounds}
 use Rattle.rng_types.specs.declared.item.Item.{Item}
 use Rattle.rng_types.specs.declared.item.Item.TheVariants as item

@@ -6,7 +6,7 @@ ghost use Rattle.odd_text.specs.declared.offence.Offence.{Offence as AnOffence};
 ghost use Rattle.odd_meaning.specs.Admission.{Admits};
 ghost use Rattle.odd_meaning.specs.Classes.{AreMembers, Members, members_count};
 ghost use Rattle.odd_meaning.specs.Rules.{Breaks};
-ghost use Rattle.rng_patterns.specs.Acceptance.{Accepts};
+ghost use Rattle.rng_grammar.specs.Acceptance.{Accepts};
 ghost use Rattle.rng_emit.specs.Nodes.{text_nodes};
 ghost use Rattle.rng_emit.specs.Plain.{IsPlain};
 ghost use Rattle.compile_contents.specs.Contents.{listed_in};
@@ -20,7 +20,7 @@ use compile_defines::{condition_defines, library_defines};
 use odd_classes::{MemberTable, TableRefusal, member_table, offer_table};
 use odd_library::Library;
 use odd_text::{NoMemory, Offence, Text, TryCopy, Who, Words, lesser};
-use rng_patterns::{Grammar, linked_nodes};
+use rng_grammar::{Grammar, linked_nodes};
 use std::alloc::Global;
 
 /// Why a library has no schema.

@@ -7,12 +7,12 @@ use Rattle.odd_text.specs.declared.name.Name.{Name}
 use Rattle.odd_tree.specs.Markup.{Markup, Pair, element}
 use Rattle.rng_emit.specs.Grammar.{all_of, any_attributes, class_markup, except_markup, name_markup, part_markup, pattern_markup, space_markup}
 use Rattle.rng_emit.specs.Nodes.{elements_in}
-use Rattle.rng_patterns.specs.declared.grammar.AttrPart.TheVariants as attributes
-use Rattle.rng_patterns.specs.declared.grammar.Body.TheVariants as body
-use Rattle.rng_patterns.specs.declared.grammar.Expr.TheVariants as expr
-use Rattle.rng_patterns.specs.declared.grammar.NameClass.{NameClass}
-use Rattle.rng_patterns.specs.declared.grammar.NameClass.TheVariants as class
-use Rattle.rng_patterns.specs.declared.grammar.NsPart.{NsPart}
+use Rattle.rng_grammar.specs.declared.grammar.AttrPart.TheVariants as attributes
+use Rattle.rng_grammar.specs.declared.grammar.Body.TheVariants as body
+use Rattle.rng_grammar.specs.declared.grammar.Expr.TheVariants as expr
+use Rattle.rng_grammar.specs.declared.grammar.NameClass.{NameClass}
+use Rattle.rng_grammar.specs.declared.grammar.NameClass.TheVariants as class
+use Rattle.rng_grammar.specs.declared.grammar.NsPart.{NsPart}
 use Rattle.compile_contents.proofs.Elements.{among_sum, choice_of_all, one_each, ref_elements, some_elements, sum_by-map, text_elements, zero_or_more_elements}
 use Rattle.compile_contents.specs.Budget.{joint_elements, pattern_elements}
 use Rattle.compile_defines.specs.Compiled.{body_requiring, body_within, condition_body, content_throughout, space_part, spaces_left}

@@ -35,7 +35,7 @@ use Rattle.odd_text.specs.KeyOrder.{both_equal, key_total, key_exact}
 use Rattle.odd_text.specs.declared.key.Key.{Key}
 use Rattle.odd_tree.proofs.InList.{contained, first_or_later, map_stands, standing, stands_first, stands_later, stands_map}
 use Rattle.odd_tree.specs.Elements.{StandsIn}
-use Rattle.rng_patterns.specs.declared.grammar.Define.{Define}
+use Rattle.rng_grammar.specs.declared.grammar.Define.{Define}
 use Rattle.compile_defines.specs.Blocks.{IsConditionDefine}
 use Rattle.compile_defines.specs.Compiled.{condition_define, define_cmp}
 

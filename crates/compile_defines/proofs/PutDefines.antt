@@ -14,7 +14,7 @@ use Rattle.compile_contents.specs.declared.budget.Budget.{Budget}
 use Rattle.compile_contents.specs.declared.budget.MakeRefusal.{MakeRefusal}
 use Rattle.compile_contents.specs.declared.budget.MakeRefusal.TheVariants as refusal
 use Rattle.compile_defines.specs.Compiled.{define_cmp}
-use Rattle.rng_patterns.specs.declared.grammar.Define.{Define}
+use Rattle.rng_grammar.specs.declared.grammar.Define.{Define}
 use Rattle.compile_defines.specs.Elements.{HasTakenSet, define_elements}
 
 -- a sum over lists, one after the other

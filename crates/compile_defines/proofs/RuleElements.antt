@@ -6,11 +6,11 @@ use Rattle.odd_offers.specs.declared.given.Given.{Given}
 use Rattle.odd_text.specs.declared.name.Name.{Name}
 use Rattle.rng_emit.specs.Grammar.{pattern_markup, rule_markup}
 use Rattle.rng_emit.specs.Nodes.{elements_in}
-use Rattle.rng_patterns.specs.declared.grammar.AttrPart.TheVariants as attributes
-use Rattle.rng_patterns.specs.declared.grammar.AttrRule.{AttrRule}
-use Rattle.rng_patterns.specs.declared.grammar.Body.TheVariants as body
-use Rattle.rng_patterns.specs.declared.grammar.Expr.{Expr}
-use Rattle.rng_patterns.specs.declared.grammar.NameClass.TheVariants as class
+use Rattle.rng_grammar.specs.declared.grammar.AttrPart.TheVariants as attributes
+use Rattle.rng_grammar.specs.declared.grammar.AttrRule.{AttrRule}
+use Rattle.rng_grammar.specs.declared.grammar.Body.TheVariants as body
+use Rattle.rng_grammar.specs.declared.grammar.Expr.{Expr}
+use Rattle.rng_grammar.specs.declared.grammar.NameClass.TheVariants as class
 use Rattle.compile_contents.proofs.Elements.{among_sum, sum_by-map}
 use Rattle.compile_contents.specs.Budget.{pattern_elements}
 use Rattle.compile_defines.specs.Compiled.{offers_of, rule_of}

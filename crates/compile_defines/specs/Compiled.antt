@@ -19,16 +19,16 @@ use Rattle.odd_offers.specs.declared.given.Given.{Given}
 use Rattle.odd_meaning.specs.Links.{datatype_key, macro_key}
 use Rattle.odd_meaning.specs.Naming.{attribute_name, element_name}
 use Rattle.odd_meaning.specs.Offering.{OffersOne, offer_cmp}
-use Rattle.rng_patterns.specs.declared.grammar.AttrPart.TheVariants as attributes
-use Rattle.rng_patterns.specs.declared.grammar.AttrRule.{AttrRule}
-use Rattle.rng_patterns.specs.declared.grammar.Body.{Body}
-use Rattle.rng_patterns.specs.declared.grammar.Body.TheVariants as body
-use Rattle.rng_patterns.specs.declared.grammar.Define.{Define}
-use Rattle.rng_patterns.specs.declared.grammar.Expr.{Expr}
-use Rattle.rng_patterns.specs.declared.grammar.Expr.TheVariants as expr
-use Rattle.rng_patterns.specs.declared.grammar.Grammar.{Grammar}
-use Rattle.rng_patterns.specs.declared.grammar.NameClass.TheVariants as class
-use Rattle.rng_patterns.specs.declared.grammar.NsPart.{NsPart}
+use Rattle.rng_grammar.specs.declared.grammar.AttrPart.TheVariants as attributes
+use Rattle.rng_grammar.specs.declared.grammar.AttrRule.{AttrRule}
+use Rattle.rng_grammar.specs.declared.grammar.Body.{Body}
+use Rattle.rng_grammar.specs.declared.grammar.Body.TheVariants as body
+use Rattle.rng_grammar.specs.declared.grammar.Define.{Define}
+use Rattle.rng_grammar.specs.declared.grammar.Expr.{Expr}
+use Rattle.rng_grammar.specs.declared.grammar.Expr.TheVariants as expr
+use Rattle.rng_grammar.specs.declared.grammar.Grammar.{Grammar}
+use Rattle.rng_grammar.specs.declared.grammar.NameClass.TheVariants as class
+use Rattle.rng_grammar.specs.declared.grammar.NsPart.{NsPart}
 use Rattle.std.specs.declared.cmp.Ordering.{Ordering}
 use Rattle.odd_content.specs.ConditionOrder.{condition_cmp}
 use Rattle.compile_contents.specs.Conditions.{IsConditionOf}

@@ -3,11 +3,11 @@ use Rattle.std.specs.Prelude.{◌≡◌, ℕ, zero, suc, ◌+◌, ◌<◌, List,
 use Rattle.odd_forms.specs.Sorted.{IsSet}
 use Rattle.rng_emit.specs.Grammar.{body_markup, class_markup, define_markup, part_markup, rule_markup}
 use Rattle.rng_emit.specs.Nodes.{elements_in}
-use Rattle.rng_patterns.specs.declared.grammar.AttrRule.{AttrRule}
-use Rattle.rng_patterns.specs.declared.grammar.Body.{Body}
-use Rattle.rng_patterns.specs.declared.grammar.Define.{Define}
-use Rattle.rng_patterns.specs.declared.grammar.NameClass.{NameClass}
-use Rattle.rng_patterns.specs.declared.grammar.NsPart.{NsPart}
+use Rattle.rng_grammar.specs.declared.grammar.AttrRule.{AttrRule}
+use Rattle.rng_grammar.specs.declared.grammar.Body.{Body}
+use Rattle.rng_grammar.specs.declared.grammar.Define.{Define}
+use Rattle.rng_grammar.specs.declared.grammar.NameClass.{NameClass}
+use Rattle.rng_grammar.specs.declared.grammar.NsPart.{NsPart}
 use Rattle.compile_contents.specs.declared.budget.Budget.{Budget}
 use Rattle.compile_contents.specs.declared.budget.MakeRefusal.{MakeRefusal}
 use Rattle.compile_contents.specs.declared.budget.MakeRefusal.TheVariants as refusal

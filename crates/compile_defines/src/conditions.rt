@@ -8,13 +8,13 @@ ghost use Rattle.compile_contents.specs.Budget.{HasTaken, IsMadeWithin};
 ghost use Rattle.compile_defines.specs.Blocks.{IsConditionDefine};
 ghost use Rattle.compile_defines.specs.Compiled.{condition_body as the_condition_body, condition_define as the_condition_define, content_throughout as the_content_throughout, define_cmp, space_part as the_space_part, spaces_left as the_spaces_left};
 ghost use Rattle.compile_defines.specs.Elements.{HasTakenSet, body_elements, define_elements, excepting_elements, part_elements, throughout_elements};
-ghost use Rattle.rng_patterns.specs.declared.grammar.AttrPart.TheVariants as attributes;
-ghost use Rattle.rng_patterns.specs.declared.grammar.Body.TheVariants as body;
+ghost use Rattle.rng_grammar.specs.declared.grammar.AttrPart.TheVariants as attributes;
+ghost use Rattle.rng_grammar.specs.declared.grammar.Body.TheVariants as body;
 
 use compile_contents::{Budget, Conditions, MakeRefusal, condition_name, those_among};
 use odd_content::Condition;
 use odd_text::{Name, Names, NoMemory, Text, TryCopy, Words};
-use rng_patterns::{AttrPart, Body, Define, Defines, Expr, Exprs, NameClass, NsPart, NsParts};
+use rng_grammar::{AttrPart, Body, Define, Defines, Expr, Exprs, NameClass, NsPart, NsParts};
 use sqlite_items::Boxed;
 use std::alloc::Global;
 

@@ -17,7 +17,7 @@ use odd_classes::{MemberTable, OfferTable};
 use odd_library::{Component, ElementPart, Library, OtherPart};
 use odd_offers::Givens;
 use odd_text::{Key, Kind, Name, Text, TryCopy, Words};
-use rng_patterns::{AttrPart, Body, Define, Defines, NameClass};
+use rng_grammar::{AttrPart, Body, Define, Defines, NameClass};
 use std::alloc::Global;
 
 /// The defines of a library in order of name, after those of its conditions: of its classes of type `model`, whose members

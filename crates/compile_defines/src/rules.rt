@@ -7,7 +7,7 @@ use compile_contents::{Budget, MakeRefusal, value_pattern};
 use odd_attributes::AttDef;
 use odd_offers::{Givens, attribute_name};
 use odd_text::Text;
-use rng_patterns::{AttrRule, Rules};
+use rng_grammar::{AttrRule, Rules};
 use std::alloc::Global;
 
 /// A rule for each attribute that is given, in order of ident. Their elements are taken of the budget: an `attribute`, what its

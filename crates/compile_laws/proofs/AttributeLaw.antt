@@ -14,9 +14,9 @@ use Rattle.odd_meaning.specs.Values.{IsAdmittedValue}
 use Rattle.odd_tree.proofs.InList.{contained, map_stands, stands_map}
 use Rattle.odd_tree.specs.Elements.{StandsIn}
 use Rattle.odd_tree.specs.declared.tree.Attr.{Attr}
-use Rattle.rng_patterns.specs.Acceptance.{AreRuled, HasRule, IsThere, IsValueOf}
-use Rattle.rng_patterns.specs.declared.grammar.AttrRule.{AttrRule}
-use Rattle.rng_patterns.specs.declared.grammar.Grammar.{Grammar}
+use Rattle.rng_grammar.specs.Acceptance.{AreRuled, HasRule, IsThere, IsValueOf}
+use Rattle.rng_grammar.specs.declared.grammar.AttrRule.{AttrRule}
+use Rattle.rng_grammar.specs.declared.grammar.Grammar.{Grammar}
 
 module _ (library : Library) (g : Grammar) (element : List ℕ) (offers : List (List ℕ × AttDef)) (all : IsSet offer_cmp (OffersOne library element) offers)
     (kept : (ident : List ℕ) (def : AttDef) → StandsIn offers (ident, def) → (text : List ℕ) → IsAdmittedValue library def text ↔ IsValueOf g (value_pattern def) text)

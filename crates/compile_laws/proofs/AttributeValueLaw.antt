@@ -16,18 +16,18 @@ use Rattle.odd_meaning.specs.Contents.{IsWithin}
 use Rattle.odd_tree.proofs.InList.{contained, stands_map}
 use Rattle.odd_tree.specs.Elements.{StandsIn}
 use Rattle.odd_tree.specs.Splits.{Counted, Pieces}
-use Rattle.rng_patterns.proofs.OnePattern.{choice_shown, list_shown, ref_shown, text_shown}
-use Rattle.rng_patterns.proofs.SortLaws.{DefinesOnce}
-use Rattle.rng_patterns.proofs.Values.{same_shown, typed_shown}
-use Rattle.rng_patterns.specs.Acceptance.{IsValueOf}
-use Rattle.rng_patterns.specs.Patterns as patterns
-use Rattle.rng_patterns.specs.Patterns.{IsAllowed, IsMatchedBy, TakesWord}
-use Rattle.rng_patterns.specs.Sorts as sorts
-use Rattle.rng_patterns.specs.Sorts.{IsOfValue, IsOfWord, IsOfWords}
-use Rattle.rng_patterns.specs.declared.grammar.Expr.{Expr, Expr-F, out-Expr}
-use Rattle.rng_patterns.specs.declared.grammar.Expr.TheOpen as shape
-use Rattle.rng_patterns.specs.declared.grammar.Expr.TheVariants as expr
-use Rattle.rng_patterns.specs.declared.grammar.Grammar.{Grammar}
+use Rattle.rng_grammar.proofs.OnePattern.{choice_shown, list_shown, ref_shown, text_shown}
+use Rattle.rng_grammar.proofs.SortLaws.{DefinesOnce}
+use Rattle.rng_grammar.proofs.Values.{same_shown, typed_shown}
+use Rattle.rng_grammar.specs.Acceptance.{IsValueOf}
+use Rattle.rng_grammar.specs.Patterns as patterns
+use Rattle.rng_grammar.specs.Patterns.{IsAllowed, IsMatchedBy, TakesWord}
+use Rattle.rng_grammar.specs.Sorts as sorts
+use Rattle.rng_grammar.specs.Sorts.{IsOfValue, IsOfWord, IsOfWords}
+use Rattle.rng_grammar.specs.declared.grammar.Expr.{Expr, Expr-F, out-Expr}
+use Rattle.rng_grammar.specs.declared.grammar.Expr.TheOpen as shape
+use Rattle.rng_grammar.specs.declared.grammar.Expr.TheVariants as expr
+use Rattle.rng_grammar.specs.declared.grammar.Grammar.{Grammar}
 use Rattle.rng_types.specs.Bounds.{IsFormedBounds}
 use Rattle.rng_types.specs.Words.{words_of}
 use Rattle.rng_types.specs.declared.bounds.Bounds.{Bounds}

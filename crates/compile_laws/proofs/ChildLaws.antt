@@ -9,10 +9,10 @@ use Rattle.odd_tree.specs.Significant.{Marking}
 use Rattle.odd_tree.specs.Splits.{Counted}
 use Rattle.odd_tree.specs.declared.tree.Node.{Node}
 use Rattle.compile_laws.proofs.Leaves.{children_leaves}
-use Rattle.rng_patterns.specs.Patterns.{IsMatched, TakesChildren}
-use Rattle.rng_patterns.specs.declared.grammar.Expr.{Expr}
-use Rattle.rng_patterns.specs.declared.grammar.Expr.TheVariants as expr
-use Rattle.rng_patterns.specs.declared.grammar.Grammar.{Grammar}
+use Rattle.rng_grammar.specs.Patterns.{IsMatched, TakesChildren}
+use Rattle.rng_grammar.specs.declared.grammar.Expr.{Expr}
+use Rattle.rng_grammar.specs.declared.grammar.Expr.TheVariants as expr
+use Rattle.rng_grammar.specs.declared.grammar.Grammar.{Grammar}
 use Rattle.rng_types.specs.Bounds.{IsFormedBounds}
 use Rattle.rng_types.specs.declared.bounds.Bounds.{Bounds}
 use Rattle.compile_laws.proofs.MatchLaws as laws

@@ -6,8 +6,8 @@ use Rattle.compile_contents.proofs.Standing.{each_stands}
 use Rattle.compile_contents.specs.Contents.{reference, references_pattern}
 use Rattle.compile_contents.specs.Repeating.{choice_pattern, further, group_pattern, repeated, repeated_within}
 use Rattle.compile_defines.specs.Compiled.{content_throughout}
-use Rattle.rng_patterns.specs.declared.grammar.Expr.{Expr}
-use Rattle.rng_patterns.specs.declared.grammar.Expr.TheVariants as expr
+use Rattle.rng_grammar.specs.declared.grammar.Expr.{Expr}
+use Rattle.rng_grammar.specs.declared.grammar.Expr.TheVariants as expr
 use Rattle.rng_types.specs.declared.bounds.Bounds.{Bounds}
 use Rattle.odd_tree.specs.Elements.{StandsIn}
 

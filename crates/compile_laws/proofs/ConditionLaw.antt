@@ -13,18 +13,18 @@ use Rattle.odd_tree.specs.Elements.{StandsIn, StandsWithin, children_of, inside,
 use Rattle.odd_tree.specs.Significant.{Marking, depth}
 use Rattle.odd_tree.specs.declared.tree.Node.{Node, Element}
 use Rattle.odd_tree.specs.declared.tree.Tree.{Tree, out-Tree}
-use Rattle.rng_patterns.proofs.OnePattern.{choice_shown, ref_shown, text_shown, told, zero_or_more_shown}
-use Rattle.rng_patterns.specs.Acceptance as acceptance
-use Rattle.rng_patterns.specs.Acceptance.{HasContent, IsAcceptedWithin, IsInClass}
-use Rattle.rng_patterns.specs.Patterns as patterns
-use Rattle.rng_patterns.specs.Patterns.{DefinesElement, IsDefined, IsMatched, IsRepeated}
-use Rattle.rng_patterns.specs.declared.grammar.AttrPart.TheVariants as attributes
-use Rattle.rng_patterns.specs.declared.grammar.Body.TheVariants as body
-use Rattle.rng_patterns.specs.declared.grammar.Expr as E
-use Rattle.rng_patterns.specs.declared.grammar.Expr.{Expr}
-use Rattle.rng_patterns.specs.declared.grammar.Expr.TheOpen as shape
-use Rattle.rng_patterns.specs.declared.grammar.Expr.TheVariants as expr
-use Rattle.rng_patterns.specs.declared.grammar.Grammar.{Grammar}
+use Rattle.rng_grammar.proofs.OnePattern.{choice_shown, ref_shown, text_shown, told, zero_or_more_shown}
+use Rattle.rng_grammar.specs.Acceptance as acceptance
+use Rattle.rng_grammar.specs.Acceptance.{HasContent, IsAcceptedWithin, IsInClass}
+use Rattle.rng_grammar.specs.Patterns as patterns
+use Rattle.rng_grammar.specs.Patterns.{DefinesElement, IsDefined, IsMatched, IsRepeated}
+use Rattle.rng_grammar.specs.declared.grammar.AttrPart.TheVariants as attributes
+use Rattle.rng_grammar.specs.declared.grammar.Body.TheVariants as body
+use Rattle.rng_grammar.specs.declared.grammar.Expr as E
+use Rattle.rng_grammar.specs.declared.grammar.Expr.{Expr}
+use Rattle.rng_grammar.specs.declared.grammar.Expr.TheOpen as shape
+use Rattle.rng_grammar.specs.declared.grammar.Expr.TheVariants as expr
+use Rattle.rng_grammar.specs.declared.grammar.Grammar.{Grammar}
 use Rattle.compile_laws.proofs.ConditionClass.{element, kind_of, no_element, stands_element, text, text_is_none, IsElementBody, IsEmptyBody, body_kind, condition_bodied, condition_defined, element_stands, significant, stands_kept}
 use Rattle.compile_laws.proofs.Levels.{child_less, depth_is, kept_stands}
 

@@ -20,17 +20,17 @@ use Rattle.odd_tree.proofs.InList.{stands_first}
 use Rattle.odd_tree.specs.Elements.{StandsIn}
 use Rattle.odd_tree.specs.Significant.{Marking}
 use Rattle.odd_tree.specs.declared.tree.Node.{Node}
-use Rattle.rng_patterns.proofs.OnePattern.{told, text_shown}
-use Rattle.rng_patterns.proofs.SortLaws.{DefinesOnce, no_children}
-use Rattle.rng_patterns.specs.Denoting.{read_as}
-use Rattle.rng_patterns.specs.Patterns as patterns
-use Rattle.rng_patterns.specs.Sorts as sorts
-use Rattle.rng_patterns.specs.Sorts.{IsOfWord}
-use Rattle.rng_patterns.specs.Patterns.{IsMatched}
-use Rattle.rng_patterns.specs.declared.grammar.Expr.{Expr}
-use Rattle.rng_patterns.specs.declared.grammar.Expr.TheOpen as shape
-use Rattle.rng_patterns.specs.declared.grammar.Expr.TheVariants as expr
-use Rattle.rng_patterns.specs.declared.grammar.Grammar.{Grammar}
+use Rattle.rng_grammar.proofs.OnePattern.{told, text_shown}
+use Rattle.rng_grammar.proofs.SortLaws.{DefinesOnce, no_children}
+use Rattle.rng_grammar.specs.Denoting.{read_as}
+use Rattle.rng_grammar.specs.Patterns as patterns
+use Rattle.rng_grammar.specs.Sorts as sorts
+use Rattle.rng_grammar.specs.Sorts.{IsOfWord}
+use Rattle.rng_grammar.specs.Patterns.{IsMatched}
+use Rattle.rng_grammar.specs.declared.grammar.Expr.{Expr}
+use Rattle.rng_grammar.specs.declared.grammar.Expr.TheOpen as shape
+use Rattle.rng_grammar.specs.declared.grammar.Expr.TheVariants as expr
+use Rattle.rng_grammar.specs.declared.grammar.Grammar.{Grammar}
 use Rattle.rng_types.specs.declared.item.Item.TheVariants as items
 use Rattle.compile_laws.proofs.ChildLaws.{InChoice, InGroup, choice_law, group_law, repeated_law}
 use Rattle.compile_laws.proofs.AttributeValueLaw.{list_word}

@@ -6,9 +6,9 @@ use Rattle.odd_tree.specs.declared.tree.Tree.{Tree}
 use Rattle.odd_library.specs.Formed.{IsFormedLibrary}
 use Rattle.odd_library.specs.declared.library.Library.{Library}
 use Rattle.odd_meaning.specs.Admission.{Admits}
-use Rattle.rng_patterns.specs.Acceptance.{Accepts, IsAcceptedWithin}
-use Rattle.rng_patterns.specs.Patterns.{IsMatched}
-use Rattle.rng_patterns.specs.declared.grammar.Grammar.{Grammar}
+use Rattle.rng_grammar.specs.Acceptance.{Accepts, IsAcceptedWithin}
+use Rattle.rng_grammar.specs.Patterns.{IsMatched}
+use Rattle.rng_grammar.specs.declared.grammar.Grammar.{Grammar}
 use Rattle.compile_defines.specs.Compiled.{IsGrammarOf}
 use Rattle.compile_contents.specs.Contents.{define_name}
 use Rattle.compile_laws.proofs.HeldDefines.{hold_elements, start_law}

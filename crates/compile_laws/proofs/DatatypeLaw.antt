@@ -25,17 +25,17 @@ use Rattle.odd_text.specs.declared.key.Kind.{Kind}
 use Rattle.odd_text.specs.declared.key.Kind.TheVariants as kind
 use Rattle.odd_tree.proofs.InList.{first_or_later, nothing_stands, only_item, stands_first}
 use Rattle.odd_tree.specs.Elements.{StandsIn}
-use Rattle.rng_patterns.proofs.OnePattern.{ref_shown}
-use Rattle.rng_patterns.proofs.SortLaws.{DefinesOnce}
-use Rattle.rng_patterns.specs.Patterns as patterns
-use Rattle.rng_patterns.specs.Patterns.{IsAllowed, IsDefined}
-use Rattle.rng_patterns.specs.Sorts as sorts
-use Rattle.rng_patterns.specs.Sorts.{IsOfWord}
-use Rattle.rng_patterns.specs.declared.grammar.Body.TheVariants as body
-use Rattle.rng_patterns.specs.declared.grammar.Expr.{Expr}
-use Rattle.rng_patterns.specs.declared.grammar.Expr.TheOpen as shape
-use Rattle.rng_patterns.specs.declared.grammar.Expr.TheVariants as expr
-use Rattle.rng_patterns.specs.declared.grammar.Grammar.{Grammar}
+use Rattle.rng_grammar.proofs.OnePattern.{ref_shown}
+use Rattle.rng_grammar.proofs.SortLaws.{DefinesOnce}
+use Rattle.rng_grammar.specs.Patterns as patterns
+use Rattle.rng_grammar.specs.Patterns.{IsAllowed, IsDefined}
+use Rattle.rng_grammar.specs.Sorts as sorts
+use Rattle.rng_grammar.specs.Sorts.{IsOfWord}
+use Rattle.rng_grammar.specs.declared.grammar.Body.TheVariants as body
+use Rattle.rng_grammar.specs.declared.grammar.Expr.{Expr}
+use Rattle.rng_grammar.specs.declared.grammar.Expr.TheOpen as shape
+use Rattle.rng_grammar.specs.declared.grammar.Expr.TheVariants as expr
+use Rattle.rng_grammar.specs.declared.grammar.Grammar.{Grammar}
 use Rattle.rng_types.specs.declared.item.Item.{Item}
 use Rattle.rng_types.specs.declared.item.Item.TheVariants as items
 use Rattle.compile_laws.proofs.AttributeValueLaw.{list_word}

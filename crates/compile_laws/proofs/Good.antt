@@ -17,8 +17,8 @@ use Rattle.odd_meaning.specs.Links.{macro_key, named_in, named_in_parts}
 use Rattle.odd_text.specs.declared.key.Key.{Key}
 use Rattle.odd_tree.proofs.InList.{stands_first}
 use Rattle.odd_tree.specs.Elements.{StandsIn}
-use Rattle.rng_patterns.specs.declared.grammar.Expr.{Expr}
-use Rattle.rng_patterns.specs.declared.grammar.Expr.TheVariants as expr
+use Rattle.rng_grammar.specs.declared.grammar.Expr.{Expr}
+use Rattle.rng_grammar.specs.declared.grammar.Expr.TheVariants as expr
 use Rattle.compile_laws.proofs.Closed.{IsClosed, choice_good, group_good, references_good, repeated_good}
 
 abbrev mutual

@@ -5,8 +5,8 @@ use Rattle.odd_content.specs.declared.content.Content.{Content, Empty, Text, Val
 use Rattle.odd_library.specs.declared.library.Library.{Library}
 use Rattle.odd_meaning.specs.Classes.{Members}
 use Rattle.odd_tree.specs.Elements.{StandsIn}
-use Rattle.rng_patterns.specs.declared.grammar.Expr.{Expr}
-use Rattle.rng_patterns.specs.declared.grammar.Expr.TheVariants as expr
+use Rattle.rng_grammar.specs.declared.grammar.Expr.{Expr}
+use Rattle.rng_grammar.specs.declared.grammar.Expr.TheVariants as expr
 use Rattle.compile_laws.proofs.Closed.{IsClosed, choice_good, repeated_good}
 use Rattle.std.specs.Option.{IfSome}
 use Rattle.odd_attributes.specs.Formed.{IsFormedDatatype, IsFormedDef}

@@ -14,9 +14,9 @@ use Rattle.odd_library.specs.declared.library.Component.TheVariants as component
 use Rattle.odd_library.specs.declared.library.Library.{Library}
 use Rattle.odd_text.specs.declared.key.Key.{Key}
 use Rattle.odd_tree.specs.Elements.{StandsIn}
-use Rattle.rng_patterns.specs.declared.grammar.Define.{Define}
-use Rattle.rng_patterns.specs.declared.grammar.Expr.{Expr}
-use Rattle.rng_patterns.specs.declared.grammar.Expr.TheVariants as expr
+use Rattle.rng_grammar.specs.declared.grammar.Define.{Define}
+use Rattle.rng_grammar.specs.declared.grammar.Expr.{Expr}
+use Rattle.rng_grammar.specs.declared.grammar.Expr.TheVariants as expr
 use Rattle.compile_laws.proofs.Closed.{IsClosed, references_good, throughout_good}
 use Rattle.compile_laws.proofs.ConditionClass.{IsElementBody, IsEmptyBody, body_kind}
 use Rattle.odd_content.specs.Formed.{IsFormedContent}
@@ -24,10 +24,10 @@ use Rattle.odd_meaning.specs.Links.{IsHeld, datatype_key, macro_key, named_by, n
 use Rattle.odd_tree.proofs.InList.{stands_map}
 use Rattle.compile_contents.proofs.Standing.{each_stands, stands_left, HoldsElementAt, element_found, macro_found}
 use Rattle.std.proofs.lemmas.List.Elements.{All-nil, All-cons, All-map}
-use Rattle.rng_patterns.specs.declared.grammar.AttrPart.TheVariants as attributes
-use Rattle.rng_patterns.specs.declared.grammar.AttrRule.{AttrRule}
-use Rattle.rng_patterns.specs.declared.grammar.Grammar.{Grammar}
-use Rattle.rng_patterns.specs.Linked.{patterns_of, values_of}
+use Rattle.rng_grammar.specs.declared.grammar.AttrPart.TheVariants as attributes
+use Rattle.rng_grammar.specs.declared.grammar.AttrRule.{AttrRule}
+use Rattle.rng_grammar.specs.declared.grammar.Grammar.{Grammar}
+use Rattle.rng_grammar.specs.Linked.{patterns_of, values_of}
 use Rattle.compile_defines.specs.Compiled.{HoldsStart, IsDefineOf, IsGrammarOf, class_define, condition_body, condition_define, content_throughout, element_define, macro_define, rule_of}
 use Rattle.std.specs.FinMap.{find}
 use Rattle.odd_text.specs.Key.{key_cmp}

@@ -22,18 +22,18 @@ use Rattle.odd_tree.specs.Elements.{StandsIn}
 use Rattle.odd_tree.specs.Significant.{Marking, depth, IsSignificant}
 use Rattle.odd_tree.specs.declared.tree.Node.{Node, Element}
 use Rattle.odd_tree.specs.declared.tree.Tree.{Tree, out-Tree}
-use Rattle.rng_patterns.proofs.OnePattern.{ref_shown, told}
-use Rattle.rng_patterns.proofs.SortLaws.{no_value}
-use Rattle.rng_patterns.specs.Acceptance as acceptance
-use Rattle.rng_patterns.specs.Acceptance.{HasContent, IsAcceptedWithin, AreMatched, IsAcceptedBy, IsInClass}
-use Rattle.rng_patterns.specs.Patterns as patterns
-use Rattle.rng_patterns.specs.Patterns.{DefinesElement, IsAllowed, IsMatched}
-use Rattle.rng_patterns.specs.declared.grammar.AttrPart.TheVariants as attributes
-use Rattle.rng_patterns.specs.declared.grammar.Body.TheVariants as body
-use Rattle.rng_patterns.specs.declared.grammar.Expr.TheOpen as shape
-use Rattle.rng_patterns.specs.declared.grammar.Expr.TheVariants as expr
-use Rattle.rng_patterns.specs.declared.grammar.Grammar.{Grammar}
-use Rattle.rng_patterns.specs.declared.grammar.NameClass.TheVariants as class
+use Rattle.rng_grammar.proofs.OnePattern.{ref_shown, told}
+use Rattle.rng_grammar.proofs.SortLaws.{no_value}
+use Rattle.rng_grammar.specs.Acceptance as acceptance
+use Rattle.rng_grammar.specs.Acceptance.{HasContent, IsAcceptedWithin, AreMatched, IsAcceptedBy, IsInClass}
+use Rattle.rng_grammar.specs.Patterns as patterns
+use Rattle.rng_grammar.specs.Patterns.{DefinesElement, IsAllowed, IsMatched}
+use Rattle.rng_grammar.specs.declared.grammar.AttrPart.TheVariants as attributes
+use Rattle.rng_grammar.specs.declared.grammar.Body.TheVariants as body
+use Rattle.rng_grammar.specs.declared.grammar.Expr.TheOpen as shape
+use Rattle.rng_grammar.specs.declared.grammar.Expr.TheVariants as expr
+use Rattle.rng_grammar.specs.declared.grammar.Grammar.{Grammar}
+use Rattle.rng_grammar.specs.declared.grammar.NameClass.TheVariants as class
 use Rattle.compile_laws.proofs.ConditionClass.{one_body}
 use Rattle.compile_laws.proofs.ConditionLaw.{condition_law, condition_part}
 use Rattle.compile_laws.proofs.ContentLaw.{AreLeavesKept, content_law}

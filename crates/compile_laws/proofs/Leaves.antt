@@ -1,13 +1,13 @@
 -- What takes items by itself: no pattern that is made of others.
 use Rattle.std.proofs.Common.{◌≡◌, ℕ, List, ⊎_elim, ap, subst, sym, ◌∙◌}
 use Rattle.odd_tree.specs.Significant.{Marking}
-use Rattle.rng_patterns.proofs.OnePattern.{ToldBy, list_shown, ref_shown, text_shown, told_by}
-use Rattle.rng_patterns.proofs.Values.{same_shown, typed_shown}
-use Rattle.rng_patterns.specs.Patterns as patterns
-use Rattle.rng_patterns.specs.Patterns.{IsMatchedBy, TakesChildren, TakesValue, TakesWord}
-use Rattle.rng_patterns.specs.declared.grammar.Expr.{Expr, Expr-F, out-Expr}
-use Rattle.rng_patterns.specs.declared.grammar.Expr.TheOpen as shape
-use Rattle.rng_patterns.specs.declared.grammar.Grammar.{Grammar}
+use Rattle.rng_grammar.proofs.OnePattern.{ToldBy, list_shown, ref_shown, text_shown, told_by}
+use Rattle.rng_grammar.proofs.Values.{same_shown, typed_shown}
+use Rattle.rng_grammar.specs.Patterns as patterns
+use Rattle.rng_grammar.specs.Patterns.{IsMatchedBy, TakesChildren, TakesValue, TakesWord}
+use Rattle.rng_grammar.specs.declared.grammar.Expr.{Expr, Expr-F, out-Expr}
+use Rattle.rng_grammar.specs.declared.grammar.Expr.TheOpen as shape
+use Rattle.rng_grammar.specs.declared.grammar.Grammar.{Grammar}
 
 abbrev pub IsLeaf : Expr-F Expr → Type 0
 IsLeaf shape.Text = Unit {0}

@@ -13,10 +13,10 @@ use Rattle.odd_meaning.specs.Admission as admission
 use Rattle.odd_meaning.specs.Admission.{AreAdmitted, IsValid, IsValidBy, IsValidWithin, counting}
 use Rattle.odd_meaning.specs.Labels.{Label, condition, element}
 use Rattle.odd_tree.proofs.InList.{first_or_later, map_stands, nothing_stands}
-use Rattle.rng_patterns.specs.Acceptance as acceptance
-use Rattle.rng_patterns.specs.Acceptance.{HasContent, IsAcceptedWithin}
-use Rattle.rng_patterns.specs.declared.grammar.Expr.{Expr}
-use Rattle.rng_patterns.specs.declared.grammar.Grammar.{Grammar}
+use Rattle.rng_grammar.specs.Acceptance as acceptance
+use Rattle.rng_grammar.specs.Acceptance.{HasContent, IsAcceptedWithin}
+use Rattle.rng_grammar.specs.declared.grammar.Expr.{Expr}
+use Rattle.rng_grammar.specs.declared.grammar.Grammar.{Grammar}
 use Rattle.compile_laws.proofs.SameMarkings.{admits_into, matched_on}
 use Rattle.compile_contents.proofs.Standing.{each_stands, filter_stands}
 

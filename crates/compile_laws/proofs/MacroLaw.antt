@@ -23,9 +23,9 @@ use Rattle.odd_text.specs.declared.key.Key.{Key}
 use Rattle.odd_tree.specs.Elements.{StandsIn}
 use Rattle.odd_tree.specs.Significant.{Marking}
 use Rattle.odd_tree.specs.declared.tree.Node.{Node}
-use Rattle.rng_patterns.specs.Patterns.{IsMatched}
-use Rattle.rng_patterns.specs.declared.grammar.Expr.TheVariants as expr
-use Rattle.rng_patterns.specs.declared.grammar.Grammar.{Grammar}
+use Rattle.rng_grammar.specs.Patterns.{IsMatched}
+use Rattle.rng_grammar.specs.declared.grammar.Expr.TheVariants as expr
+use Rattle.rng_grammar.specs.declared.grammar.Grammar.{Grammar}
 use Rattle.compile_laws.proofs.ContentLaw.{AreLeavesKept, AreNamesKept, content_law}
 use Rattle.compile_laws.proofs.ConditionClass.{one_body}
 use Rattle.compile_laws.proofs.DatatypeLaw.{datatype_kept}

@@ -20,12 +20,12 @@ use Rattle.odd_text.specs.declared.key.Key.{Key}
 use Rattle.odd_text.specs.declared.key.Kind.TheVariants as kind
 use Rattle.odd_tree.proofs.InList.{first_or_later, nothing_stands, only_item, stands_first}
 use Rattle.odd_tree.specs.Elements.{StandsIn}
-use Rattle.rng_patterns.specs.Patterns.{IsAllowed}
-use Rattle.rng_patterns.specs.Sorts as sorts
-use Rattle.rng_patterns.specs.Sorts.{IsOfWord}
-use Rattle.rng_patterns.specs.declared.grammar.Expr.{Expr}
-use Rattle.rng_patterns.specs.declared.grammar.Expr.TheVariants as expr
-use Rattle.rng_patterns.specs.declared.grammar.Grammar.{Grammar}
+use Rattle.rng_grammar.specs.Patterns.{IsAllowed}
+use Rattle.rng_grammar.specs.Sorts as sorts
+use Rattle.rng_grammar.specs.Sorts.{IsOfWord}
+use Rattle.rng_grammar.specs.declared.grammar.Expr.{Expr}
+use Rattle.rng_grammar.specs.declared.grammar.Expr.TheVariants as expr
+use Rattle.rng_grammar.specs.declared.grammar.Grammar.{Grammar}
 use Rattle.rng_types.specs.declared.item.Item.TheVariants as items
 use Rattle.compile_laws.proofs.AttributeValueLaw.{list_word}
 use Rattle.compile_laws.proofs.ConditionClass.{one_body}

@@ -6,15 +6,15 @@ use Rattle.odd_meaning.specs.Contents.{IsUpTo, IsWithin}
 use Rattle.odd_tree.proofs.InList.{first_or_later, map_stands, nothing_stands, stands_first, stands_later, stands_map}
 use Rattle.odd_tree.specs.Elements.{StandsIn}
 use Rattle.odd_tree.specs.Splits.{Counted, Pieces, Then}
-use Rattle.rng_patterns.proofs.OnePattern.{ToldBy, choice_shown, empty_shown, group_shown, one_or_more_shown, optional_shown, zero_or_more_shown}
+use Rattle.rng_grammar.proofs.OnePattern.{ToldBy, choice_shown, empty_shown, group_shown, one_or_more_shown, optional_shown, zero_or_more_shown}
 use Rattle.compile_laws.proofs.Leaves.{IsLeaf, TakesLeaves, parts_told}
-use Rattle.rng_patterns.specs.Patterns as patterns
-use Rattle.rng_patterns.specs.Patterns.{AreMatchedBy, IsMatchedBy, IsRepeatedBy}
-use Rattle.rng_patterns.specs.declared.grammar.Expr as E
-use Rattle.rng_patterns.specs.declared.grammar.Expr.{Expr, Expr-F, out-Expr}
-use Rattle.rng_patterns.specs.declared.grammar.Expr.TheOpen as shape
-use Rattle.rng_patterns.specs.declared.grammar.Expr.TheVariants as expr
-use Rattle.rng_patterns.specs.declared.grammar.Grammar.{Grammar}
+use Rattle.rng_grammar.specs.Patterns as patterns
+use Rattle.rng_grammar.specs.Patterns.{AreMatchedBy, IsMatchedBy, IsRepeatedBy}
+use Rattle.rng_grammar.specs.declared.grammar.Expr as E
+use Rattle.rng_grammar.specs.declared.grammar.Expr.{Expr, Expr-F, out-Expr}
+use Rattle.rng_grammar.specs.declared.grammar.Expr.TheOpen as shape
+use Rattle.rng_grammar.specs.declared.grammar.Expr.TheVariants as expr
+use Rattle.rng_grammar.specs.declared.grammar.Grammar.{Grammar}
 use Rattle.rng_types.specs.Bounds.{IsFormedBounds}
 use Rattle.rng_types.specs.declared.bounds.Bounds.{Bounds}
 use Rattle.compile_laws.proofs.Pieces.{Same, at_most_more, counted_same, counts_same, none_same, one_more, swap, then_end, then_same, trans}

@@ -20,10 +20,10 @@ use Rattle.odd_text.specs.declared.key.Key.{Key}
 use Rattle.odd_tree.proofs.InList.{stands_first, stands_map}
 use Rattle.odd_tree.specs.Elements.{StandsIn}
 use Rattle.odd_tree.specs.declared.tree.Attr.{Attr}
-use Rattle.rng_patterns.specs.Acceptance.{AreRuled, IsValueOf}
-use Rattle.rng_patterns.specs.Patterns.{IsAllowed}
-use Rattle.rng_patterns.specs.Sorts.{IsOfRule, IsOfWord}
-use Rattle.rng_patterns.specs.declared.grammar.Grammar.{Grammar}
+use Rattle.rng_grammar.specs.Acceptance.{AreRuled, IsValueOf}
+use Rattle.rng_grammar.specs.Patterns.{IsAllowed}
+use Rattle.rng_grammar.specs.Sorts.{IsOfRule, IsOfWord}
+use Rattle.rng_grammar.specs.declared.grammar.Grammar.{Grammar}
 use Rattle.rng_types.specs.Bounds.{IsFormedBounds}
 use Rattle.rng_types.specs.declared.item.Item.TheVariants as items
 use Rattle.compile_laws.proofs.AttributeLaw.{attribute_law}

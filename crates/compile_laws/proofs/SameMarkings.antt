@@ -14,10 +14,10 @@ use Rattle.odd_meaning.specs.Contents.{Admits, AdmitsBy, ByOne, InOrder, IsOfMac
 use Rattle.odd_meaning.specs.Labels.{Label, element, condition}
 use Rattle.odd_meaning.specs.Links.{macro_key, named_in, named_in_parts}
 use Rattle.odd_text.specs.declared.key.Key.{Key}
-use Rattle.rng_patterns.specs.Patterns as patterns
-use Rattle.rng_patterns.specs.Patterns.{AreMatched, IsMatched, IsRepeated, TakesChildren}
-use Rattle.rng_patterns.specs.declared.grammar.Expr.{Expr}
-use Rattle.rng_patterns.specs.declared.grammar.Grammar.{Grammar}
+use Rattle.rng_grammar.specs.Patterns as patterns
+use Rattle.rng_grammar.specs.Patterns.{AreMatched, IsMatched, IsRepeated, TakesChildren}
+use Rattle.rng_grammar.specs.declared.grammar.Expr.{Expr}
+use Rattle.rng_grammar.specs.declared.grammar.Grammar.{Grammar}
 use Rattle.compile_laws.proofs.Pieces.{Into, counted_into, or_into, then_into}
 use Rattle.compile_contents.proofs.Standing.{stands_left, stands_right}
 

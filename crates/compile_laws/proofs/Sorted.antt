@@ -25,13 +25,13 @@ use Rattle.odd_meaning.specs.Links.{macro_key, named_by, named_by_edits, named_i
 use Rattle.odd_text.specs.declared.key.Key.{Key}
 use Rattle.odd_tree.proofs.InList.{contained, nothing_stands}
 use Rattle.odd_tree.specs.Elements.{StandsIn}
-use Rattle.rng_patterns.specs.Patterns.{IsDefined}
-use Rattle.rng_patterns.specs.Sorts as sorts
-use Rattle.rng_patterns.specs.Sorts.{IsOfBody, IsOfChildren, IsOfContent, IsSorted}
-use Rattle.rng_patterns.specs.declared.grammar.Define.{Define}
-use Rattle.rng_patterns.specs.declared.grammar.Expr.{Expr}
-use Rattle.rng_patterns.specs.declared.grammar.Expr.TheVariants as expr
-use Rattle.rng_patterns.specs.declared.grammar.Grammar.{Grammar}
+use Rattle.rng_grammar.specs.Patterns.{IsDefined}
+use Rattle.rng_grammar.specs.Sorts as sorts
+use Rattle.rng_grammar.specs.Sorts.{IsOfBody, IsOfChildren, IsOfContent, IsSorted}
+use Rattle.rng_grammar.specs.declared.grammar.Define.{Define}
+use Rattle.rng_grammar.specs.declared.grammar.Expr.{Expr}
+use Rattle.rng_grammar.specs.declared.grammar.Expr.TheVariants as expr
+use Rattle.rng_grammar.specs.declared.grammar.Grammar.{Grammar}
 use Rattle.compile_laws.proofs.Closed.{IsClosed, references_good, throughout_good}
 use Rattle.compile_laws.proofs.ConditionClass.{IsElementBody, IsEmptyBody, body_kind, condition_defined}
 use Rattle.compile_laws.proofs.Good.{IsGoodFor, content_good, data_in, data_in_parts}

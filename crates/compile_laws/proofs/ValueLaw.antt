@@ -17,15 +17,15 @@ use Rattle.odd_meaning.specs.Links.{datatype_key, macro_key, named_in, named_in_
 use Rattle.odd_text.specs.declared.key.Key.{Key}
 use Rattle.odd_tree.proofs.InList.{contained, nothing_stands, stands_first}
 use Rattle.odd_tree.specs.Elements.{StandsIn}
-use Rattle.rng_patterns.proofs.OnePattern.{ToldBy, told_by}
-use Rattle.rng_patterns.proofs.Values.{IsTyped, ValueTold, same_shown, typed_shown, value_told}
-use Rattle.rng_patterns.specs.Denoting.{read_as}
-use Rattle.rng_patterns.specs.Patterns as patterns
-use Rattle.rng_patterns.specs.Patterns.{IsAllowed, TakesValue}
-use Rattle.rng_patterns.specs.declared.grammar.Expr.{Expr, Expr-F, out-Expr}
-use Rattle.rng_patterns.specs.declared.grammar.Expr.TheOpen as shape
-use Rattle.rng_patterns.specs.declared.grammar.Expr.TheVariants as expr
-use Rattle.rng_patterns.specs.declared.grammar.Grammar.{Grammar}
+use Rattle.rng_grammar.proofs.OnePattern.{ToldBy, told_by}
+use Rattle.rng_grammar.proofs.Values.{IsTyped, ValueTold, same_shown, typed_shown, value_told}
+use Rattle.rng_grammar.specs.Denoting.{read_as}
+use Rattle.rng_grammar.specs.Patterns as patterns
+use Rattle.rng_grammar.specs.Patterns.{IsAllowed, TakesValue}
+use Rattle.rng_grammar.specs.declared.grammar.Expr.{Expr, Expr-F, out-Expr}
+use Rattle.rng_grammar.specs.declared.grammar.Expr.TheOpen as shape
+use Rattle.rng_grammar.specs.declared.grammar.Expr.TheVariants as expr
+use Rattle.rng_grammar.specs.declared.grammar.Grammar.{Grammar}
 use Rattle.rng_types.specs.declared.data_type.DataType.{DataType}
 use Rattle.rng_types.specs.declared.data_type.DataType.TheVariants as kind
 use Rattle.rng_types.specs.declared.facet.Facet.{Facet}

@@ -1,18 +1,18 @@
 -- A pattern of one word matches the words of a list where there is one and it allows that as a value.
 use Rattle.std.proofs.Common.{◌≡◌, ◌↔◌, ◌⊎◌, ℕ, List, [], ◌∷◌, inl, inr, ⊎_elim, refl, sym, ap, subst, ◌∙◌}
-use Rattle.rng_patterns.proofs.OnePattern.{ToldBy, choice_shown, ref_shown, told_by}
-use Rattle.rng_patterns.proofs.SortLaws.{DefinesOnce}
-use Rattle.rng_patterns.proofs.Values.{ValueTold, same_shown, typed_shown, value_told}
-use Rattle.rng_patterns.specs.Patterns as patterns
-use Rattle.rng_patterns.specs.Patterns.{IsAllowed, IsMatchedBy, TakesValue, TakesWord}
-use Rattle.rng_patterns.specs.Sorts as sorts
-use Rattle.rng_patterns.specs.Sorts.{IsOfWord}
-use Rattle.rng_patterns.specs.declared.grammar.Body.TheVariants as body
-use Rattle.rng_patterns.specs.declared.grammar.Expr as E
-use Rattle.rng_patterns.specs.declared.grammar.Expr.{Expr, Expr-F, out-Expr}
-use Rattle.rng_patterns.specs.declared.grammar.Expr.TheOpen as shape
-use Rattle.rng_patterns.specs.declared.grammar.Expr.TheVariants as expr
-use Rattle.rng_patterns.specs.declared.grammar.Grammar.{Grammar}
+use Rattle.rng_grammar.proofs.OnePattern.{ToldBy, choice_shown, ref_shown, told_by}
+use Rattle.rng_grammar.proofs.SortLaws.{DefinesOnce}
+use Rattle.rng_grammar.proofs.Values.{ValueTold, same_shown, typed_shown, value_told}
+use Rattle.rng_grammar.specs.Patterns as patterns
+use Rattle.rng_grammar.specs.Patterns.{IsAllowed, IsMatchedBy, TakesValue, TakesWord}
+use Rattle.rng_grammar.specs.Sorts as sorts
+use Rattle.rng_grammar.specs.Sorts.{IsOfWord}
+use Rattle.rng_grammar.specs.declared.grammar.Body.TheVariants as body
+use Rattle.rng_grammar.specs.declared.grammar.Expr as E
+use Rattle.rng_grammar.specs.declared.grammar.Expr.{Expr, Expr-F, out-Expr}
+use Rattle.rng_grammar.specs.declared.grammar.Expr.TheOpen as shape
+use Rattle.rng_grammar.specs.declared.grammar.Expr.TheVariants as expr
+use Rattle.rng_grammar.specs.declared.grammar.Grammar.{Grammar}
 use Rattle.compile_laws.proofs.Leaves.{IsLeaf, parts_told, value_leaves, word_leaves}
 
 -- one word that the pattern allows

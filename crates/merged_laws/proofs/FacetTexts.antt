@@ -20,7 +20,7 @@ use Rattle.rng_values.specs.Items.{FacetFault, IsFacetOf, IsItemOf, ItemFault, p
 use Rattle.rng_values.specs.Items as values
 use Rattle.rng_values.specs.Making.{in_order, item_of}
 use Rattle.rng_values.specs.Names.{facet_names, named, type_names}
-use Rattle.rng_patterns.proofs.OneData.{AreApart, RisesFrom, one_item, rises}
+use Rattle.rng_grammar.proofs.OneData.{AreApart, RisesFrom, one_item, rises}
 use Rattle.rng_emit.specs.Grammar.{facet_name}
 use Rattle.odd_data.specs.Formed.{IsMadeItem}
 use Rattle.odd_emit.specs.Contents.{type_name}

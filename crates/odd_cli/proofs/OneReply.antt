@@ -21,7 +21,7 @@ use Rattle.odd_tree.proofs.InList.{Stands, first_or_later, nothing_stands, stand
 use Rattle.odd_tree.specs.Elements.{StandsIn}
 use Rattle.odd_tree.specs.Spelled.{DepthPlace, IsNotXml, Spells}
 use Rattle.odd_tree.specs.declared.tree.Tree.{Tree}
-use Rattle.rng_patterns.specs.declared.grammar.Grammar.{Grammar}
+use Rattle.rng_grammar.specs.declared.grammar.Grammar.{Grammar}
 use Rattle.odd_account.proofs.OneAccount.{one_account}
 use Rattle.odd_cli.proofs.Commands.{never_aside, task_once}
 use Rattle.odd_cli.specs.Outcome.{Outcome, Then, IsOne, answers, gives}

@@ -1,12 +1,6 @@
 -- The reply of files is that of files that say the same in another order.
-use Rattle.std.proofs.Common.{◌≡◌, ◌≤◌, ℕ, suc, Bool, List, [], ◌∷◌, length, arith, refl, sym, ap, subst, ◌∙◌, ⊎_elim}
+use Rattle.std.proofs.Common.{◌≡◌, ◌≤◌, ℕ, suc, Bool, List, [], ◌∷◌, length, arith, refl, ap, subst}
 use Rattle.odd_base.specs.Shelf.{FileMap}
-use Rattle.odd_chain.specs.Files.{Gives}
-use Rattle.odd_library.specs.declared.library.Library.{Library}
-use Rattle.odd_reader.proofs.Formed.{spelled_formed}
-use Rattle.odd_tree.proofs.InList.{first_or_later, nothing_stands}
-use Rattle.odd_tree.specs.Elements.{StandsIn}
-use Rattle.odd_tree.specs.Formed.{IsFormed}
 use Rattle.odd_tree.specs.declared.tree.Tree.{Tree}
 use Rattle.order_laws.proofs.ReorderedChains.{reordered_gives}
 use Rattle.order_laws.specs.Reorderings.{AreReorderings}

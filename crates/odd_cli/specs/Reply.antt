@@ -8,7 +8,7 @@ use Rattle.odd_tree.specs.declared.tree.Tree.{Tree}
 use Rattle.odd_tree.specs.Spelled.{DepthPlace, GivesTree, IsNotXml}
 use Rattle.odd_library.specs.declared.library.Library.{Library}
 use Rattle.odd_chain.specs.Files.{Gives, IsChainRefusal}
-use Rattle.rng_patterns.specs.declared.grammar.Grammar.{Grammar}
+use Rattle.rng_grammar.specs.declared.grammar.Grammar.{Grammar}
 use Rattle.compile_defines.specs.Compiled.{HoldsStart}
 use Rattle.compile_core.specs.Schema.{HasLargeSchema, IsLeastMissing, IsSchema}
 use Rattle.compile_core.specs.SchemaText.{IsSchemaText}

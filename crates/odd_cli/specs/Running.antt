@@ -9,9 +9,9 @@ use Rattle.odd_chain.specs.Base.{SpellsBase}
 use Rattle.odd_chain.specs.Files.{ChainOffends, Gives, HasAsides}
 use Rattle.odd_chain.specs.Order.{Position}
 use Rattle.odd_meaning.specs.Admission.{Admits}
-use Rattle.rng_patterns.specs.Acceptance.{Accepts}
-use Rattle.rng_patterns.specs.Denoting.{DenotesOnly}
-use Rattle.rng_patterns.specs.declared.grammar.Grammar.{Grammar}
+use Rattle.rng_grammar.specs.Acceptance.{Accepts}
+use Rattle.rng_grammar.specs.Denoting.{DenotesOnly}
+use Rattle.rng_grammar.specs.declared.grammar.Grammar.{Grammar}
 use Rattle.compile_core.specs.Schema.{IsTooLarge}
 use Rattle.compile_defines.specs.Compiled.{HoldsStart, IsGrammarOf}
 use Rattle.odd_cli.specs.declared.status.LimitKind.TheVariants as limit

@@ -15,7 +15,7 @@ use Rattle.odd_items.specs.Groups.{schema_names}
 use Rattle.odd_items.specs.Search.{Finds, Found}
 use Rattle.odd_items.specs.Without.{IsWithout}
 use Rattle.odd_library.specs.declared.odd.OddDoc.{OddDoc}
-use Rattle.odd_decls.specs.Aside.{AddsPlaces, IsConstraint, IsConstraintIn, IsConstraintOf, IsLeftOut, IsReadIn, IsReadOf}
+use Rattle.odd_decls.specs.Aside.{AddsPlaces, IsConstraintOf, IsLeftOut, IsReadIn, IsReadOf}
 use Rattle.odd_decls.specs.Aside as left
 use Rattle.odd_decls.specs.Declares.{Declares, DeclaresWhole}
 use Rattle.odd_decls.specs.Offences.{HasOffence, IsRefusal, OffendsWhole}

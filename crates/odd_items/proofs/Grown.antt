@@ -13,13 +13,6 @@ use Rattle.odd_items.specs.Arrows.{HasGrown, IsGroupIn, IsInside, IsReferred, Re
 use Rattle.odd_items.specs.Holding.{IsAt, LeadsTo, inside, referred}
 use Rattle.odd_items.specs.declared.searching.Kept.{Kept}
 
--- nothing was added
-pub grown_not : (lists : List (List ℕ)) (Added : ℕ → ℕ → Type 0) → ((holder place : ℕ) → Added holder place → holder < length lists → ⊥) → HasGrown lists lists Added
-grown_not lists Added none = record {
-  same = refl;
-  grown = λ holder place. (inl, λ h. ⊎_elim (λ c. c) (λ a. absurd (none holder place a.0 a.1)) h);
-}
-
 -- to what was added more was added
 pub grown_on : (lists made more : List (List ℕ)) (Before After Added : ℕ → ℕ → Type 0) → HasGrown lists made Before → HasGrown made more After
     → ((holder place : ℕ) → Added holder place ↔ (Before holder place ⊎ After holder place)) → HasGrown lists more Added

@@ -9,7 +9,7 @@ use Rattle.odd_tree.specs.declared.tree.Node.{Node}
 use Rattle.odd_tree.specs.declared.tree.Tree.{Tree, out-Tree}
 use Rattle.odd_forms.specs.Names.{is_one_of}
 use Rattle.odd_items.proofs.ByNames as by_names
-use Rattle.odd_items.specs.Groups.{HoldsItems, IsGroupOf, IsItemIn, declaration_names, group_names, schema_names}
+use Rattle.odd_items.specs.Groups.{HoldsItems, IsItemIn, declaration_names, group_names, schema_names}
 use Rattle.odd_items.specs.Groups as groups
 use Rattle.odd_items.specs.Search.{Finds, FindsAmong, Found, children_found, own}
 use Rattle.odd_items.specs.Search as search

@@ -1,4 +1,4 @@
-ghost use Rattle.std.specs.Prelude.{◌≡◌, ◌++◌, [], IfOk, List, OnOk, map};
+ghost use Rattle.std.specs.Prelude.{◌≡◌, [], IfOk, List, OnOk, map};
 ghost use Rattle.odd_items.specs.Adding.{AddsKept, KeepsIt, LeadsInside};
 ghost use Rattle.odd_items.specs.Search.{Finds, Found as AFound};
 ghost use Rattle.odd_items.specs.Searching.{AreKept, AreParents};

@@ -2,6 +2,7 @@
 #![tactic(auto)]
 
 mod all_words;
+mod allowing;
 mod answering;
 mod attributes;
 mod chains;
@@ -10,6 +11,7 @@ mod docs;
 mod draft;
 mod edits;
 mod letters;
+mod matching;
 mod offers;
 mod patterns;
 mod pooled;

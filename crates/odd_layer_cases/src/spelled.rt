@@ -1,6 +1,7 @@
 use crate::letters::Letters;
 use odd_case_files::CaseFault;
 use odd_patterns::{Alphabet, ChildLeaf, ChildSymbol, Children, Marks};
+use rng_allows::Items;
 use std::alloc::Global;
 use std::char;
 
@@ -54,6 +55,30 @@ impl Spelled for Children {
                 ('e', _) => word.push(ChildSymbol::Element(Marks::new(alloc)))?,
                 ('0', Some(ChildSymbol::Element(marks))) => marks.push(false)?,
                 ('1', Some(ChildSymbol::Element(marks))) => marks.push(true)?,
+                _ => return Err(CaseFault::NoWord),
+            }
+        }
+        Ok(word)
+    }
+}
+
+/// A leaf is the digit of its number. In a word each character is one that begins the marks of a symbol, `e`, or one of them.
+impl Spelled for Items {
+    fn leaf_of(&self, character: char) -> Option<u32> {
+        character.to_digit(10)
+    }
+
+    fn character_of(&self, leaf: u32) -> char {
+        char::from_digit(leaf, 10).unwrap_or('#')
+    }
+
+    fn word_of(&self, alloc: Global, text: &str) -> Result<Vec<Marks>, CaseFault> {
+        let mut word = Vec::new(alloc);
+        for character in text.chars() {
+            match (character, word.last_mut()) {
+                ('e', _) => word.push(Marks::new(alloc))?,
+                ('0', Some(marks)) => marks.push(false)?,
+                ('1', Some(marks)) => marks.push(true)?,
                 _ => return Err(CaseFault::NoWord),
             }
         }

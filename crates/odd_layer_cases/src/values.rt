@@ -3,7 +3,9 @@ ghost use Rattle.std.specs.Str.{chars};
 ghost use Rattle.rng_values.specs.Formed.{IsFormedFacet};
 ghost use Rattle.rng_values.specs.Lexical.{Fits};
 
+use crate::allowing::add_allowing;
 use crate::attributes::{add_definitions, add_edits};
+use crate::matching::add_matching;
 use crate::regexes::add_regex;
 use odd_case_files::CaseFault;
 use odd_text::{NoMemory, Text};
@@ -62,6 +64,8 @@ fn add_answer(alloc: Global, out: &mut Text, question: &str) -> Result<(), CaseF
             add_text(out, collapsed.as_str())
         }
         "fits" => add_fitting(alloc, out, rest),
+        "match" => add_matching(alloc, out, rest),
+        "allows" => add_allowing(alloc, out, rest),
         "item" => add_item(alloc, out, rest),
         "meets" => add_meeting(alloc, out, rest),
         "edits" => add_edits(alloc, out, rest),
@@ -93,7 +97,8 @@ fn add_fitting(alloc: Global, out: &mut Text, question: &str) -> Result<(), Case
     Ok(())
 }
 
-fn said(yes: bool) -> &'static str {
+/// How an answer is told.
+pub fn said(yes: bool) -> &'static str {
     if yes { "yes" } else { "no" }
 }
 
@@ -173,7 +178,8 @@ fn meets_all(kind: DataType, facets: &Facets, text: &Text) -> bool
     true
 }
 
-fn facet_of(alloc: Global, field: &str) -> Result<FacetText, CaseFault> {
+/// The facet of a field.
+pub fn facet_of(alloc: Global, field: &str) -> Result<FacetText, CaseFault> {
     let Some((name, value)) = field.split_once('=') else {
         return Err(CaseFault::NoValue);
     };

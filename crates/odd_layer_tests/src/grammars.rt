@@ -3,7 +3,7 @@
 use crate::making::text;
 use odd_text::{Name, NoMemory, Text};
 use rng_emit::print_rng;
-use rng_patterns::{
+use rng_grammar::{
     AttrPart, AttrRule, Body, Define, Defines, Expr, Exprs, Grammar, NameClass, Rules,
 };
 use rng_types::{DataType, Facet, FacetName, Facets};

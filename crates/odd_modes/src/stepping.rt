@@ -1,4 +1,4 @@
-ghost use Rattle.std.specs.Prelude.{◌≡◌, ◌≢◌, ◌<◌, ℕ, List, [], ◌∷◌, ◌++◌, Err, IfOk, IsOk, IsTrue};
+ghost use Rattle.std.specs.Prelude.{◌≡◌, ◌<◌, ℕ, List, [], ◌∷◌, ◌++◌, Err, IfOk, IsOk, IsTrue};
 ghost use Rattle.std.specs.FinMap.{find, is_sorted};
 ghost use Rattle.odd_text.specs.Key.{key_cmp};
 ghost use Rattle.odd_text.specs.declared.key.Key.{Key as AKey};

@@ -1,9 +1,11 @@
-pub mod Kept
-pub mod Once
-pub mod Unique
+pub mod Alike
 pub mod Begin
+pub mod Kept
+pub mod Members
+pub mod Once
+pub mod Right
+pub mod Shape
 pub mod Shapes
 pub mod Stands
-pub mod Members
-pub mod Shape
+pub mod Unique
 pub mod Walks

@@ -1,4 +1,5 @@
+pub mod Code
+pub mod Left
+pub mod Memory
 pub mod Pattern
 pub mod Pool
-pub mod Left
-pub mod Code

@@ -17,6 +17,7 @@ mod modes;
 mod patterns;
 mod pool;
 mod reader;
+mod value_patterns;
 mod values;
 
 use anyhow::Result;
@@ -27,7 +28,6 @@ fn main(rt: HostRuntime) -> Result<()> {
     println!(rt; "{}", reader::names(alloc)?)?;
     println!(rt; "{}", values::names(alloc)?)?;
     println!(rt; "{}", patterns::names(alloc)?)?;
-    println!(rt; "{}", pool::names(alloc)?)?;
     println!(rt; "{}", content::names(alloc)?)?;
     println!(rt; "{}", attributes::names(alloc)?)?;
     println!(rt; "{}", decls::names(alloc)?)?;

@@ -1,5 +1,7 @@
 use crate::fault::{Fault, wants};
 use crate::making::{name_of, only};
+use crate::pool::call_pool;
+use crate::value_patterns::call_value_patterns;
 use crate::values::facets;
 use odd_base::{Names, NoMemory, Text};
 use rng_patterns::{
@@ -14,11 +16,13 @@ use std::alloc::Global;
 pub fn names(alloc: Global) -> Result<&'static str, Fault> {
     call_makers(alloc)?;
     call_derive(alloc)?;
+    call_pool(alloc)?;
+    call_value_patterns(alloc)?;
     wants(grammar(alloc)?.defines.len() == 1)?;
     Ok(
-        "rng_patterns: Alphabet Pat ChildLeaf ChildSymbol Children Marks NsPart NsParts NameClass Expr Exprs AttrRule Rules \
-        AttrPart Body Define Defines Grammar\n  \
-        Alphabet::takes choice group more nullable derive",
+        "rng_patterns: Alphabet Pat ChildLeaf ChildSymbol Children Marks Pool Chars Items ValuePattern NsPart NsParts \
+        NameClass Expr Exprs AttrRule Rules AttrPart Body Define Defines Grammar\n  \
+        Alphabet::takes choice group more nullable derive Pool::new Pool::len Pool::put Pool::derive Pool::nullable allows",
     )
 }
 

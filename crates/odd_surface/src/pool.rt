@@ -1,15 +1,13 @@
 use crate::fault::{Fault, wants};
 use odd_base::NoMemory;
-use odd_pool::Pool;
-use rng_patterns::{ChildLeaf, ChildSymbol, Children, Pat};
+use rng_patterns::{ChildLeaf, ChildSymbol, Children, Pat, Pool};
 use sqlite_items::Boxed;
 use std::alloc::Global;
 
-/// The names of odd_pool.
-pub fn names(alloc: Global) -> Result<&'static str, Fault> {
+/// Calls what a store of patterns answers.
+pub fn call_pool(alloc: Global) -> Result<(), Fault> {
     call_put(alloc)?;
-    call_derive(alloc)?;
-    Ok("odd_pool: Pool\n  Pool::new Pool::len Pool::put Pool::derive Pool::nullable")
+    call_derive(alloc)
 }
 
 // The pattern and its one part stand each once.

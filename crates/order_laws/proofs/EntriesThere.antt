@@ -17,7 +17,7 @@ use Rattle.odd_forms.specs.Words.{is_among}
 use Rattle.odd_forms.specs.declared.element.Element.{Element}
 use Rattle.odd_forms.specs.declared.element.Element.TheVariants as element
 use Rattle.odd_forms.proofs.Children.{child_named, named_one, one_named}
-use Rattle.odd_content.specs.Giving.{IsContentOf, pick_in}
+use Rattle.odd_content.specs.Giving.{pick_in}
 use Rattle.odd_content.specs.Giving as giving
 use Rattle.odd_content.specs.declared.content.Content.{Content}
 use Rattle.odd_members.specs.Members.{IsMembershipOf, IsSetOf}

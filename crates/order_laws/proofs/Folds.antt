@@ -11,7 +11,7 @@ use Rattle.std.specs.declared.cmp.Ordering.TheVariants.{Equal}
 use Rattle.odd_text.specs.Text.{text_cmp}
 use Rattle.odd_tree.specs.Elements.{StandsIn}
 use Rattle.odd_tree.specs.declared.tree.Tree.{Tree}
-use Rattle.odd_tree.proofs.InList.{before, here, after, first_or_later, stands_around, stands_first, stands_later, stands_map}
+use Rattle.odd_tree.proofs.InList.{before, after, first_or_later, stands_first, stands_later, stands_map}
 use Rattle.odd_tree.proofs.InList as standing
 use Rattle.odd_forms.specs.Standing.{StandsTwice}
 use Rattle.order_laws.specs.Reordered.{AreReordered, IsReordered}

@@ -29,7 +29,7 @@ use Rattle.odd_data.specs.Items.{item_given, item_in}
 use Rattle.odd_data.specs.Occurrence.{bounds_in}
 use Rattle.odd_data.specs.Values.{has_mode, kind_in, list_given, marks_in, value_tagged, with_mark, with_value}
 use Rattle.rng_types.specs.declared.val_list.ListKind.TheVariants as kind
-use Rattle.odd_members.specs.Members.{adds, is_change, marks_of, membership_of, with_child}
+use Rattle.odd_members.specs.Members.{adds, marks_of, membership_of, with_child}
 use Rattle.odd_members.specs.Members as members
 use Rattle.odd_members.specs.declared.membership.Membership.TheVariants as membership
 use Rattle.odd_attributes.specs.Giving.{AreEditsOf, alt_given, datatype_by, datatype_given, datatype_in, edit_of, usage_given, val_edit_given, val_edit_of, with_definition, with_ident}

@@ -16,6 +16,7 @@ pub mod OneToOne
 pub mod Pairing
 pub mod PairsProofs
 pub mod ReorderedChains
+pub mod ReorderedExamples
 pub mod Shuffled
 pub mod SoundThere
 pub mod WithoutThere

@@ -16,7 +16,7 @@ use Rattle.odd_tree.specs.declared.tree.Tree.{Tree, out-Tree}
 use Rattle.order_laws.proofs.Shuffled.{stands_either, stands_left, stands_right, stands_with}
 use Rattle.order_laws.specs.Pairs.{AreAllAmong, AreAllOf, AreAllPaired, ArePaired}
 use Rattle.order_laws.specs.Pairs as pairs
-use Rattle.order_laws.specs.Reordered.{AreReordered, IsReordered, is_loose}
+use Rattle.order_laws.specs.Reordered.{AreReordered, IsReordered}
 use Rattle.order_laws.specs.Reordered as reordered
 
 -- trees that say the same in another order have pairs
@@ -49,11 +49,6 @@ mutual
 -- trees that are paired say the same in another order
 pub paired_reordered : {t u : Tree} {all : List (Tree × Tree)} → ArePaired t u all → IsReordered t u
 paired_reordered (pairs.element r are) = r
-
--- and so do several
-pub all_reordered : {loose : Bool} {ts us : List Tree} {all : List (Tree × Tree)} → AreAllPaired loose ts us all → AreReordered loose ts us
-all_reordered pairs.nothing = reordered.nothing
-all_reordered (pairs.next before after first later is front one others all) = reordered.next before after is front (paired_reordered one) (all_reordered others)
 
 -- the pair of the trees themselves is one of the pairs
 pub pair_itself : {t u : Tree} {all : List (Tree × Tree)} → ArePaired t u all → StandsIn all (t, u)

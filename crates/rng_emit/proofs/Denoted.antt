@@ -18,12 +18,12 @@ use Rattle.odd_tree.proofs.PrintedTrees.{Shows, binds_to}
 use Rattle.odd_tree.specs.Elements.{given}
 use Rattle.odd_tree.specs.Markup.{Pair, all_of, element}
 use Rattle.odd_tree.specs.declared.tree.Tree.{Tree}
-use Rattle.rng_patterns.proofs.OneGrammar.{one_denoted}
-use Rattle.rng_patterns.specs.Denoting.{entry_of, Denotes, DenotesOnly, StandsFor, parts_of}
-use Rattle.rng_patterns.specs.Linked.{names_of}
-use Rattle.rng_patterns.specs.Names.{datatype_library, relax_ng_namespace}
-use Rattle.rng_patterns.specs.declared.grammar.Define.{Define}
-use Rattle.rng_patterns.specs.declared.grammar.Grammar.{Grammar}
+use Rattle.rng_grammar.proofs.OneGrammar.{one_denoted}
+use Rattle.rng_grammar.specs.Denoting.{entry_of, Denotes, DenotesOnly, StandsFor, parts_of}
+use Rattle.rng_grammar.specs.Linked.{names_of}
+use Rattle.rng_grammar.specs.Names.{datatype_library, relax_ng_namespace}
+use Rattle.rng_grammar.specs.declared.grammar.Define.{Define}
+use Rattle.rng_grammar.specs.declared.grammar.Grammar.{Grammar}
 use Rattle.rng_emit.proofs.Printable.{IsPrintable}
 use Rattle.rng_emit.proofs.Shapes.{grammar_parts, grammar_plain, grammar_tag, relax_ng_bound}
 use Rattle.rng_emit.proofs.Shown.{AreShown, IsShown, is_part, shown, value_in, Allows, no_attribute, start_shown}

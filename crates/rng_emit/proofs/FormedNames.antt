@@ -13,11 +13,11 @@ use Rattle.odd_tree.specs.Formed.{AreApart, AreFormed, IsFormed}
 use Rattle.odd_tree.specs.declared.tree.Attr.{Attr}
 use Rattle.odd_tree.specs.declared.tree.Node.{Node}
 use Rattle.odd_tree.specs.declared.tree.Tree.{Tree, out-Tree}
-use Rattle.rng_patterns.specs.Denoting as denoting
-use Rattle.rng_patterns.specs.Denoting.{AreExcepted, AreSpaceParts, HasExcept, HasNames, HasText, IsNameClass, IsSpacePart, parts_of}
-use Rattle.rng_patterns.specs.Names.{relax_ng_namespace}
-use Rattle.rng_patterns.specs.declared.grammar.NameClass.{NameClass}
-use Rattle.rng_patterns.specs.declared.grammar.NsPart.{NsPart}
+use Rattle.rng_grammar.specs.Denoting as denoting
+use Rattle.rng_grammar.specs.Denoting.{AreExcepted, AreSpaceParts, HasExcept, HasNames, HasText, IsNameClass, IsSpacePart, parts_of}
+use Rattle.rng_grammar.specs.Names.{relax_ng_namespace}
+use Rattle.rng_grammar.specs.declared.grammar.NameClass.{NameClass}
+use Rattle.rng_grammar.specs.declared.grammar.NsPart.{NsPart}
 use Rattle.rng_emit.proofs.Printable.{IsPlainClass, IsPlainName, IsPlainPart}
 
 -- the element is formed, between some places

@@ -16,24 +16,24 @@ use Rattle.odd_tokens.specs.Characters.{IsLegal}
 use Rattle.odd_tree.proofs.InList.{contained, first_or_later, map_stands, nothing_stands, only_item, standing, stands_first, stands_later, stands_map}
 use Rattle.odd_tree.specs.Elements.{StandsIn}
 use Rattle.odd_tree.specs.declared.tree.Tree.{Tree}
-use Rattle.rng_patterns.proofs.OnePattern.{choice_shown, empty_shown, group_shown, list_shown, one_or_more_shown, optional_shown, ref_shown, text_shown, zero_or_more_shown}
-use Rattle.rng_patterns.specs.Denoting as denoting
-use Rattle.rng_patterns.specs.Denoting.{AreDefines, AreOnePattern, AreParams, ArePatterns, AreRules, DenotesOnly, HasAttributes, HasNames, HoldsValue}
-use Rattle.rng_patterns.specs.Denoting.{IsAttribute, IsBody, IsData, IsDefine, IsPattern, IsRule, entry_of, grouped}
-use Rattle.rng_patterns.specs.Linked as linked
-use Rattle.rng_patterns.specs.Linked.{HasPart, StandsWithin, inside, itself, patterns_of, values_of}
-use Rattle.rng_patterns.specs.declared.grammar.AttrPart.TheVariants as attributes
-use Rattle.rng_patterns.specs.declared.grammar.AttrPart.{AttrPart}
-use Rattle.rng_patterns.specs.declared.grammar.AttrRule.{AttrRule}
-use Rattle.rng_patterns.specs.declared.grammar.Body.TheVariants as body
-use Rattle.rng_patterns.specs.declared.grammar.Body.{Body}
-use Rattle.rng_patterns.specs.declared.grammar.Define.{Define}
-use Rattle.rng_patterns.specs.declared.grammar.Expr as E
-use Rattle.rng_patterns.specs.declared.grammar.Expr.TheOpen as shape
-use Rattle.rng_patterns.specs.declared.grammar.Expr.TheVariants as expr
-use Rattle.rng_patterns.specs.declared.grammar.Expr.{Expr, Expr-F, out-Expr}
-use Rattle.rng_patterns.specs.declared.grammar.Grammar.{Grammar}
-use Rattle.rng_patterns.specs.declared.grammar.NameClass.{NameClass}
+use Rattle.rng_grammar.proofs.OnePattern.{choice_shown, empty_shown, group_shown, list_shown, one_or_more_shown, optional_shown, ref_shown, text_shown, zero_or_more_shown}
+use Rattle.rng_grammar.specs.Denoting as denoting
+use Rattle.rng_grammar.specs.Denoting.{AreDefines, AreOnePattern, AreParams, ArePatterns, AreRules, DenotesOnly, HasAttributes, HasNames, HoldsValue}
+use Rattle.rng_grammar.specs.Denoting.{IsAttribute, IsBody, IsData, IsDefine, IsPattern, IsRule, entry_of, grouped}
+use Rattle.rng_grammar.specs.Linked as linked
+use Rattle.rng_grammar.specs.Linked.{HasPart, StandsWithin, inside, itself, patterns_of, values_of}
+use Rattle.rng_grammar.specs.declared.grammar.AttrPart.TheVariants as attributes
+use Rattle.rng_grammar.specs.declared.grammar.AttrPart.{AttrPart}
+use Rattle.rng_grammar.specs.declared.grammar.AttrRule.{AttrRule}
+use Rattle.rng_grammar.specs.declared.grammar.Body.TheVariants as body
+use Rattle.rng_grammar.specs.declared.grammar.Body.{Body}
+use Rattle.rng_grammar.specs.declared.grammar.Define.{Define}
+use Rattle.rng_grammar.specs.declared.grammar.Expr as E
+use Rattle.rng_grammar.specs.declared.grammar.Expr.TheOpen as shape
+use Rattle.rng_grammar.specs.declared.grammar.Expr.TheVariants as expr
+use Rattle.rng_grammar.specs.declared.grammar.Expr.{Expr, Expr-F, out-Expr}
+use Rattle.rng_grammar.specs.declared.grammar.Grammar.{Grammar}
+use Rattle.rng_grammar.specs.declared.grammar.NameClass.{NameClass}
 use Rattle.rng_types.specs.declared.data_type.DataType.{DataType}
 use Rattle.rng_types.specs.declared.facet.Facet.{Facet}
 use Rattle.rng_types.specs.declared.facet.FacetText.{FacetText}

@@ -10,21 +10,21 @@ use Rattle.rng_types.specs.declared.facet.Facet.{Facet}
 use Rattle.rng_types.specs.declared.facet.FacetText.{FacetText}
 use Rattle.rng_types.specs.declared.item.Item.TheVariants as items
 use Rattle.rng_values.specs.Items.{IsItemOf, ItemFault}
-use Rattle.rng_patterns.specs.Denoting.{entry_of, read_as}
-use Rattle.rng_patterns.specs.Linked.{IsLinked}
-use Rattle.rng_patterns.specs.Sorts.{IsSorted}
-use Rattle.rng_patterns.specs.declared.grammar.AttrPart.TheVariants as attributes
-use Rattle.rng_patterns.specs.declared.grammar.AttrPart.{AttrPart}
-use Rattle.rng_patterns.specs.declared.grammar.AttrRule.{AttrRule}
-use Rattle.rng_patterns.specs.declared.grammar.Body.TheVariants as body
-use Rattle.rng_patterns.specs.declared.grammar.Body.{Body}
-use Rattle.rng_patterns.specs.declared.grammar.Define.{Define}
-use Rattle.rng_patterns.specs.declared.grammar.Expr.TheVariants as expr
-use Rattle.rng_patterns.specs.declared.grammar.Expr.{Expr}
-use Rattle.rng_patterns.specs.declared.grammar.Grammar.{Grammar}
-use Rattle.rng_patterns.specs.declared.grammar.NameClass.TheVariants as class
-use Rattle.rng_patterns.specs.declared.grammar.NameClass.{NameClass}
-use Rattle.rng_patterns.specs.declared.grammar.NsPart.{NsPart}
+use Rattle.rng_grammar.specs.Denoting.{entry_of, read_as}
+use Rattle.rng_grammar.specs.Linked.{IsLinked}
+use Rattle.rng_grammar.specs.Sorts.{IsSorted}
+use Rattle.rng_grammar.specs.declared.grammar.AttrPart.TheVariants as attributes
+use Rattle.rng_grammar.specs.declared.grammar.AttrPart.{AttrPart}
+use Rattle.rng_grammar.specs.declared.grammar.AttrRule.{AttrRule}
+use Rattle.rng_grammar.specs.declared.grammar.Body.TheVariants as body
+use Rattle.rng_grammar.specs.declared.grammar.Body.{Body}
+use Rattle.rng_grammar.specs.declared.grammar.Define.{Define}
+use Rattle.rng_grammar.specs.declared.grammar.Expr.TheVariants as expr
+use Rattle.rng_grammar.specs.declared.grammar.Expr.{Expr}
+use Rattle.rng_grammar.specs.declared.grammar.Grammar.{Grammar}
+use Rattle.rng_grammar.specs.declared.grammar.NameClass.TheVariants as class
+use Rattle.rng_grammar.specs.declared.grammar.NameClass.{NameClass}
+use Rattle.rng_grammar.specs.declared.grammar.NsPart.{NsPart}
 
 -- a datatype and facets that some name and params make, of characters that XML can write
 pub record IsPlainType (k : DataType) (facets : List Facet) : Type 0 where

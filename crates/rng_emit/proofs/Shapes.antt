@@ -17,20 +17,20 @@ use Rattle.rng_types.specs.declared.data_type.DataType.TheVariants as kind
 use Rattle.rng_types.specs.declared.facet.Facet.{Facet}
 use Rattle.rng_types.specs.declared.facet.FacetName.{FacetName}
 use Rattle.rng_types.specs.declared.facet.FacetName.TheVariants as facet
-use Rattle.rng_patterns.specs.Names.{datatype_library, relax_ng_namespace}
-use Rattle.rng_patterns.specs.declared.grammar.AttrPart.{AttrPart}
-use Rattle.rng_patterns.specs.declared.grammar.AttrPart.TheVariants as attributes
-use Rattle.rng_patterns.specs.declared.grammar.AttrRule.{AttrRule}
-use Rattle.rng_patterns.specs.declared.grammar.Body.{Body}
-use Rattle.rng_patterns.specs.declared.grammar.Body.TheVariants as body
-use Rattle.rng_patterns.specs.declared.grammar.Define.{Define}
-use Rattle.rng_patterns.specs.declared.grammar.Expr as E
-use Rattle.rng_patterns.specs.declared.grammar.Expr.{Expr}
-use Rattle.rng_patterns.specs.declared.grammar.Expr.TheVariants as expr
-use Rattle.rng_patterns.specs.declared.grammar.Grammar.{Grammar}
-use Rattle.rng_patterns.specs.declared.grammar.NameClass.{NameClass}
-use Rattle.rng_patterns.specs.declared.grammar.NameClass.TheVariants as class
-use Rattle.rng_patterns.specs.declared.grammar.NsPart.{NsPart}
+use Rattle.rng_grammar.specs.Names.{datatype_library, relax_ng_namespace}
+use Rattle.rng_grammar.specs.declared.grammar.AttrPart.{AttrPart}
+use Rattle.rng_grammar.specs.declared.grammar.AttrPart.TheVariants as attributes
+use Rattle.rng_grammar.specs.declared.grammar.AttrRule.{AttrRule}
+use Rattle.rng_grammar.specs.declared.grammar.Body.{Body}
+use Rattle.rng_grammar.specs.declared.grammar.Body.TheVariants as body
+use Rattle.rng_grammar.specs.declared.grammar.Define.{Define}
+use Rattle.rng_grammar.specs.declared.grammar.Expr as E
+use Rattle.rng_grammar.specs.declared.grammar.Expr.{Expr}
+use Rattle.rng_grammar.specs.declared.grammar.Expr.TheVariants as expr
+use Rattle.rng_grammar.specs.declared.grammar.Grammar.{Grammar}
+use Rattle.rng_grammar.specs.declared.grammar.NameClass.{NameClass}
+use Rattle.rng_grammar.specs.declared.grammar.NameClass.TheVariants as class
+use Rattle.rng_grammar.specs.declared.grammar.NsPart.{NsPart}
 use Rattle.rng_emit.specs.Grammar.{except_markup, named, pattern_markup, attributes_markup, body_markup, class_markup, define_markup, name_markup, name_pairs, part_markup, parts_markup, space_markup, attribute_markup, facet_name, param_markup, rule_markup, type_name}
 use Rattle.rng_emit.proofs.Printable.{IsPlainName, ArePlainAttributes, ArePlainPatterns, IsPlainBody, IsPlainClass, IsPlainDefine, IsPlainPart, IsPlainPattern, IsPlainRule}
 use Rattle.rng_emit.proofs.Printable as is

@@ -17,11 +17,11 @@ use Rattle.odd_tree.specs.declared.tree.Node as N
 use Rattle.odd_tree.specs.declared.tree.Tree.{Tree, out-Tree}
 use Rattle.rng_types.specs.declared.data_type.DataType.{DataType}
 use Rattle.rng_types.specs.declared.facet.Facet.{Facet}
-use Rattle.rng_patterns.proofs.SchemaTrees.{element_passes}
-use Rattle.rng_patterns.specs.Denoting.{IsLeaf, IsNamed, IsPart, parts_of, AreOnePattern, AreParams, ArePatterns, HasText, IsData, IsParam, IsPattern, IsSame, IsStart}
-use Rattle.rng_patterns.specs.Denoting as denoting
-use Rattle.rng_patterns.specs.Names.{relax_ng_namespace}
-use Rattle.rng_patterns.specs.declared.grammar.Expr.{Expr}
+use Rattle.rng_grammar.proofs.SchemaTrees.{element_passes}
+use Rattle.rng_grammar.specs.Denoting.{IsLeaf, IsNamed, IsPart, parts_of, AreOnePattern, AreParams, ArePatterns, HasText, IsData, IsParam, IsPattern, IsSame, IsStart}
+use Rattle.rng_grammar.specs.Denoting as denoting
+use Rattle.rng_grammar.specs.Names.{relax_ng_namespace}
+use Rattle.rng_grammar.specs.declared.grammar.Expr.{Expr}
 use Rattle.rng_emit.proofs.Shapes.{choice_is, empty_is, group_is, list_is, not_allowed_is, one_or_more_is, optional_is, ref_is, same_is, text_is, typed_is, zero_or_more_is}
 use Rattle.rng_emit.proofs.ShownTypes.{param_of, params_of, printed_item, printed_sound, reads}
 use Rattle.rng_emit.specs.Grammar.{facet_name, named, param_markup, pattern_markup, type_name}

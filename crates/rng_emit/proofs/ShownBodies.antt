@@ -15,19 +15,19 @@ use Rattle.odd_tree.specs.Elements.{attribute_value, given}
 use Rattle.odd_tree.specs.Markup.{Markup, Pair, all_of, element, plain}
 use Rattle.odd_tree.specs.declared.tree.Node.{Text}
 use Rattle.odd_tree.specs.declared.tree.Tree.{Tree}
-use Rattle.rng_patterns.specs.Denoting as denoting
-use Rattle.rng_patterns.specs.Denoting.{AreExcepted, AreSpaceParts, HasExcept, IsNameClass, IsNameOf, IsSpaceOf, IsSpacePart, parts_of, AreDefines, AreOnePattern, HasAttributes, HasNames, IsAnyAttributes, IsBody, IsDefine, IsElementOf, IsPart, AreRules, HoldsValue, IsAttribute, IsRule}
-use Rattle.rng_patterns.specs.Names.{relax_ng_namespace}
-use Rattle.rng_patterns.specs.declared.grammar.AttrPart.{AttrPart}
-use Rattle.rng_patterns.specs.declared.grammar.AttrPart.TheVariants as attributes
-use Rattle.rng_patterns.specs.declared.grammar.AttrRule.{AttrRule}
-use Rattle.rng_patterns.specs.declared.grammar.Body.{Body}
-use Rattle.rng_patterns.specs.declared.grammar.Body.TheVariants as body
-use Rattle.rng_patterns.specs.declared.grammar.Define.{Define}
-use Rattle.rng_patterns.specs.declared.grammar.Expr.{Expr}
-use Rattle.rng_patterns.specs.declared.grammar.NameClass.{NameClass}
-use Rattle.rng_patterns.specs.declared.grammar.NameClass.TheVariants as class
-use Rattle.rng_patterns.specs.declared.grammar.NsPart.{NsPart}
+use Rattle.rng_grammar.specs.Denoting as denoting
+use Rattle.rng_grammar.specs.Denoting.{AreExcepted, AreSpaceParts, HasExcept, IsNameClass, IsNameOf, IsSpaceOf, IsSpacePart, parts_of, AreDefines, AreOnePattern, HasAttributes, HasNames, IsAnyAttributes, IsBody, IsDefine, IsElementOf, IsPart, AreRules, HoldsValue, IsAttribute, IsRule}
+use Rattle.rng_grammar.specs.Names.{relax_ng_namespace}
+use Rattle.rng_grammar.specs.declared.grammar.AttrPart.{AttrPart}
+use Rattle.rng_grammar.specs.declared.grammar.AttrPart.TheVariants as attributes
+use Rattle.rng_grammar.specs.declared.grammar.AttrRule.{AttrRule}
+use Rattle.rng_grammar.specs.declared.grammar.Body.{Body}
+use Rattle.rng_grammar.specs.declared.grammar.Body.TheVariants as body
+use Rattle.rng_grammar.specs.declared.grammar.Define.{Define}
+use Rattle.rng_grammar.specs.declared.grammar.Expr.{Expr}
+use Rattle.rng_grammar.specs.declared.grammar.NameClass.{NameClass}
+use Rattle.rng_grammar.specs.declared.grammar.NameClass.TheVariants as class
+use Rattle.rng_grammar.specs.declared.grammar.NsPart.{NsPart}
 use Rattle.rng_emit.proofs.Shown.{AreShown, IsShown, is_part, leaf_shown, named_so, shown, value_in, HoldsParts, holds_parts, one_attribute, one_part, Allows, no_attribute, one_pattern, pattern_shown}
 use Rattle.rng_emit.specs.Grammar.{attribute_markup, except_markup, name_markup, part_markup, parts_markup, space_markup, any_attributes, attributes_markup, body_markup, define_markup, pattern_markup, rule_markup}
 use Rattle.rng_emit.proofs.Printable.{IsPlainName, IsPlainPart, ArePlainAttributes, IsPlainBody, IsPlainClass, IsPlainDefine, IsPlainPattern, IsPlainRule}

@@ -14,8 +14,8 @@ use Rattle.rng_values.specs.Facets.{takes_facet}
 use Rattle.rng_values.specs.Items.{FacetFault, IsFacetOf, IsItemOf, ItemFault, place_of}
 use Rattle.rng_values.specs.Items as values
 use Rattle.rng_values.specs.Names.{facet_names, named, type_names}
-use Rattle.rng_patterns.proofs.OneData.{AreApart, RisesFrom, rises}
-use Rattle.rng_patterns.specs.Denoting.{read_as}
+use Rattle.rng_grammar.proofs.OneData.{AreApart, RisesFrom, rises}
+use Rattle.rng_grammar.specs.Denoting.{read_as}
 use Rattle.rng_emit.proofs.Printable.{IsPlainType}
 use Rattle.rng_emit.specs.Grammar.{facet_name, type_name}
 

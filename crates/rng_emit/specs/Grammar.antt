@@ -8,19 +8,19 @@ use Rattle.rng_types.specs.declared.data_type.DataType.{DataType}
 use Rattle.rng_types.specs.declared.facet.Facet.{Facet}
 use Rattle.rng_types.specs.declared.facet.FacetName.TheVariants as facet
 use Rattle.rng_types.specs.declared.facet.FacetName.{FacetName}
-use Rattle.rng_patterns.specs.Names.{datatype_library, relax_ng_namespace}
-use Rattle.rng_patterns.specs.declared.grammar.AttrPart.TheVariants as attributes
-use Rattle.rng_patterns.specs.declared.grammar.AttrPart.{AttrPart}
-use Rattle.rng_patterns.specs.declared.grammar.AttrRule.{AttrRule}
-use Rattle.rng_patterns.specs.declared.grammar.Body.TheVariants as body
-use Rattle.rng_patterns.specs.declared.grammar.Body.{Body}
-use Rattle.rng_patterns.specs.declared.grammar.Define.{Define}
-use Rattle.rng_patterns.specs.declared.grammar.Expr.TheOpen.{Empty, NotAllowed, Text, Typed, Same, List as ListOf, Ref, Group, Choice, Optional, ZeroOrMore, OneOrMore}
-use Rattle.rng_patterns.specs.declared.grammar.Expr.{Expr, Expr-F, fold-Expr}
-use Rattle.rng_patterns.specs.declared.grammar.Grammar.{Grammar}
-use Rattle.rng_patterns.specs.declared.grammar.NameClass.TheVariants as class
-use Rattle.rng_patterns.specs.declared.grammar.NameClass.{NameClass}
-use Rattle.rng_patterns.specs.declared.grammar.NsPart.{NsPart}
+use Rattle.rng_grammar.specs.Names.{datatype_library, relax_ng_namespace}
+use Rattle.rng_grammar.specs.declared.grammar.AttrPart.TheVariants as attributes
+use Rattle.rng_grammar.specs.declared.grammar.AttrPart.{AttrPart}
+use Rattle.rng_grammar.specs.declared.grammar.AttrRule.{AttrRule}
+use Rattle.rng_grammar.specs.declared.grammar.Body.TheVariants as body
+use Rattle.rng_grammar.specs.declared.grammar.Body.{Body}
+use Rattle.rng_grammar.specs.declared.grammar.Define.{Define}
+use Rattle.rng_grammar.specs.declared.grammar.Expr.TheOpen.{Empty, NotAllowed, Text, Typed, Same, List as ListOf, Ref, Group, Choice, Optional, ZeroOrMore, OneOrMore}
+use Rattle.rng_grammar.specs.declared.grammar.Expr.{Expr, Expr-F, fold-Expr}
+use Rattle.rng_grammar.specs.declared.grammar.Grammar.{Grammar}
+use Rattle.rng_grammar.specs.declared.grammar.NameClass.TheVariants as class
+use Rattle.rng_grammar.specs.declared.grammar.NameClass.{NameClass}
+use Rattle.rng_grammar.specs.declared.grammar.NsPart.{NsPart}
 use Rattle.std.specs.Prelude.{if◌then◌else◌}
 use Rattle.odd_tokens.specs.Same.{is_same}
 

@@ -2,7 +2,7 @@
 use Rattle.std.specs.Prelude.{ℕ, zero, ◌+◌, map}
 use Rattle.odd_tree.specs.Markup.{Markup, Markups, declaring, element, line, none, more}
 use Rattle.rng_emit.specs.Grammar.{define_markup, grammar_markup, pattern_markup}
-use Rattle.rng_patterns.specs.declared.grammar.Grammar.{Grammar}
+use Rattle.rng_grammar.specs.declared.grammar.Grammar.{Grammar}
 
 abbrev mutual
   -- the element and those in it

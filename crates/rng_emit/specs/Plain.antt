@@ -1,12 +1,12 @@
 -- Which grammars a text can say: those that some bytes denote, where each list of patterns has two parts or more.
 use Rattle.std.specs.Prelude.{◌≤◌, ℕ, List, length}
 use Rattle.odd_tree.specs.Elements.{StandsIn}
-use Rattle.rng_patterns.specs.Denoting.{Denotes}
-use Rattle.rng_patterns.specs.Linked.{StandsWithin, patterns_of}
-use Rattle.rng_patterns.specs.declared.grammar.Define.{Define}
-use Rattle.rng_patterns.specs.declared.grammar.Expr.TheVariants as expr
-use Rattle.rng_patterns.specs.declared.grammar.Expr.{Expr}
-use Rattle.rng_patterns.specs.declared.grammar.Grammar.{Grammar}
+use Rattle.rng_grammar.specs.Denoting.{Denotes}
+use Rattle.rng_grammar.specs.Linked.{StandsWithin, patterns_of}
+use Rattle.rng_grammar.specs.declared.grammar.Define.{Define}
+use Rattle.rng_grammar.specs.declared.grammar.Expr.TheVariants as expr
+use Rattle.rng_grammar.specs.declared.grammar.Expr.{Expr}
+use Rattle.rng_grammar.specs.declared.grammar.Grammar.{Grammar}
 
 -- each list in the pattern has two parts or more
 pub record HasLongLists (p : Expr) : Type 0 where

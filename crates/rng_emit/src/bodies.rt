@@ -1,7 +1,7 @@
 ghost use Rattle.std.specs.Prelude.{◌≡◌, [], ◌∷◌, ◌++◌, map, OnOk, codes, if◌then◌else◌};
 ghost use Rattle.odd_tree.specs.Markup.{all_of, all_printed, attributes_printed, printed};
 ghost use Rattle.odd_tokens.specs.Same.{is_same};
-ghost use Rattle.rng_patterns.specs.declared.grammar.Body.TheVariants as body;
+ghost use Rattle.rng_grammar.specs.declared.grammar.Body.TheVariants as body;
 ghost use Rattle.rng_emit.specs.Grammar.{any_attributes, attribute_markup, attributes_markup, body_markup, define_markup, rule_markup};
 
 use crate::names::{add_names, begin_element};
@@ -10,7 +10,7 @@ use odd_printing::{
     add_attribute, add_empty_tag, add_end_tag, add_start_tag, begin_tag_with, end_start_tag,
 };
 use odd_text::{Name, NoMemory, Text};
-use rng_patterns::{AttrPart, AttrRule, Body, Define, Defines, Expr, NameClass, Rules};
+use rng_grammar::{AttrPart, AttrRule, Body, Define, Defines, Expr, NameClass, Rules};
 
 /// Puts the defines of a grammar.
 pub fn add_defines(out: &mut Text, defines: &Defines) -> Result<(), NoMemory>

@@ -7,7 +7,7 @@ use odd_printing::{
     end_empty_tag, end_line, end_start_tag,
 };
 use odd_text::{Name, Names, NoMemory, Text, Words};
-use rng_patterns::{NameClass, NsPart, NsParts};
+use rng_grammar::{NameClass, NsPart, NsParts};
 
 /// Begins the tag of an element, with its name where it has one.
 pub fn begin_element(out: &mut Text, names: &NameClass) -> Result<(), NoMemory>

@@ -5,7 +5,7 @@ ghost use Rattle.rng_emit.specs.Grammar.{named, pattern_markup};
 use crate::values::{add_data, add_value};
 use odd_printing::{add_empty_tag, add_end_tag, add_start_tag, begin_tag_with, end_empty_tag};
 use odd_text::{NoMemory, Text};
-use rng_patterns::{Expr, Exprs};
+use rng_grammar::{Expr, Exprs};
 
 /// Puts a pattern as the element of its name.
 #[cycle(patterns)]

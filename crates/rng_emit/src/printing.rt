@@ -1,6 +1,6 @@
 ghost use Rattle.std.specs.Prelude.{◌≡◌, [], ◌∷◌, ◌++◌, IfOk, OnOk, codes};
 ghost use Rattle.odd_tree.specs.Markup.{plain, printed};
-ghost use Rattle.rng_patterns.specs.Denoting.{DenotesOnly};
+ghost use Rattle.rng_grammar.specs.Denoting.{DenotesOnly};
 ghost use Rattle.rng_emit.specs.Grammar.{grammar_text, pattern_markup};
 ghost use Rattle.rng_emit.specs.Plain.{IsPlain};
 
@@ -10,7 +10,7 @@ use odd_printing::{
     add_attribute, add_declaration, add_end_tag, add_start_tag, begin_tag_with, end_start_tag,
 };
 use odd_text::{NoMemory, Text};
-use rng_patterns::{Expr, Grammar};
+use rng_grammar::{Expr, Grammar};
 use std::alloc::Global;
 
 /// The namespace of RELAX NG.

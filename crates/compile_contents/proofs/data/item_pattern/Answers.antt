@@ -1,6 +1,6 @@
 use Rattle.std.proofs.Common.{◌+◌, ◌∙◌, sym, ap, arith}
-use Rattle.rng_patterns.specs.Denoting.{read_as}
-use Rattle.rng_patterns.specs.declared.grammar.Expr.TheVariants as expr
+use Rattle.rng_grammar.specs.Denoting.{read_as}
+use Rattle.rng_grammar.specs.declared.grammar.Expr.TheVariants as expr
 use Rattle.compile_contents.proofs.DataElements.{typed_elements}
 use Rattle.compile_contents.proofs.Taking.{making_refused}
 use Rattle.compile_contents.specs.Budget.{pattern_elements}

@@ -1,6 +1,6 @@
 use Rattle.std.proofs.Common.{◌≡◌, ◌∙◌, sym, ap, arith}
 use Rattle.odd_meaning.specs.Values.{bounds_of}
-use Rattle.rng_patterns.specs.declared.grammar.Expr.TheVariants as expr
+use Rattle.rng_grammar.specs.declared.grammar.Expr.TheVariants as expr
 use Rattle.compile_contents.proofs.DataElements.{list_elements, piece_in_value, value_listed}
 use Rattle.compile_contents.proofs.Taking.{making_refused}
 use Rattle.compile_contents.specs.Budget.{pattern_elements}

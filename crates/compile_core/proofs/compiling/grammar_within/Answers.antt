@@ -8,7 +8,7 @@ use Rattle.compile_defines.specs.Compiled.{IsGrammarOf, offers_in}
 use Rattle.compile_defines.specs.Elements.{HasTakenSet, define_elements}
 use Rattle.std.specs.Prelude.{sum_by}
 use Rattle.rng_emit.specs.Nodes.{text_nodes}
-use Rattle.rng_patterns.specs.declared.grammar.Define.{Define}
+use Rattle.rng_grammar.specs.declared.grammar.Define.{Define}
 use Rattle.compile_core.proofs.AllOffers.{all_offers}
 use Rattle.compile_core.proofs.Blocks.{made}
 use Rattle.compile_core.proofs.MembersExist.{members_exist}

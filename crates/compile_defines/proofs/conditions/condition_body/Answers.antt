@@ -1,8 +1,8 @@
 use Rattle.std.proofs.Common.{◌≡◌, ◌+◌, ◌∙◌, [], length, map, rules, sym, ap, subst, arith}
 use Rattle.std.specs.Prelude.{IfOk, sum_by}
-use Rattle.rng_patterns.specs.declared.grammar.AttrPart.TheVariants as attributes
-use Rattle.rng_patterns.specs.declared.grammar.Body.TheVariants as body
-use Rattle.rng_patterns.specs.declared.grammar.NameClass.TheVariants as class
+use Rattle.rng_grammar.specs.declared.grammar.AttrPart.TheVariants as attributes
+use Rattle.rng_grammar.specs.declared.grammar.Body.TheVariants as body
+use Rattle.rng_grammar.specs.declared.grammar.NameClass.TheVariants as class
 use Rattle.compile_contents.proofs.Taking.{made_after, making_refused}
 use Rattle.compile_contents.specs.Budget.{joint_elements}
 use Rattle.compile_defines.proofs.NameElements.{nothing_required, parts_in_body, some_left}

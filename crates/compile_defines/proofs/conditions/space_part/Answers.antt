@@ -1,7 +1,7 @@
 use Rattle.std.proofs.Common.{◌≡◌, ◌+◌, ◌∙◌, length, ap, arith}
 use Rattle.std.specs.List.{filter}
 use Rattle.odd_tokens.specs.Same.{is_same}
-use Rattle.rng_patterns.specs.declared.grammar.NsPart.{NsPart}
+use Rattle.rng_grammar.specs.declared.grammar.NsPart.{NsPart}
 use Rattle.compile_contents.proofs.Taking.{making_refused}
 use Rattle.compile_defines.proofs.NameElements.{part_is}
 use Rattle.compile_defines.specs.Elements.{excepting_elements, part_elements}

@@ -4,7 +4,7 @@ use Rattle.std.proofs.lemmas.List.Sums.{sum_by-append, sum_by-cons}
 use Rattle.std.specs.List.{filter}
 use Rattle.std.specs.Prelude.{sum_by}
 use Rattle.odd_tokens.specs.Same.{is_same}
-use Rattle.rng_patterns.specs.declared.grammar.NsPart.{NsPart}
+use Rattle.rng_grammar.specs.declared.grammar.NsPart.{NsPart}
 use Rattle.compile_contents.proofs.Elements.{mapped_within}
 use Rattle.compile_contents.proofs.Taking.{making_refused}
 use Rattle.compile_defines.specs.Compiled.{space_part, spaces_left}

@@ -1,0 +1,9 @@
+pub mod Acceptance
+pub mod Counted
+pub mod Denoting
+pub mod Linked
+pub mod Names
+pub mod Nodes
+pub mod Patterns
+pub mod Sorts
+pub mod Weighing

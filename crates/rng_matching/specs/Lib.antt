@@ -1,0 +1,4 @@
+pub mod Chars
+pub mod Machine
+pub mod Making
+pub mod Times

@@ -1,6 +1,0 @@
-use Rattle.std.proofs.Common.{take}
-use Rattle.rng_patterns.specs.Weighing.{AreArrows}
-use Rattle.rng_patterns.proofs.nodes.arrows.Given as goal
-
-abbrev pub invariant-loop-define : goal.invariant-loop-define
-invariant-loop-define l = AreArrows l.places (take l.define-index l.defines) l.arrows.items
