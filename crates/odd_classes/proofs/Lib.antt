@@ -11,6 +11,7 @@ pub mod MacroFacts
 pub mod MacrosOrdered
 pub mod MixesData
 pub mod NamedKeys
+pub mod OfKind
 pub mod OfferTables
 pub mod OffersListed
 pub mod OffersSet

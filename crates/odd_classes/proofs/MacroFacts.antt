@@ -1,9 +1,8 @@
 -- The map of macros tells of each what holds of it, one macro after the other.
-use Rattle.std.proofs.Common.{◌≡◌, ◌↔◌, ◌++◌, ◌∷◌, ◌<◌, ◌≤◌, ◌+◌, ℕ, Bool, List, [], Some, true, false, filter, is_some, length, take, drop, get_or, inl, inr, ⊎_elim, refl, sym, ap, subst, ◌∙◌, if◌then◌else◌}
+use Rattle.std.proofs.Common.{◌≡◌, ◌↔◌, ◌++◌, ◌∷◌, ◌<◌, ◌≤◌, ◌+◌, ℕ, Bool, List, [], Some, true, false, is_some, length, take, drop, get_or, inl, inr, ⊎_elim, refl, sym, ap, subst, ◌∙◌, if◌then◌else◌}
 use Rattle.std.proofs.lemmas.Bool.{false≢true}
 use Rattle.std.proofs.lemmas.Cmp.{nat_list_cmp_total}
 use Rattle.std.proofs.lemmas.List.{take-append-drop, take_all}
-use Rattle.std.proofs.lemmas.List.Elements.{filter-append}
 use Rattle.std.proofs.lemmas.Map.Views.{tells_apart}
 use Rattle.std.proofs.lemmas.Option.{same_Some}
 use Rattle.std.specs.Cmp.{tied_itself}
@@ -23,6 +22,7 @@ use Rattle.odd_text.specs.Text.{text_cmp}
 use Rattle.odd_text.specs.declared.key.Key.{Key}
 use Rattle.odd_tree.proofs.InList.{begins, ends, nothing_stands, stands_push}
 use Rattle.odd_tree.specs.Elements.{StandsIn}
+use Rattle.odd_classes.proofs.OfKind.{stands_among}
 use Rattle.odd_classes.proofs.DataLaws.{IsByNamed, data_by, macro_data, macro_reaches, reaches_by}
 use Rattle.odd_classes.specs.DataFacts.{AreFactsOf, Facts, HasFacts, TellsData, TellsReaches}
 use Rattle.odd_classes.specs.Ranking.{IsMacroOrder}
@@ -31,12 +31,6 @@ use Rattle.odd_classes.specs.declared.data.DataFacts.{DataFacts}
 -- idents that tie are one
 one_ident : (a b : List ℕ) → eq_by_cmp text_cmp a b ≡ true → a ≡ b
 one_ident = tells_apart (slice_cmp-IsAntisymmetric nat_cmp-IsAntisymmetric)
-
--- a macro that stands among keys stands among those of macros
-macro_stands : (keys : List Key) (ident : List ℕ) → StandsIn keys (macro_key ident) → StandsIn (filter (λ k. is_macro k.kind) keys) (macro_key ident)
-macro_stands keys ident s =
-    let test = λ (k : Key). is_macro k.kind in
-    (filter test s.0, filter test s.1, ap (filter test) s.2 ∙ filter-append test s.0 (macro_key ident ∷ s.1))
 
 module _ (library : Library) where
   -- the macro is held with this content
@@ -67,7 +61,7 @@ module _ (library : Library) where
           same_part other also = let same = same_Some _ _ (sym also ∙ held) in cc
 
           among : (key : List ℕ) → StandsIn (named_in part.content) (macro_key key) → IsLeast By library key → StandsIn before key
-          among key s t = named key (record { part = component.Macro part; held = held; among = macro_stands (named_in part.content) key s; other_held = ap is_some ((least key).0 t).1 })
+          among key s t = named key (record { part = component.Macro part; held = held; among = stands_among (λ k. is_macro k.kind) (named_in part.content) (macro_key key) refl s; other_held = ap is_some ((least key).0 t).1 })
 
       -- with one macro more that is told of
       tells_more : (now : OfMacros) → now ident ↔ IsLeast By library ident → ((other : List ℕ) → (other ≡ ident → ⊥) → now other ↔ tells other) → TellsOf By (before ++ ident ∷ []) now

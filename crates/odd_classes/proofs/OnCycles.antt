@@ -1,6 +1,6 @@
 -- Which rule a component breaks that leads to itself.
 use Rattle.std.proofs.Common.{◌≡◌, ◌≢◌, ℕ, Bool, true, List, [], filter, map, inl, inr, refl, sym, ap, subst, arith}
-use Rattle.std.proofs.lemmas.List.Elements.{All-contains, All-from_get_or, All-map, filter_passes}
+use Rattle.std.proofs.lemmas.List.Elements.{All-contains, All-from_get_or, All-map}
 use Rattle.std.specs.declared.cmp.Ordering.TheVariants.{Greater}
 use Rattle.odd_graph.proofs.Chains.{last_step}
 use Rattle.odd_graph.specs.Graph.{Chained}
@@ -13,11 +13,12 @@ use Rattle.odd_text.specs.declared.key.Kind.{Kind}
 use Rattle.odd_text.specs.declared.key.Kind.TheVariants as kind
 use Rattle.odd_tree.proofs.InList.{contained}
 use Rattle.odd_tree.specs.Elements.{StandsIn}
+use Rattle.odd_classes.proofs.OfKind.{among_passes}
 use Rattle.odd_classes.specs.Placing.{IsFirstAmong, LeadsToItself}
 use Rattle.odd_classes.specs.declared.links.Link.TheVariants as link
 
 -- what stands among the keys of classes is one
-pub class_among : (words : List (List ℕ)) (key : Key) → StandsIn (map class_key words) key → key ≡ class_key key.ident
+class_among : (words : List (List ℕ)) (key : Key) → StandsIn (map class_key words) key → key ≡ class_key key.ident
 class_among words key s =
     let is = λ (k : Key). k ≡ class_key k.ident in
     All-contains is (map class_key words) key (All-map is class_key words (All-from_get_or (λ w. is (class_key w)) words [] (λ i h. refl))) (contained (map class_key words) key s)
@@ -25,9 +26,7 @@ class_among words key s =
 -- what stands among those of a kind is of it
 of_kind : (test : Kind → Bool) (k : Kind) → ((other : Kind) → test other ≡ true → other ≡ k) → (keys : List Key) (key : Key) → StandsIn (filter (λ x. test x.kind) keys) key
     → key ≡ record { kind = k; ident = key.ident }
-of_kind test k only keys key s =
-    let passed = All-contains (λ (x : Key). test x.kind ≡ true) (filter (λ x. test x.kind) keys) key (filter_passes (λ x. test x.kind) keys) (contained (filter (λ x. test x.kind) keys) key s) in
-    ap (λ (x : Kind). record { kind = x; ident = key.ident }) (only key.kind passed)
+of_kind test k only keys key s = ap (λ (x : Kind). record { kind = x; ident = key.ident }) (only key.kind (among_passes (λ x. test x.kind) keys key s))
 
 -- the only kind of macros
 pub macro_kind : (k : Kind) → is_macro k ≡ true → k ≡ kind.Macro

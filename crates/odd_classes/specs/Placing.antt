@@ -1,5 +1,5 @@
 -- What the private functions of this crate keep: the places of keys among the entries of a library, and its graph by a link.
-use Rattle.std.specs.Prelude.{◌≡◌, ◌≢◌, ◌↔◌, ℕ, Bool, false, List, Option, Some, None, length, slice_get}
+use Rattle.std.specs.Prelude.{◌≡◌, ◌≢◌, ◌↔◌, ℕ, Bool, false, true, filter, List, Option, Some, None, length, slice_get}
 use Rattle.std.specs.List.{Contains}
 use Rattle.std.specs.declared.cmp.Ordering.TheVariants.{Greater}
 use Rattle.odd_text.specs.Key.{key_cmp}
@@ -17,6 +17,7 @@ use Rattle.odd_library.specs.declared.library.Library.{Library}
 use Rattle.odd_meaning.specs.Links.{IsHeld, IsLinked, class_key, classes_of, datatype_key, datatypes_of, is_datatype, is_macro, macro_key, macros_of}
 use Rattle.odd_meaning.specs.Rules.{IsOfAttributes, Names}
 use Rattle.odd_text.specs.declared.key.Kind.{Kind}
+use Rattle.odd_text.specs.declared.key.Kind.TheVariants as kind
 use Rattle.odd_classes.specs.declared.cycles.CycleRefusal.{CycleRefusal}
 use Rattle.odd_classes.specs.declared.cycles.CycleRefusal.TheVariants as cycle
 use Rattle.odd_classes.specs.declared.rules.LibraryRefusal.{LibraryRefusal}
@@ -32,11 +33,17 @@ keys_by link.Classes part = classes_of part
 keys_by link.Macros part = macros_of part
 keys_by link.Datatypes part = datatypes_of part
 
--- the link follows keys of the kind, of those that a component names
-abbrev pub is_followed : Link → Kind → Bool
-is_followed link.Classes k = false
-is_followed link.Macros k = is_macro k
-is_followed link.Datatypes k = is_datatype k
+-- the first kind is the second
+abbrev pub is_of_kind : Kind → Kind → Bool
+is_of_kind kind.Macro k = is_macro k
+is_of_kind kind.Datatype k = is_datatype k
+is_of_kind kind.Element kind.Element = true
+is_of_kind kind.Class kind.Class = true
+is_of_kind wanted k = false
+
+-- the keys that are of a kind
+abbrev pub those_of : Kind → List Key → List Key
+those_of wanted keys = filter (λ key. is_of_kind wanted key.kind) keys
 
 -- the datatype that an edit of an attribute gives
 abbrev pub datatype_in : AttEdit → Option Datatype
@@ -49,6 +56,12 @@ abbrev pub rule_of : WrongReference → ℕ
 rule_of wrong.MacroNotHeld = 11
 rule_of wrong.DatatypeNotHeld = 12
 rule_of wrong.OfAttributes = 17
+
+-- the kind of what it is to
+abbrev pub kind_of : WrongReference → Kind
+kind_of wrong.MacroNotHeld = kind.Macro
+kind_of wrong.DatatypeNotHeld = kind.Datatype
+kind_of wrong.OfAttributes = kind.Class
 
 -- a cycle, as an offence of a library
 abbrev pub as_library : CycleRefusal → LibraryRefusal

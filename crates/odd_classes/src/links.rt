@@ -1,7 +1,7 @@
-ghost use Rattle.std.specs.Prelude.{◌≡◌, [], ◌∷◌, ◌++◌, IfOk, OnOk, filter, flat_map, map};
+ghost use Rattle.std.specs.Prelude.{◌≡◌, [], ◌∷◌, ◌++◌, IfOk, OnOk, flat_map, map};
 ghost use Rattle.std.specs.Option.{option_copied};
-ghost use Rattle.odd_meaning.specs.Links.{class_key, classes_of, named_by as the_named_by, named_by_edits, named_by_item, named_in};
-ghost use Rattle.odd_classes.specs.Placing.{datatype_in, keys_by, is_followed};
+ghost use Rattle.odd_meaning.specs.Links.{class_key, classes_of, named_by as the_named_by, named_by_edit, named_by_item, named_in};
+ghost use Rattle.odd_classes.specs.Placing.{datatype_in, is_of_kind, keys_by, those_of};
 
 use odd_attributes::{AttEdit, AttEdits, Datatype};
 use odd_content::{Content, Contents};
@@ -27,7 +27,8 @@ pub fn linked(alloc: Global, link: Link, part: &Component) -> Result<Keys, NoMem
 {
     match link {
         Link::Classes => classes(alloc, part),
-        Link::Macros | Link::Datatypes => followed(alloc, link, &named(alloc, part)?),
+        Link::Macros => named(alloc, Kind::Macro, part),
+        Link::Datatypes => named(alloc, Kind::Datatype, part),
     }
 }
 
@@ -53,82 +54,74 @@ fn class_keys(alloc: Global, words: &Words) -> Result<Keys, NoMemory>
     Ok(keys)
 }
 
-// Those of the keys that the link follows.
-fn followed(alloc: Global, link: Link, keys: &Keys) -> Result<Keys, NoMemory>
-    ensures { IfOk result (λ made. made ≡ filter (λ key. is_followed link key.kind) keys.now) }
-{
-    let mut made = Keys::new(alloc);
-    for key in keys.as_slice() {
-        if follows(link, key.kind) {
-            made.push(key.copy(alloc)?)?;
-        }
-    }
-    Ok(made)
-}
-
-// Whether the link follows keys of a kind.
-fn follows(link: Link, kind: Kind) -> bool
-    ensures { result ≡ is_followed link kind }
-{
-    matches!(
-        (link, kind),
-        (Link::Macros, Kind::Macro) | (Link::Datatypes, Kind::Datatype)
-    )
-}
-
-/// The keys that a component names, in its content and in its edits of attributes.
-pub fn named(alloc: Global, part: &Component) -> Result<Keys, NoMemory>
-    ensures { IfOk result (λ keys. keys ≡ the_named_by part.now) }
+/// The keys of a kind that a component names, in its content and in its edits of attributes.
+pub fn named(alloc: Global, wanted: Kind, part: &Component) -> Result<Keys, NoMemory>
+    ensures { IfOk result (λ keys. keys ≡ those_of wanted (the_named_by part.now)) }
 {
     let mut keys = Keys::new(alloc);
     match part {
         Component::Element(part) => {
-            push_named(alloc, &mut keys, &part.content)?;
-            push_datatypes(alloc, &mut keys, &part.atts)?;
+            push_named(alloc, wanted, &mut keys, &part.content)?;
+            push_datatypes(alloc, wanted, &mut keys, &part.atts)?;
         }
-        Component::Class(part) => push_datatypes(alloc, &mut keys, &part.atts)?,
+        Component::Class(part) => push_datatypes(alloc, wanted, &mut keys, &part.atts)?,
         Component::Macro(part) | Component::Datatype(part) => {
-            push_named(alloc, &mut keys, &part.content)?;
+            push_named(alloc, wanted, &mut keys, &part.content)?;
         }
     }
     Ok(keys)
 }
 
-// Puts the keys that a content names, at any depth, at the end.
+// Puts the keys of a kind that a content names, at any depth, at the end.
 #[cycle(push_named)]
-fn push_named(alloc: Global, keys: &mut Keys, content: &Content) -> Result<(), NoMemory>
-    ensures { OnOk result (keys.new ≡ keys.old ++ named_in content.now) }
+fn push_named(
+    alloc: Global,
+    wanted: Kind,
+    keys: &mut Keys,
+    content: &Content,
+) -> Result<(), NoMemory>
+    ensures { OnOk result (keys.new ≡ keys.old ++ those_of wanted (named_in content.now)) }
 {
     match content {
-        Content::Value(item) => push_item(alloc, keys, item),
-        Content::Element { key, bounds: _ } => push_key(alloc, keys, Kind::Element, key),
-        Content::Class { key, .. } => push_key(alloc, keys, Kind::Class, key),
-        Content::Macro { key, bounds: _ } => push_key(alloc, keys, Kind::Macro, key),
-        Content::Sequence { parts, bounds: _ } => push_named_of(alloc, keys, parts),
-        Content::Alternate { parts, bounds: _ } => push_named_of(alloc, keys, parts),
+        Content::Value(item) => push_item(alloc, wanted, keys, item),
+        Content::Element { key, bounds: _ } => push_of(alloc, wanted, keys, Kind::Element, key),
+        Content::Class { key, .. } => push_of(alloc, wanted, keys, Kind::Class, key),
+        Content::Macro { key, bounds: _ } => push_of(alloc, wanted, keys, Kind::Macro, key),
+        Content::Sequence { parts, bounds: _ } => push_named_of(alloc, wanted, keys, parts),
+        Content::Alternate { parts, bounds: _ } => push_named_of(alloc, wanted, keys, parts),
         Content::Empty | Content::Text | Content::Vals(_) | Content::Any { .. } => Ok(()),
     }
 }
 
 // The same of each part.
 #[cycle(push_named)]
-fn push_named_of(alloc: Global, keys: &mut Keys, parts: &Contents) -> Result<(), NoMemory>
-    ensures { OnOk result (keys.new ≡ keys.old ++ flat_map named_in parts.now) }
+fn push_named_of(
+    alloc: Global,
+    wanted: Kind,
+    keys: &mut Keys,
+    parts: &Contents,
+) -> Result<(), NoMemory>
+    ensures { OnOk result (keys.new ≡ keys.old ++ flat_map (λ part. those_of wanted (named_in part)) parts.now) }
 {
     for part in parts.as_slice() {
-        push_named(alloc, keys, part)?;
+        push_named(alloc, wanted, keys, part)?;
     }
     Ok(())
 }
 
-// Puts the keys of the datatypes that edits of attributes name at the end.
-fn push_datatypes(alloc: Global, keys: &mut Keys, edits: &AttEdits) -> Result<(), NoMemory>
-    ensures { OnOk result (keys.new ≡ keys.old ++ named_by_edits edits.now) }
+// Puts the keys of the datatypes that edits of attributes name at the end, where datatypes are wanted.
+fn push_datatypes(
+    alloc: Global,
+    wanted: Kind,
+    keys: &mut Keys,
+    edits: &AttEdits,
+) -> Result<(), NoMemory>
+    ensures { OnOk result (keys.new ≡ keys.old ++ flat_map (λ e. those_of wanted (named_by_edit e.1)) edits.now) }
 {
     for at in 0..edits.len() {
         if let Some(edit) = edits.value(at) {
             if let Some(datatype) = datatype_of(edit) {
-                push_item(alloc, keys, &datatype.item)?;
+                push_item(alloc, wanted, keys, &datatype.item)?;
             }
         }
     }
@@ -146,14 +139,43 @@ fn datatype_of(edit: &AttEdit) -> Option<&Datatype>
     }
 }
 
-// Puts the key of the datatype that an item names at the end.
-fn push_item(alloc: Global, keys: &mut Keys, item: &Item) -> Result<(), NoMemory>
-    ensures { OnOk result (keys.new ≡ keys.old ++ named_by_item item.now) }
+// Puts the key of the datatype that an item names at the end, where datatypes are wanted.
+fn push_item(alloc: Global, wanted: Kind, keys: &mut Keys, item: &Item) -> Result<(), NoMemory>
+    ensures { OnOk result (keys.new ≡ keys.old ++ those_of wanted (named_by_item item.now)) }
 {
     match item {
-        Item::Key(key) => push_key(alloc, keys, Kind::Datatype, key),
+        Item::Key(key) => push_of(alloc, wanted, keys, Kind::Datatype, key),
         Item::Typed { .. } => Ok(()),
     }
+}
+
+// Puts the key of a kind and an ident at the end, where that kind is wanted.
+fn push_of(
+    alloc: Global,
+    wanted: Kind,
+    keys: &mut Keys,
+    kind: Kind,
+    ident: &Text,
+) -> Result<(), NoMemory>
+    ensures { OnOk result (keys.new ≡ keys.old ++ those_of wanted (record { kind = kind; ident = ident.now } ∷ [])) }
+{
+    if is_of(wanted, kind) {
+        return push_key(alloc, keys, kind, ident);
+    }
+    Ok(())
+}
+
+// Whether a kind is the wanted one.
+fn is_of(wanted: Kind, kind: Kind) -> bool
+    ensures { result ≡ is_of_kind wanted kind }
+{
+    matches!(
+        (wanted, kind),
+        (Kind::Element, Kind::Element)
+            | (Kind::Class, Kind::Class)
+            | (Kind::Macro, Kind::Macro)
+            | (Kind::Datatype, Kind::Datatype)
+    )
 }
 
 // Puts the key of a kind and an ident at the end.

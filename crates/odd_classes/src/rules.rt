@@ -5,7 +5,7 @@ ghost use Rattle.odd_library.specs.declared.library.ClassPart.{ClassPart as ACla
 ghost use Rattle.odd_library.specs.declared.library.Component.TheVariants as the_component;
 ghost use Rattle.odd_meaning.specs.Links.{named_by};
 ghost use Rattle.odd_meaning.specs.Rules.{Breaks, BreaksWithin, IsFirstBreak};
-ghost use Rattle.odd_classes.specs.Placing.{IsWrong, rule_of};
+ghost use Rattle.odd_classes.specs.Placing.{IsWrong, kind_of, rule_of};
 
 use crate::cycles::{CycleRefusal, check_cycles};
 use crate::data::check_data;
@@ -43,6 +43,17 @@ impl WrongReference {
             WrongReference::MacroNotHeld => 11,
             WrongReference::DatatypeNotHeld => 12,
             WrongReference::OfAttributes => 17,
+        }
+    }
+
+    // The kind of what it is to.
+    fn kind(self) -> Kind
+        ensures { result ≡ kind_of self }
+    {
+        match self {
+            WrongReference::MacroNotHeld => Kind::Macro,
+            WrongReference::DatatypeNotHeld => Kind::Datatype,
+            WrongReference::OfAttributes => Kind::Class,
         }
     }
 }
@@ -93,7 +104,7 @@ fn names(
 ) -> Result<bool, NoMemory>
     ensures { IfOk result (λ b. IsTrue b ↔ ((key : AKey) × StandsIn (named_by part.now) key × IsWrong library.now wrong key)) }
 {
-    for key in named(alloc, part)?.as_slice() {
+    for key in named(alloc, wrong.kind(), part)?.as_slice() {
         if is_wrong(library, wrong, key.kind, &key.ident) {
             return Ok(true);
         }

@@ -2,6 +2,7 @@ pub mod EndTags
 pub mod Formed
 pub mod FormedBindings
 pub mod LongestFront
+pub mod NumberProofs
 pub mod Openings
 pub mod Places
 pub mod PlainBytes

@@ -2,6 +2,7 @@
 use Rattle.std.specs.Prelude.{◌≡◌, ◌<◌, ℕ, length, Bool, true, ◌&&◌, ◌||◌, ◌==◌, not, List, ◌∷◌, ◌++◌, map, All, IsTrue}
 use Rattle.std.specs.List.{list_all}
 use Rattle.std.specs.Str.{encode_utf8_all}
+use Rattle.std.specs.Str.Parse.{IsNumeral, digits_value}
 use Rattle.odd_tokens.specs.Characters.{is_char, is_ncname, is_white, is_within}
 use Rattle.odd_tokens.specs.Making.{attribute_made, token_made}
 use Rattle.odd_tokens.specs.Tokens.{Attribute, IsAttribute, IsQName, IsReference, QName, Reference, Token, attribute_written, attributes_written, cdata, character_of, comment, name_written, reference_written, token_written}
@@ -100,6 +101,18 @@ pub record IsSectionFirst (text inside rest : List ℕ) : Type 0 where
   pub written : encode_utf8_all characters ≡ inside
   pub parts : text ≡ encode_utf8_all (token_written (cdata characters)) ++ rest
   pub shorter : length rest < length text
+
+-- the digits of the base make the number of a character of XML
+pub record IsNumberOf (base : ℕ) (digits : List ℕ) (c : ℕ) : Type 0 where
+  pub numeral : IsNumeral base digits
+  pub value : c ≡ digits_value base digits
+  pub legal : is_char c ≡ true
+
+-- such digits and a semicolon stand first in the text
+pub record AreDigitsFirst (base : ℕ) (text : List ℕ) (c : ℕ) (rest : List ℕ) : Type 0 where
+  pub digits : List ℕ
+  pub number : IsNumberOf base digits c
+  pub parts : text ≡ digits ++ 0x3B ∷ rest
 
 -- a reference to the character stands first in the text
 pub record IsReferenceFirst (text : List ℕ) (c : ℕ) (rest : List ℕ) : Type 0 where

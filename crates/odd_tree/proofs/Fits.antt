@@ -126,9 +126,6 @@ all_fit ts f before after t e = fits_at [] ts before after t f e
 pub size_of_append : (xs ys : List ℕ) → size_of (xs ++ ys) ≡ size_of xs + size_of ys
 size_of_append xs ys = ap length (encodes-append xs ys) ∙ length-append (encode_utf8_all xs) (encode_utf8_all ys)
 
-pub size_of_one_more : (cs : List ℕ) (c : ℕ) → size_of (cs ++ c ∷ []) ≡ size_of cs + length (encode_utf8 c)
-size_of_one_more cs c = size_of_append cs (c ∷ []) ∙ ap (λ bs. size_of cs + length bs) (append-nil (encode_utf8 c))
-
 -- tokens
 
 abbrev pub bytes_of : List Token → List ℕ

@@ -11,8 +11,8 @@ loop-at-preserved c =
     elim c.match-value.branch [
       | in-Some+in-Some-datatype_of+in_ok-push_item w ↦
           rw (w.keys-is, w.in_ok-push_item.ensures, c.loop-at.invariant)
-          (edit_more keys edits at w.in-Some.edit.now w.in-Some.ensures.value (Some w.in-Some-datatype_of.datatype.now) w.in-Some-datatype_of.ensures)
+          (edit_more c.args.wanted keys edits at w.in-Some.edit.now w.in-Some.ensures.value (Some w.in-Some-datatype_of.datatype.now) w.in-Some-datatype_of.ensures)
       | in-Some+in_default-datatype_of w ↦
-          rw (w.keys-is, c.loop-at.invariant) (edit_without keys edits at w.in-Some.edit.now w.in-Some.ensures.value w.in_default-datatype_of.ensures)
+          rw (w.keys-is, c.loop-at.invariant) (edit_without c.args.wanted keys edits at w.in-Some.edit.now w.in-Some.ensures.value w.in_default-datatype_of.ensures)
       | in_default w ↦ absurd (omega (arith, w.in_default.ensures.none.0 refl))
     ]
