@@ -116,6 +116,11 @@ def others(size):
     return matched("[^ ]+", ["a" * size])
 
 
+def unmatched(size):
+    """The same letters beside a pattern that is none: what it takes to read them, and no more."""
+    return f"match\t(\t{'a' * size}\tno pattern", None, None, None
+
+
 QUESTIONS = [
     (class_of_many, 500_000, 1_000_000),
     (branches, 9_500, 19_000),
@@ -131,6 +136,7 @@ QUESTIONS = [
     (ranges, 166_666, 333_333),
     (alternation, 2_450, 4_900),
     (others, 5_000_000, 10_000_000),
+    (unmatched, 5_000_000, 10_000_000),
 ]
 MATCHING = """import re, sys, time
 pattern, *texts = open(sys.argv[1], encoding="utf-8").read().split("\\t")
@@ -178,7 +184,7 @@ def of_other(command, kind, pattern, text):
 
 
 def of_python(line):
-    """The processor time in seconds that Python's `re` takes for the patterns and texts of a question, or None where it is another."""
+    """The processor time in seconds that Python's `re` takes for the patterns and texts of a question, or None where it is another or has no pattern."""
     call, *fields = line.split("\t")
     if call != "match":
         return None
@@ -189,7 +195,7 @@ def of_python(line):
             run = subprocess.run([sys.executable, "-c", MATCHING, file.name], capture_output=True, text=True, timeout=LIMIT)
         except subprocess.TimeoutExpired:
             return LONGER
-        return f"{float(run.stdout):.3f} s"
+        return None if run.returncode else f"{float(run.stdout):.3f} s"
 
 
 def shown(figures):

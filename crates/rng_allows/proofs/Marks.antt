@@ -6,7 +6,7 @@ use Rattle.std.specs.Str.{chars}
 use Rattle.odd_patterns.specs.Children.{is_marked}
 use Rattle.odd_patterns.specs.Words.{Matches}
 use Rattle.odd_pool.specs.Pattern.{Fits, Leaves, Pattern}
-use Rattle.rng_allows.specs.Allowed.{AllowedBy, WordPattern}
+use Rattle.rng_allows.specs.Allowed.{AllowedBy, AreEach, WordPattern}
 use Rattle.rng_allows.specs.Marked.{AreWordsAllowed, IsMarked}
 use Rattle.rng_allows.specs.declared.value_pattern.ValuePattern.{ValuePattern}
 
@@ -37,12 +37,6 @@ same_marks [] word (b ∷ bs) others h k = absurd h
 same_marks (x ∷ xs) word [] others h k = absurd h
 same_marks (x ∷ xs) word (b ∷ bs) [] h k = absurd k
 same_marks (x ∷ xs) word (b ∷ bs) (c ∷ cs) h k = (λ i. same_mark b c h.0 k.0 i ∷ same_marks xs word bs cs h.1 k.1 i)
-
--- words and their marks, one after another
-abbrev AreEach : (List ℕ → List Bool → Type 0) → List (List ℕ) → List (List Bool) → Type 0
-AreEach Marked [] [] = Unit {0}
-AreEach Marked (word ∷ words) (of_word ∷ marks) = Marked word of_word × AreEach Marked words marks
-AreEach Marked words marks = ⊥
 
 -- a leaf takes the marks where that of its number is on
 abbrev pub takes : ℕ → List Bool → Bool

@@ -20,14 +20,15 @@ IsTyped k facets cs = Fits k cs × All (λ f. Meets f (treated k cs)) facets
 abbrev pub WordPattern : Type 0
 WordPattern = Pat Items ℕ (List Bool)
 
+-- words and their marks, one after another
+abbrev pub AreEach : (List ℕ → List Bool → Type 0) → List (List ℕ) → List (List Bool) → Type 0
+AreEach Marked [] [] = Unit {0}
+AreEach Marked (word ∷ words) (of_word ∷ marks) = Marked word of_word × AreEach Marked words marks
+AreEach Marked words marks = ⊥
+
 -- a pattern over the words matches them, where each word has such marks
 abbrev pub AreMatched : (List ℕ → List Bool → Type 0) → WordPattern → List (List ℕ) → Type 0
-AreMatched Marked pat words = (marks : List (List Bool)) × AreEach words marks × Matches (λ leaf symbol. is_marked symbol leaf) pat marks
-  where
-    AreEach : List (List ℕ) → List (List Bool) → Type 0
-    AreEach [] [] = Unit {0}
-    AreEach (word ∷ words) (of_word ∷ marks) = Marked word of_word × AreEach words marks
-    AreEach words marks = ⊥
+AreMatched Marked pat words = (marks : List (List Bool)) × AreEach Marked words marks × Matches (λ leaf symbol. is_marked symbol leaf) pat marks
 
 abbrev mutual
   pub AllowedBy : ValuePattern → List ℕ → Type 0

@@ -1,6 +1,10 @@
+pub mod Alike
+pub mod Asked
 pub mod Atoms
 pub mod Bounding
 pub mod Classes
 pub mod Joining
 pub mod Made
+pub mod Raised
 pub mod Repeats
+pub mod Stays

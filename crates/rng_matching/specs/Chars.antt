@@ -4,6 +4,7 @@ use Rattle.std.specs.List.{list_any}
 use Rattle.rng_dialect.specs.declared.regex.Atom.{Atom, Char, Any, Class}
 use Rattle.rng_dialect.specs.declared.regex.Member.{Member}
 use Rattle.rng_dialect.specs.declared.regex.Member.TheVariants as member
+use Rattle.rng_matching.specs.declared.spans.Span.{Span}
 
 -- whether a member takes a character
 abbrev pub is_of_member : ℕ → Member → Bool
@@ -13,6 +14,14 @@ is_of_member c (member.Range low high) = nat_le low c && nat_le c high
 -- whether one of the members does
 abbrev pub is_of_members : List Member → ℕ → Bool
 is_of_members members c = list_any (is_of_member c) members
+
+-- whether a span has a character
+abbrev pub is_of_span : ℕ → Span → Bool
+is_of_span c span = nat_le span.low c && nat_le c span.top
+
+-- whether one of the spans does
+abbrev pub is_of_spans : List Span → ℕ → Bool
+is_of_spans spans c = list_any (is_of_span c) spans
 
 -- whether a class does: by one of its members, or by none of them
 abbrev pub is_of_class : Bool → List Member → ℕ → Bool

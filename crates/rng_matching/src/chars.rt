@@ -1,11 +1,9 @@
 ghost use Rattle.std.specs.Prelude.{◌≡◌};
-ghost use Rattle.std.proofs.Common.{ap};
 ghost use Rattle.std.proofs.lemmas.Bool.{eqb-true};
 ghost use Rattle.rng_matching.specs.Chars.{admits as char_admits, takes_char as the_takes_char};
 
 use crate::members::is_of_class;
 use odd_patterns::Alphabet;
-use odd_pool::Numbered;
 use odd_text::Seq;
 use rng_dialect::Atom;
 
@@ -34,17 +32,6 @@ impl Alphabet for Chars {
     }
 
     ghost exact = { eqb-true };
-}
-
-/// A character's number is its code.
-impl Numbered for Chars {
-    ghost number_of = { λ alphabet symbol. symbol };
-
-    fn number(&self, symbol: &char) -> usize {
-        *symbol as usize
-    }
-
-    ghost alike = { λ alphabet c d same leaf. ap (char_admits alphabet.classes leaf) same };
 }
 
 // Whether an atom takes a character. One in parentheses takes none by itself.

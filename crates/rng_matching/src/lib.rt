@@ -6,6 +6,9 @@ pub mod matcher;
 mod members;
 mod pattern;
 mod repeating;
+mod searched;
+mod spans;
+mod staying;
 
 pub use chars::{Atoms, Chars};
 pub use matcher::Matcher;
