@@ -31,9 +31,10 @@ def source():
     glosses = "".join(f'<gloss versionDate="2020-01-01" xml:lang="{language}">some words of a gloss</gloss>' for language in LANGUAGES)
     parts = items.split("<elementSpec ")
     for number, part in enumerate(parts[1:], 1):
-        given = f'<attList><attRef class="att.0" name="a00000"/><attDef ident="own" usage="mwa"><datatype><dataRef key="data.date"/></datatype></attDef></attList>'
+        given = '<attList><attRef class="att.0" name="a00000"/><attDef ident="own" usage="mwa"><datatype><dataRef key="data.date"/></datatype></attDef></attList>'
         constraint = f'<constraintSpec ident="c{number}" scheme="schematron"><constraint><p>x</p></constraint></constraintSpec>'
-        parts[number] = part.replace('module="m"', f'module="{MODULES[number % len(MODULES)]}"', 1).replace("<desc>", glosses + "<desc>", 1).replace("</elementSpec>", given + constraint + "</elementSpec>", 1)
+        part = part.replace('module="m"', f'module="{MODULES[number % len(MODULES)]}"', 1)
+        parts[number] = part.replace("<desc>", glosses + "<desc>", 1).replace("</elementSpec>", given + constraint + "</elementSpec>", 1)
     specs = "<elementSpec ".join(parts).replace('module="m"', 'module="tei"')
     return f'<TEI xmlns="http://www.tei-c.org/ns/1.0"><text><body>{specs}</body></text></TEI>\n'
 
