@@ -24,3 +24,4 @@ pub mod TaggingProofs
 pub mod Tags
 pub mod Taken
 pub mod TwoAlike
+pub mod ValueProofs

@@ -1,10 +1,10 @@
 -- What the parts of a tag that are read at once make together.
-use Rattle.std.proofs.Common.{◌≡◌, ◌≢◌, ℕ, ◌<◌, ◌≤◌, true, false, ◌&&◌, ◌||◌, ◌==◌, if◌then◌else◌, List, [], ◌∷◌, ◌++◌, length, length-append, get_or, take, zero, suc, map, All, IsTrue, IsUtf8, refl, sym, ap, ap₂, ◌∙◌, append_assoc, append-nil, codes, arith}
+use Rattle.std.proofs.Common.{◌≡◌, ◌≢◌, ℕ, ◌<◌, ◌≤◌, true, false, ◌&&◌, ◌||◌, ◌==◌, List, [], ◌∷◌, ◌++◌, length, length-append, get_or, take, zero, suc, IsTrue, IsUtf8, refl, sym, ap, ap₂, ◌∙◌, append_assoc, append-nil, codes, arith}
 use Rattle.std.proofs.lemmas.Bool.{and_parts, and_from}
 use Rattle.std.proofs.lemmas.Bool.Decides.{nat_tests}
 use Rattle.std.proofs.lemmas.List.{map-append}
 use Rattle.std.proofs.lemmas.List.Folds.{list_all-append}
-use Rattle.std.proofs.lemmas.List.Elements.{All-nil, All-cons, All-push}
+use Rattle.std.proofs.lemmas.List.Elements.{All-push}
 use Rattle.std.proofs.lemmas.Str.{encodes-append, encodes-chars, encode_ascii, length-le-encodes}
 use Rattle.std.specs.List.{list_all}
 use Rattle.std.specs.Str.{chars, encode_utf8_all}
@@ -12,14 +12,14 @@ use Rattle.odd_tokens.proofs.Ascii.{ascii_codes, ascii_name, ascii_ncname, ascii
 use Rattle.odd_tokens.proofs.Characters.{all_weaker}
 use Rattle.odd_tokens.specs.Characters.{is_char, is_space, is_white}
 use Rattle.odd_tokens.specs.Making.{attribute_made, tag_made}
-use Rattle.odd_tokens.specs.Tokens.{Attribute, IsAttribute, IsPieceIn, IsQName, Piece, Tag, attribute_written, attributes_written, comment, empty_tag, itself, name_written, start_tag, tag_written, token_written, value_written}
-use Rattle.odd_tokens.specs.Values.{value_read}
+use Rattle.odd_tokens.specs.Tokens.{Attribute, IsAttribute, IsQName, Tag, attribute_written, attributes_written, comment, empty_tag, name_written, start_tag, tag_written, token_written, value_written}
 use Rattle.odd_tokens.specs.Whole.{IsLexed, IsLexedTag}
 use Rattle.odd_tokens.specs.declared.token.Token.TheVariants as made
 use Rattle.odd_tokens.specs.declared.token.WrittenAttr.{WrittenAttr}
 use Rattle.odd_tokens.specs.declared.token.WrittenName.{WrittenName}
 use Rattle.odd_reader.proofs.PlainBytes.{chars_pass}
-use Rattle.odd_reader.specs.Tagging.{AreAttributesFirst, IsAttributeFirst, IsCommentFirst, IsNamed, IsPlainName, IsQuoted, IsSpaced, IsTokenFirst, IsValued, begins_plain, is_comment_byte, is_in_comment, is_plain_byte_in, is_plain_in, is_plain_part, qname}
+use Rattle.odd_reader.proofs.ValueProofs.{pieces_in}
+use Rattle.odd_reader.specs.Tagging.{AreAttributesFirst, IsAttributeFirst, IsCommentFirst, IsNamed, IsPlainName, IsQuoted, IsSpaced, IsTokenFirst, begins_plain, is_comment_byte, is_in_comment, is_plain_part, qname}
 
 -- what is put together, as bytes
 
@@ -64,20 +64,6 @@ comment_first text begun inside ended rest u h e f g =
     (joined (codes "<!--") cs (codes "<!--") inside (ascii_codes (codes "<!--") refl) same) (ascii_codes (codes "-->") refl))) in
     let some : 0 < length (token_written (comment cs)) = omega arith in
     record { inside = cs; all_plain = chars_pass is_in_comment high_comment inside u h; parts = all; shorter = shorter_written text (token_written (comment cs)) rest some all }
-
--- values as bytes
-
-high_value : (quote c : ℕ) → quote < 128 → 128 ≤ c → is_char c ≡ true → is_plain_in quote c ≡ true
-high_value quote c q l h = grind (arith, nat_tests)
-
-pub value_first : (quote : ℕ) (text value ended rest : List ℕ) → quote < 128 → IsUtf8 value → list_all (is_plain_byte_in quote) value ≡ true → text ≡ value ++ ended → ended ≡ quote ∷ rest
-    → IsValued quote text value rest
-value_first quote text value ended rest q u h e f = record {
-  characters = chars value;
-  all_plain = chars_pass (is_plain_in quote) (λ c l k. high_value quote c q l k) value u h;
-  written = encodes-chars value u;
-  parts = e ∙ ap (λ xs. value ++ xs) f;
-}
 
 -- names
 
@@ -125,46 +111,10 @@ front_name [] n some within h k = absurd (omega (arith, some, within))
 front_name (b ∷ bs) zero some within h k = absurd (omega (arith, some))
 front_name (b ∷ bs) (suc n) some within h k = name_from b (take n bs) h k
 
--- values
-
-abbrev pub pieces : List ℕ → List Piece
-pieces cs = map itself cs
-
-pieces_written : (cs : List ℕ) → value_written (pieces cs) ≡ cs
-pieces_written [] = refl
-pieces_written (c ∷ cs) = ap (λ xs. c ∷ xs) (pieces_written cs)
-
-as_itself : (quote c : ℕ) → is_plain_in quote c ≡ true → (if c == 0x20 || c == 0x9 || false || c == 0xA then 0x20 else c) ≡ c
-as_itself quote c h = grind (arith, nat_tests)
-
-no_return : (quote c : ℕ) → is_plain_in quote c ≡ true → (c == 0xD) ≡ false
-no_return quote c h = grind (arith, nat_tests)
-
-not_less : (quote c : ℕ) → is_plain_in quote c ≡ true → c ≢ 0x3C
-not_less quote c h e = grind (arith, nat_tests)
-
-not_ampersand : (quote c : ℕ) → is_plain_in quote c ≡ true → c ≢ 0x26
-not_ampersand quote c h e = grind (arith, nat_tests)
-
-not_quote : (quote c : ℕ) → is_plain_in quote c ≡ true → c ≢ quote
-not_quote quote c h e = grind (arith, nat_tests)
-
-pieces_read : (quote : ℕ) (cs : List ℕ) → list_all (is_plain_in quote) cs ≡ true → value_read (pieces cs) ≡ cs
-pieces_read quote [] h = refl
-pieces_read quote (c ∷ cs) h =
-    let p = and_parts (is_plain_in quote c) (list_all (is_plain_in quote) cs) h in
-    rw (no_return quote c p.0) (ap₂ (λ x xs. x ∷ xs) (as_itself quote c p.0) (pieces_read quote cs p.1))
-
-all_pieces : (quote : ℕ) (cs : List ℕ) → list_all (is_plain_in quote) cs ≡ true → All (IsPieceIn quote) (pieces cs)
-all_pieces quote [] h = All-nil (IsPieceIn quote)
-all_pieces quote (c ∷ cs) h =
-    let p = and_parts (is_plain_in quote c) (list_all (is_plain_in quote) cs) h in
-    All-cons (IsPieceIn quote) (itself c) (pieces cs) ((and_parts (is_char c) _ p.0).0, not_less quote c p.0, not_ampersand quote c p.0, not_quote quote c p.0) (all_pieces quote cs p.1)
+-- an attribute
 
 quote_bytes : (quote : ℕ) → IsTrue (quote == 0x22 || quote == 0x27) → encode_utf8_all (quote ∷ []) ≡ quote ∷ []
 quote_bytes quote h = let low : quote < 128 = grind (arith, nat_tests) in ap (λ bs. bs ++ []) (encode_ascii quote low)
-
--- an attribute
 
 assembled : (space name before after value rest : List ℕ) (quote : ℕ)
     → space ++ (name ++ (before ++ 0x3D ∷ (after ++ quote ∷ (value ++ quote ∷ rest)))) ≡ (space ++ name ++ before ++ codes "=" ++ after ++ quote ∷ (value ++ quote ∷ [])) ++ rest
@@ -173,7 +123,7 @@ assembled space name before after value rest quote = simp append_assoc
 module _ (text begun named equals valued value rest : List ℕ) (prefix local : List ℕ) (some : length begun ≢ length text) (s : IsSpaced text begun) (n : IsNamed begun prefix local named)
     (b : IsSpaced named (0x3D ∷ equals)) (f : IsSpaced equals valued) (v : IsQuoted valued value rest) where
   abbrev whole : Attribute
-  whole = record { space = s.space; name = qname prefix local; before = b.space; after = f.space; quote = v.quote; value = pieces v.valued.characters }
+  whole = record { space = s.space; name = qname prefix local; before = b.space; after = f.space; quote = v.quote; value = v.valued.pieces }
 
   some_space : s.space ≢ []
   some_space e = some (sym (ap length (s.parts ∙ ap (λ xs. xs ++ begun) e)))
@@ -184,17 +134,17 @@ module _ (text begun named equals valued value rest : List ℕ) (prefix local : 
     named = n.named;
     around = (b.white, f.white);
     quoted = v.quoted;
-    valued = all_pieces v.quote v.valued.characters v.valued.all_plain;
+    valued = pieces_in v.quote v.valued.pieces v.valued.are_simple;
   }
 
-  value_bytes : encode_utf8_all (value_written (pieces v.valued.characters)) ≡ value
-  value_bytes = ap encode_utf8_all (pieces_written v.valued.characters) ∙ v.valued.written
+  abbrev text_of_value : List ℕ
+  text_of_value = encode_utf8_all (value_written v.valued.pieces)
 
   abbrev name : List ℕ
   name = name_written (qname prefix local)
 
   abbrev bytes : List ℕ
-  bytes = s.space ++ name ++ b.space ++ codes "=" ++ f.space ++ v.quote ∷ (value ++ v.quote ∷ [])
+  bytes = s.space ++ name ++ b.space ++ codes "=" ++ f.space ++ v.quote ∷ (text_of_value ++ v.quote ∷ [])
 
   whole_bytes : encode_utf8_all (attribute_written whole) ≡ bytes
   whole_bytes =
@@ -204,14 +154,14 @@ module _ (text begun named equals valued value rest : List ℕ) (prefix local : 
       (joined (s.space ++ name) b.space (s.space ++ name) b.space
       (joined s.space name s.space name (space_bytes s.space s.white) (name_bytes prefix local n.prefix_bytes n.local_bytes))
       (space_bytes b.space b.white)) (ascii_codes (codes "=") refl)) (space_bytes f.space f.white))
-      (joined (v.quote ∷ []) (value_written (pieces v.valued.characters) ++ v.quote ∷ []) (v.quote ∷ []) (value ++ v.quote ∷ []) (quote_bytes v.quote v.quoted)
-      (joined (value_written (pieces v.valued.characters)) (v.quote ∷ []) value (v.quote ∷ []) value_bytes (quote_bytes v.quote v.quoted)))
+      (joined (v.quote ∷ []) (value_written v.valued.pieces ++ v.quote ∷ []) (v.quote ∷ []) (text_of_value ++ v.quote ∷ []) (quote_bytes v.quote v.quoted)
+      (joined (value_written v.valued.pieces) (v.quote ∷ []) text_of_value (v.quote ∷ []) refl (quote_bytes v.quote v.quoted)))
 
   all_parts : text ≡ bytes ++ rest
   all_parts =
       s.parts ∙ ap (λ xs. s.space ++ xs) (n.parts ∙ ap (λ xs. name_written (qname prefix local) ++ xs) (b.parts ∙ ap (λ xs. b.space ++ 0x3D ∷ xs)
       (f.parts ∙ ap (λ xs. f.space ++ xs) (v.parts ∙ ap (λ xs. v.quote ∷ xs) v.valued.parts))))
-      ∙ assembled s.space name b.space f.space value rest v.quote
+      ∙ assembled s.space name b.space f.space text_of_value rest v.quote
 
   pub attribute_first : (made : WrittenAttr) → made.name.prefix ≡ prefix → made.name.local ≡ local → made.value ≡ value → IsAttributeFirst text made rest
   attribute_first made p l w = record {
@@ -219,7 +169,7 @@ module _ (text begun named equals valued value rest : List ℕ) (prefix local : 
     is_attribute = is_whole;
     is_made = λ i. record {
       name = record { prefix = (p ∙ sym n.prefix_bytes) i; local = (l ∙ sym n.local_bytes) i };
-      value = (w ∙ sym v.valued.written ∙ ap encode_utf8_all (sym (pieces_read v.quote v.valued.characters v.valued.all_plain))) i;
+      value = (w ∙ v.valued.is_made) i;
     };
     parts = all_parts ∙ ap (λ xs. xs ++ rest) (sym whole_bytes);
   }

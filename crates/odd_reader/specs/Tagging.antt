@@ -1,11 +1,12 @@
--- What is read at once of the text that is left: tags with names of ASCII and values without references and line ends, comments, CDATA sections, references.
+-- What is read at once of the text that is left: tags with names of ASCII and values without tabs and line ends, comments, CDATA sections, references.
 use Rattle.std.specs.Prelude.{◌≡◌, ◌<◌, ℕ, length, Bool, true, ◌&&◌, ◌||◌, ◌==◌, not, List, ◌∷◌, ◌++◌, map, All, IsTrue}
 use Rattle.std.specs.List.{list_all}
 use Rattle.std.specs.Str.{encode_utf8_all}
 use Rattle.std.specs.Str.Parse.{IsNumeral, digits_value}
 use Rattle.odd_tokens.specs.Characters.{is_char, is_ncname, is_white, is_within}
 use Rattle.odd_tokens.specs.Making.{attribute_made, token_made}
-use Rattle.odd_tokens.specs.Tokens.{Attribute, IsAttribute, IsQName, IsReference, QName, Reference, Token, attribute_written, attributes_written, cdata, character_of, comment, name_written, reference_written, token_written}
+use Rattle.odd_tokens.specs.Tokens.{Attribute, IsAttribute, IsQName, IsReference, Piece, QName, Reference, Token, attribute_written, attributes_written, cdata, character_of, comment, itself, name_written, reference, reference_written, token_written, value_written}
+use Rattle.odd_tokens.specs.Values.{value_read}
 use Rattle.odd_tokens.specs.Whole.{IsLexed}
 use Rattle.odd_tokens.specs.declared.token.Token.{Token as Made}
 use Rattle.odd_tokens.specs.declared.token.WrittenAttr.{WrittenAttr}
@@ -45,13 +46,23 @@ is_plain_in quote c = is_char c && not (c == 0x9 || c == 0xA || c == 0xD || c ==
 abbrev pub is_plain_byte_in : ℕ → ℕ → Bool
 is_plain_byte_in quote b = is_plain_in quote b && not (b == 0xEF)
 
--- a value of such characters stands first in the text, after its quote
-pub record IsValued (quote : ℕ) (text value rest : List ℕ) : Type 0 where
-  pub characters : List ℕ
-  pub all_plain : list_all (is_plain_in quote) characters ≡ true
-  pub written : encode_utf8_all characters ≡ value
-  pub parts : text ≡ value ++ quote ∷ rest
+-- a piece of a value in these quotes that is read at once: such a character, or a reference
+abbrev pub IsSimplePiece : ℕ → Piece → Type 0
+IsSimplePiece quote (itself c) = IsTrue (is_plain_in quote c)
+IsSimplePiece quote (reference r) = IsReference r
 
+-- pieces of a value in these quotes stand first in the text, and are read as this
+pub record ArePiecesFirst (quote : ℕ) (text value rest : List ℕ) : Type 0 where
+  pub pieces : List Piece
+  pub are_simple : All (IsSimplePiece quote) pieces
+  pub is_made : value ≡ encode_utf8_all (value_read pieces)
+  pub parts : text ≡ encode_utf8_all (value_written pieces) ++ rest
+
+-- a value of such pieces stands first in the text, after its quote
+abbrev pub IsValued : ℕ → (text value rest : List ℕ) → Type 0
+IsValued quote text value rest = ArePiecesFirst quote text value (quote ∷ rest)
+
+-- a value in its quotes stands first in the text
 pub record IsQuoted (text value rest : List ℕ) : Type 0 where
   pub quote : ℕ
   pub quoted : IsTrue (quote == 0x22 || quote == 0x27)

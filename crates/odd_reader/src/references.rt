@@ -1,4 +1,4 @@
-ghost use Rattle.std.specs.Prelude.{◌≡◌, ◌≤◌, ◌++◌, ◌∷◌, IfSome, length};
+ghost use Rattle.std.specs.Prelude.{◌≡◌, ◌≤◌, IfSome, length};
 ghost use Rattle.std.specs.Str.{encode_utf8_all};
 ghost use Rattle.odd_tokens.specs.Tokens.{IsReference, Reference, character_of, reference_written};
 ghost use Rattle.odd_reader.specs.Tagging.{AreDigitsFirst, IsNumberOf, IsReferenceFirst};

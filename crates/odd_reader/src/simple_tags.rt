@@ -1,9 +1,10 @@
 ghost use Rattle.std.specs.Prelude.{◌≡◌, ◌++◌, ◌<◌, ◌≤◌, IfOk, IfSome, length, take, true};
 ghost use Rattle.std.specs.List.{list_all};
 ghost use Rattle.odd_tokens.specs.Characters.{is_space as a_space};
-ghost use Rattle.odd_reader.specs.Tagging.{AreAttributesFirst, IsAttributeFirst, IsNamed, IsPlainName, IsQuoted, IsSpaced, IsTokenFirst, IsValued, begins_plain as could_begin_plain, is_plain_byte_in as a_plain_byte_in, is_plain_part as a_plain_part};
+ghost use Rattle.odd_reader.specs.Tagging.{AreAttributesFirst, ArePiecesFirst, IsAttributeFirst, IsNamed, IsPlainName, IsQuoted, IsSpaced, IsTokenFirst, IsValued, begins_plain as could_begin_plain, is_plain_byte_in as a_plain_byte_in, is_plain_part as a_plain_part};
 
 use crate::names::NameTable;
+use crate::references::after_reference;
 use odd_text::{NoMemory, Text};
 use odd_tokens::{Token, WrittenAttr, WrittenAttrs, WrittenName, WrittenTag};
 use std::alloc::Global;
@@ -115,31 +116,54 @@ fn after_space(text: &str) -> &str
     }
 }
 
-// A value that stands first with the quote after it, and what follows.
-fn value_until(quote: char, text: &str) -> Option<(&str, &str)>
+// The characters of a value that stand first and are read as themselves, and what follows.
+fn run_in(quote: char, text: &str) -> Option<(&str, &str)>
     requires { quote < 128 }
-    ensures { IfSome result (λ p. IsValued quote text.now p.0.now p.1.now) }
+    ensures { IfSome result (λ p. ArePiecesFirst quote text.now p.0.now p.1.now) }
 {
-    let Some((value, ended)) = text.split_at_checked(value_length(quote as u8, text.as_bytes()))
-    else {
+    let Some((run, rest)) = text.split_at_checked(value_length(quote as u8, text.as_bytes())) else {
         return None;
     };
-    match ended.strip_prefix(quote) {
-        Some(rest) => Some((value, rest)),
-        None => None,
+    Some((run, rest))
+}
+
+// A value that stands first with the quote after it, and what follows.
+fn value_until(alloc: Global, quote: char, text: &str) -> Result<Option<(Text, &str)>, NoMemory>
+    requires { quote < 128 }
+    ensures { IfOk result (λ o. IfSome o (λ p. IsValued quote text.now p.0 p.1.now)) }
+{
+    let Some((run, ended)) = run_in(quote, text) else {
+        return Ok(None);
+    };
+    if let Some(rest) = ended.strip_prefix(quote) {
+        return Ok(Some((Text::from_str(alloc, run)?, rest)));
+    }
+    let mut value = String::from_str(alloc, run)?;
+    let mut rest = ended;
+    'reading: while let Some((c, referred)) = after_reference(rest) {
+        let Some((run, left)) = run_in(quote, referred) else {
+            return Ok(None);
+        };
+        value.push(c)?;
+        value.push_str(run)?;
+        rest = left;
+    }
+    match rest.strip_prefix(quote) {
+        Some(left) => Ok(Some((Text::from_string(alloc, value)?, left))),
+        None => Ok(None),
     }
 }
 
 // A value in its quotes that stands first, and what follows.
-fn quoted(text: &str) -> Option<(&str, &str)>
-    ensures { IfSome result (λ p. IsQuoted text.now p.0.now p.1.now) }
+fn quoted(alloc: Global, text: &str) -> Result<Option<(Text, &str)>, NoMemory>
+    ensures { IfOk result (λ o. IfSome o (λ p. IsQuoted text.now p.0 p.1.now)) }
 {
     if let Some(inner) = text.strip_prefix('"') {
-        return value_until('"', inner);
+        return value_until(alloc, '"', inner);
     }
     match text.strip_prefix('\'') {
-        Some(inner) => value_until('\'', inner),
-        None => None,
+        Some(inner) => value_until(alloc, '\'', inner),
+        None => Ok(None),
     }
 }
 
@@ -181,12 +205,14 @@ impl TagReader {
         let Some(equals) = after_space(named).strip_prefix('=') else {
             return Ok(None);
         };
-        let Some((value, rest)) = quoted(after_space(equals)) else {
-            return Ok(None);
-        };
-        let name = self.written(prefix, local)?;
-        let value = Text::from_str(self.alloc, value)?;
-        Ok(Some((WrittenAttr { name, value }, rest)))
+        match quoted(self.alloc, after_space(equals)) {
+            Ok(Some((value, rest))) => {
+                let name = self.written(prefix, local)?;
+                Ok(Some((WrittenAttr { name, value }, rest)))
+            }
+            Ok(None) => Ok(None),
+            Err(NoMemory) => Err(NoMemory),
+        }
     }
 
     // The attributes that stand first, as far as they are simple, and what follows.

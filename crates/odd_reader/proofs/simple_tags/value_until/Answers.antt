@@ -1,21 +1,19 @@
-use Rattle.std.proofs.Common.{Some, IsUtf8, ◌≡◌, ◌++◌, take, true, refl, sym, ap, ap₂, ◌∙◌, subst}
-use Rattle.std.proofs.lemmas.List.{take-append-drop}
-use Rattle.std.proofs.lemmas.Str.{IsUtf8-take}
-use Rattle.std.proofs.lemmas.Str.Pattern.{strip_prefix_char}
-use Rattle.std.specs.List.{list_all}
-use Rattle.odd_reader.specs.Tagging.{is_plain_byte_in}
-use Rattle.odd_reader.proofs.TaggingProofs.{value_first}
+use Rattle.std.proofs.Common.{◌++◌, encode_utf8, rules, string_bytes, sym, ap, ◌∙◌, subst}
+use Rattle.odd_reader.specs.Tagging.{ArePiecesFirst}
+use Rattle.odd_reader.proofs.ValueProofs.{pieces_more, reference_more}
 use Rattle.odd_reader.proofs.simple_tags.value_until.Goals as goal
 
-pub returns-in-Some-strip_prefix : goal.returns-in-Some-strip_prefix
-returns-in-Some-strip_prefix c =
-    let text = c.args.text.now in
+pub reading-preserved : goal.reading-preserved
+reading-preserved c =
     let quote = c.args.quote in
-    let n = c.value_length.result in
-    let value = c.in-Some.value.now in
-    let u : IsUtf8 value = subst IsUtf8 (sym c.in-Some.ensures.front) (IsUtf8-take text n c.utf8.text (c.in-Some.ensures.variant.0 refl)) in
-    let plain : list_all (is_plain_byte_in quote) value ≡ true =
-    ap (list_all (is_plain_byte_in quote)) (c.in-Some.ensures.front ∙ ap (take n) (sym c.as_bytes.ensures.value)) ∙ c.value_length.ensures.plain in
-    value_first quote text value c.in-Some.ended.now c.in-Some-strip_prefix.rest.now c.requires u plain
-    (sym (take-append-drop n text) ∙ ap₂ ◌++◌ (sym c.in-Some.ensures.front) (sym c.in-Some.ensures.back))
-    (strip_prefix_char quote c.in-Some.ended.now (Some c.in-Some-strip_prefix.rest) c.in-Some-strip_prefix.ensures.cases c.requires)
+    let text = c.args.text.now in
+    let before = string_bytes c.reading.value in
+    let referred = c.in-Some-after_reference.referred.now in
+    let run = c.in-Some-run_in.run'.now in
+    let left = c.in-Some-run_in.left.now in
+    let bytes = encode_utf8 c.in-Some-after_reference.c in
+    let all = pieces_more quote text (before ++ bytes) referred run left
+    (reference_more quote text before c.reading.rest.now referred c.in-Some-after_reference.c c.reading.invariant.1 c.in-Some-after_reference.ensures) c.in-Some-run_in.ensures in (
+      search rules,
+      subst (λ bs. ArePiecesFirst quote text bs left) (sym (c.in_ok-push_str.ensures.bytes ∙ ap (λ bs. bs ++ run) c.in_ok-push.ensures.bytes)) all,
+    )
