@@ -1,5 +1,5 @@
 -- What an element of a schema may have: attributes, texts, elements of other namespaces, name classes. Small cases on both sides.
-use Rattle.std.proofs.Common.{◌≡◌, ℕ, List, [], ◌∷◌, codes, refl, sym, subst, rules}
+use Rattle.std.proofs.Common.{◌≡◌, ℕ, Bool, true, false, List, [], ◌∷◌, codes, refl, sym, subst, ◌∙◌, rules}
 use Rattle.std.proofs.lemmas.List.Elements.{All-cons, All-head, All-nil}
 use Rattle.odd_text.specs.declared.name.Name.{Name}
 use Rattle.odd_tree.proofs.InList.{nothing_stands, stands_first}
@@ -10,12 +10,18 @@ use Rattle.odd_tree.specs.declared.tree.Node.{Node, Element, Text}
 use Rattle.odd_tree.specs.declared.tree.Tree.{Tree, roll-Tree}
 use Rattle.odd_tree.proofs.PrintedTrees.{apart}
 use Rattle.odd_tokens.proofs.Ascii.{is_name}
+use Rattle.odd_tokens.proofs.Characters.{none_twice}
+use Rattle.rng_grammar.proofs.ClassExamples.{in_none}
 use Rattle.rng_grammar.proofs.NoSchemaExamples.{attribute}
 use Rattle.rng_grammar.proofs.OnePattern.{two_names}
-use Rattle.rng_grammar.proofs.SchemaTrees.{bare_part, empty, parts_are, rng, text, text_is}
+use Rattle.rng_grammar.proofs.SchemaTrees.{bare_part, empty, empty_is, named_part, one_pattern, parts_are, rng, text, text_is}
 use Rattle.rng_grammar.specs.Denoting as denoting
-use Rattle.rng_grammar.specs.Denoting.{AreExcepted, HasExcept, HasNames, HoldsText, IsAnyAttributes, IsNameClass, IsNameOf, IsNamed, IsPart, IsPattern}
+use Rattle.rng_grammar.specs.Denoting.{AreExcepted, HasAttributes, HasExcept, HasNames, HoldsText, HoldsValue, IsAnyAttributes, IsAttribute, IsElementOf, IsNameClass, IsNameOf, IsNamed, IsPart, IsPattern, IsRule}
 use Rattle.rng_grammar.specs.Names.{relax_ng}
+use Rattle.rng_grammar.specs.declared.grammar.AttrPart.TheVariants as attributes
+use Rattle.rng_grammar.specs.declared.grammar.AttrRule.{AttrRule}
+use Rattle.rng_grammar.specs.declared.grammar.Body.TheVariants as body
+use Rattle.rng_grammar.specs.declared.grammar.Expr.{Expr}
 use Rattle.rng_grammar.specs.declared.grammar.Expr.TheVariants as expr
 use Rattle.rng_grammar.specs.declared.grammar.NameClass.TheVariants as class
 use Rattle.rng_grammar.specs.declared.grammar.NameClass.{NameClass}
@@ -140,3 +146,58 @@ any_attributes = record {
 
 value_of_nothing_else : HoldsText (empty ∷ []) → ⊥
 value_of_nothing_else (denoting.text h) = two_names empty _ _ [] [] refl (bare_part (codes "empty") [] []).is_named h.is_part.is_named
+
+-- an attribute without `ns` is of no namespace, and one without a pattern takes any text
+
+abbrev plain : List ℕ → Tree
+plain local = rng (codes "attribute") (attribute (codes "name") local ∷ []) []
+
+plain_is : IsAttribute (plain (codes "n")) (in_none (codes "n")) expr.Text
+plain_is = record {
+  is_part = named_part (codes "attribute") (codes "n") (codes "ns" ∷ []) [];
+  named = record { is_given = refl; is_ncname = is_name (codes "n") refl };
+  space = refl;
+  holds = denoting.nothing;
+}
+
+plain_in_another : (value : Expr) → IsAttribute (plain (codes "n")) (other (codes "n")) value → ⊥
+plain_in_another value h = apart (codes "urn:x") [] refl h.space
+
+-- so it is where its element is of the grammar's namespace
+
+abbrev rule : Bool → AttrRule
+rule needed = record { name = in_none (codes "n"); needed = needed; value = expr.Text }
+
+abbrev inside : List Tree
+inside = plain (codes "n") ∷ empty ∷ []
+
+element_in_another : IsElementOf (codes "urn:x") (rng (codes "element") (attribute (codes "name") (codes "a") ∷ []) inside)
+    (body.Element (class.One (other (codes "a"))) (attributes.Listed (rule true ∷ [])) expr.Empty)
+element_in_another = record {
+  is_part = named_part (codes "element") (codes "a") (codes "ns" ∷ []) inside;
+  names = class.One (other (codes "a"));
+  after_names = _;
+  has_names = denoting.by_name (record { is_given = refl; is_ncname = is_name (codes "a") refl });
+  attrs = attributes.Listed (rule true ∷ []);
+  inside = empty ∷ [];
+  has_attributes = subst (λ ts. HasAttributes ts (attributes.Listed (rule true ∷ [])) (empty ∷ [])) (sym (parts_are inside refl))
+      (denoting.listed (denoting.more (denoting.needed plain_is) denoting.none) (none_twice (in_none (codes "n") ∷ []) (tt, tt)));
+  content = expr.Empty;
+  holds = one_pattern empty expr.Empty empty_is;
+  body_is = refl;
+}
+
+no_pattern : (p : Expr) → HoldsValue [] p → p ≡ expr.Text
+no_pattern p denoting.nothing = refl
+
+-- an `optional` of one attribute is a rule that does not need it, and one of two is none, since both stand or neither
+
+one_optional : IsRule (rng (codes "optional") [] (plain (codes "n") ∷ [])) (rule false)
+one_optional = denoting.optional (plain (codes "n")) (bare_part (codes "optional") [] (plain (codes "n") ∷ [])) (parts_are (plain (codes "n") ∷ []) refl) plain_is
+
+abbrev two : List Tree
+two = plain (codes "n") ∷ plain (codes "m") ∷ []
+
+two_optional : (made : AttrRule) → IsRule (rng (codes "optional") [] two) made → ⊥
+two_optional made (denoting.needed h) = two_names _ (codes "optional") (codes "attribute") _ _ refl (bare_part (codes "optional") [] two).is_named h.is_part.is_named
+two_optional made (denoting.optional one h e is) = let f = sym (parts_are two refl) ∙ e in cc

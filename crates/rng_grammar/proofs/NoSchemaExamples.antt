@@ -10,6 +10,7 @@ use Rattle.odd_tokens.proofs.Ascii.{is_name}
 use Rattle.rng_grammar.proofs.SchemaTrees.{element, empty, parts_are, rng, start}
 use Rattle.rng_grammar.specs.Denoting as denoting
 use Rattle.rng_grammar.specs.Denoting.{AreDefines, HasNames, IsDefine, StandsFor, parts_of}
+use Rattle.rng_grammar.specs.Linked.{HasData}
 use Rattle.rng_grammar.specs.Names.{datatype_library}
 use Rattle.rng_grammar.specs.declared.grammar.Define.{Define}
 use Rattle.rng_grammar.specs.declared.grammar.Grammar.{Grammar}
@@ -64,6 +65,10 @@ with_combine g parts s =
 -- nor one whose datatypes are of another library
 with_other_datatypes : (g : Grammar) (parts : List Tree) → StandsFor (grammar (attribute (codes "datatypeLibrary") (codes "urn:x") ∷ []) parts) g → ⊥
 with_other_datatypes g parts s = apart (codes "urn:x") datatype_library refl (s.datatypes (codes "urn:x") refl)
+
+-- nor does one without a library stand for a grammar in which a `data` stands
+without_datatypes : (g : Grammar) (parts : List Tree) → HasData g → StandsFor (grammar [] parts) g → ⊥
+without_datatypes g parts h s = let e = s.has_datatypes h in cc
 
 -- a `start` is no `define`
 no_define : (t : Tree) (d : Define) → t ≡ start_e → IsDefine [] t d → ⊥

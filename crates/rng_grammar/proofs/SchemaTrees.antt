@@ -59,7 +59,7 @@ pub bare_part : (local : List ℕ) (allowed : List (List ℕ)) (parts : List Tre
 bare_part local allowed parts = record { is_named = record { named = refl; attributed = All-nil (IsAllowed allowed) }; blank = elements_pass parts }
 
 -- an element with a `name` where that is allowed
-named_part : (local name : List ℕ) (more : List (List ℕ)) (parts : List Tree) → IsPart local (codes "name" ∷ more) (rng local (named name) parts)
+pub named_part : (local name : List ℕ) (more : List (List ℕ)) (parts : List Tree) → IsPart local (codes "name" ∷ more) (rng local (named name) parts)
 named_part local name more parts = record {
   is_named = record { named = refl; attributed = All-cons (IsAllowed (codes "name" ∷ more)) _ [] (λ e. stands_first _ _) (All-nil (IsAllowed (codes "name" ∷ more))) };
   blank = elements_pass parts;

@@ -26,7 +26,7 @@ use Rattle.rng_grammar.specs.declared.grammar.Grammar.{Grammar}
 abbrev pub DefinesOnce : Grammar → Type 0
 DefinesOnce g = (name : List ℕ) (b c : Body) → IsDefined g name b → IsDefined g name c → b ≡ c
 
-not_allowed_shown : out-Expr expr.NotAllowed ≡ shape.NotAllowed
+pub not_allowed_shown : out-Expr expr.NotAllowed ≡ shape.NotAllowed
 not_allowed_shown = search E.the_lemmas
 
 -- what a pattern of children holds
