@@ -21,4 +21,5 @@ pub mod Scanning
 pub mod Sweeping
 pub mod TableMembers
 pub mod TablesTaken
+pub mod TreeFacts
 pub mod WrongNames

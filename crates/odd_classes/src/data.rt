@@ -1,4 +1,8 @@
-ghost use Rattle.std.specs.Prelude.{◌≡◌, ◌↔◌, ℕ, Err, IfOk, IsOk, IsTrue};
+ghost use Rattle.std.specs.Prelude.{◌≡◌, ◌↔◌, ℕ, Err, IfOk, IsOk, IsTrue, OnOk};
+ghost use Rattle.std.specs.FinMap.{find};
+ghost use Rattle.std.specs.Option.{option_copied};
+ghost use Rattle.odd_text.specs.Map.{SetsOnly};
+ghost use Rattle.odd_text.specs.Text.{text_cmp};
 ghost use Rattle.odd_text.specs.declared.key.Key.{Key as AKey};
 ghost use Rattle.odd_meaning.specs.Rules.{Breaks, BreaksWithin, IsFirstBreak};
 ghost use Rattle.odd_content.specs.Formed.{once};
@@ -9,9 +13,10 @@ use crate::macro_order::in_macro_order;
 use crate::rules::LibraryRefusal;
 use odd_content::{Content, Contents};
 use odd_library::{Component, Library};
-use odd_text::{Kind, Map, NoMemory, Text, TryCopy};
+use odd_text::{Kind, NoMemory, Text, TryCopy};
 use rng_types::Bounds;
 use std::alloc::Global;
+use std::collections::BTreeMap;
 
 /// Whether a content reaches data, and whether it is data content.
 #[derive(Clone, Copy, Drop)]
@@ -20,8 +25,8 @@ pub struct DataFacts {
     pub is_data: bool,
 }
 
-// What holds of each macro, by ident.
-type MacroFacts = Map<Text, DataFacts>;
+// What holds of each macro, by ident. A tree takes them in any order.
+type MacroFacts = BTreeMap<Text, DataFacts>;
 
 // The content of an element or a macro reaches data and is not data content.
 const MIXES_DATA: u8 = 18;
@@ -46,7 +51,7 @@ pub fn check_data(alloc: Global, library: &Library) -> Result<(), LibraryRefusal
 
 // Whether a component is an element or a macro whose content reaches data and is not data content.
 fn is_mixed(part: &Component, macros: &MacroFacts) -> bool
-    ensures { IsMixedPart macros.now part.now result }
+    ensures { IsMixedPart macros.now.entries part.now result }
 {
     match part {
         Component::Element(part) => {
@@ -64,22 +69,37 @@ fn is_mixed(part: &Component, macros: &MacroFacts) -> bool
 // What holds of each held macro, each after those that its content names.
 fn macro_facts(alloc: Global, library: &Library) -> Result<MacroFacts, NoMemory>
     requires { (key : AKey) → Breaks library.now key 14 → ⊥ }
-    ensures { IfOk result (AreFactsOf library.now) }
+    ensures { IfOk result (λ facts. AreFactsOf library.now facts.entries) }
 {
-    let mut facts = MacroFacts::new(alloc);
+    let mut facts = BTreeMap::new(alloc);
     for ident in in_macro_order(alloc, library)?.as_slice() {
         if let Some(Component::Macro(part)) = library.find_by(Kind::Macro, ident) {
             let of_it = facts_of(&part.content, &facts);
-            facts.put(ident.copy(alloc)?, of_it)?;
+            keep(&mut facts, ident.copy(alloc)?, of_it)?;
         }
     }
     Ok(facts)
 }
 
+// Keeps what holds of a macro.
+fn keep(macros: &mut MacroFacts, ident: Text, facts: DataFacts) -> Result<(), NoMemory>
+    ensures { OnOk result (SetsOnly text_cmp macros.old.entries macros.new.entries ident facts) }
+{
+    macros.insert(ident, facts)?;
+    Ok(())
+}
+
+// What is kept of a macro.
+fn kept<'a>(macros: &'a MacroFacts, ident: &Text) -> Option<&'a DataFacts>
+    ensures { option_copied result ≡ find text_cmp ident.now macros.now.entries }
+{
+    macros.get(ident)
+}
+
 // What holds of a content, by what holds of macros.
 #[cycle(facts_of)]
 fn facts_of(content: &Content, macros: &MacroFacts) -> DataFacts
-    ensures { HasFacts macros.now content.now result }
+    ensures { HasFacts macros.now.entries content.now result }
 {
     match content {
         Content::Value(_) | Content::Vals(_) => DataFacts {
@@ -115,7 +135,7 @@ const NO_DATA: DataFacts = DataFacts {
 // Whether one of the parts reaches data, and whether each is data content.
 #[cycle(facts_of)]
 fn facts_of_parts(parts: &Contents, macros: &MacroFacts) -> DataFacts
-    ensures { HasFactsOfParts macros.now parts.now result }
+    ensures { HasFactsOfParts macros.now.entries parts.now result }
 {
     let mut facts = DataFacts {
         reaches: false,
@@ -131,9 +151,9 @@ fn facts_of_parts(parts: &Contents, macros: &MacroFacts) -> DataFacts
 
 // What holds of a reference to a macro.
 fn macro_named(key: &Text, bounds: Bounds, macros: &MacroFacts) -> DataFacts
-    ensures { HasFacts macros.now (Macro key.now bounds) result }
+    ensures { HasFacts macros.now.entries (Macro key.now bounds) result }
 {
-    match macros.find(key) {
+    match kept(macros, key) {
         Some(facts) => DataFacts {
             reaches: facts.reaches,
             is_data: facts.is_data && is_once(bounds),

@@ -11,7 +11,7 @@ use Rattle.odd_classes.proofs.data.+facts_of.Goals.{facts_of-then-facts, facts_o
 use Rattle.odd_classes.proofs.data.+facts_of.Goals as goal
 
 pub facts_of-returns-in-Sequence : goal.facts_of-returns-in-Sequence
-facts_of-returns-in-Sequence t c = rw c.in-Sequence.is (sequence_facts c.args.macros.now c.in-Sequence.parts c.in-Sequence.bounds c.facts_of_parts.result c.facts_of_parts.ensures)
+facts_of-returns-in-Sequence t c = rw c.in-Sequence.is (sequence_facts c.args.macros.now.entries c.in-Sequence.parts c.in-Sequence.bounds c.facts_of_parts.result c.facts_of_parts.ensures)
 
 pub facts_of-returns-then-is_once : goal.facts_of-returns-then-is_once
 facts_of-returns-then-is_once t c =
@@ -21,7 +21,7 @@ facts_of-returns-then-is_once t c =
       | facts_of-else-facts w ↦ absurd (false≢true (sym w.if-facts.false ∙ sym w.value-is ∙ c.if-is_once.true))
     ] in
     let filled = told_filled c.is_empty.result c.in-Alternate.parts c.is_empty.ensures in
-    rw c.in-Alternate.is (alternate_facts c.args.macros.now c.in-Alternate.parts c.in-Alternate.bounds given _ c.facts_of_parts-facts.ensures
+    rw c.in-Alternate.is (alternate_facts c.args.macros.now.entries c.in-Alternate.parts c.in-Alternate.bounds given _ c.facts_of_parts-facts.ensures
     (λ h. (both, filled.0 h), λ s. filled.1 s.1))
 
 pub facts_of-returns-else-is_once : goal.facts_of-returns-else-is_once
@@ -31,11 +31,11 @@ facts_of-returns-else-is_once t c =
       | facts_of-then-facts w ↦ false≢true (sym c.if-is_once.false ∙ w.value-is ∙ w.is_once.ensures.1 both.1)
       | facts_of-else-facts w ↦ false≢true (sym w.if-facts.false ∙ both.0)
     ] in
-    rw c.in-Alternate.is (alternate_facts c.args.macros.now c.in-Alternate.parts c.in-Alternate.bounds given _ c.facts_of_parts-facts.ensures
+    rw c.in-Alternate.is (alternate_facts c.args.macros.now.entries c.in-Alternate.parts c.in-Alternate.bounds given _ c.facts_of_parts-facts.ensures
     (λ h. absurd (false≢true (sym c.if-is_once.false ∙ h)), λ s. absurd (not s.0)))
 
 pub facts_of_parts-loop-part-init : goal.facts_of_parts-loop-part-init
-facts_of_parts-loop-part-init t c = no_parts c.args.macros.now
+facts_of_parts-loop-part-init t c = no_parts c.args.macros.now.entries
 
 pub facts_of_parts-loop-part-preserved : goal.facts_of_parts-loop-part-preserved
 facts_of_parts-loop-part-preserved t c =
@@ -56,9 +56,9 @@ facts_of_parts-loop-part-preserved t c =
           (λ h. absurd (false≢true (sym w.if-facts-2.false ∙ sym is ∙ h)), λ p. absurd (false≢true (sym w.if-facts-2.false ∙ p.0)))
     ] in
     rw (ends c.as_slice-part-items.result.now c.loop-part.part-index c.part-item.result c.loop-part-test.true c.part-item.is)
-    (parts_more c.args.macros.now _ c.part-item.result given of_part c.if-facts-2.facts c.loop-part.invariant c.facts_of-of_part.ensures one both)
+    (parts_more c.args.macros.now.entries _ c.part-item.result given of_part c.if-facts-2.facts c.loop-part.invariant c.facts_of-of_part.ensures one both)
 
 pub facts_of_parts-returns : goal.facts_of_parts-returns
 facts_of_parts-returns t c =
     let items = c.as_slice-part-items.result.now in
-    subst (λ ps. HasFactsOfParts c.args.macros.now ps c.loop-part.facts) (take_all c.loop-part.part-index items c.loop-part-test.false ∙ c.as_slice-part-items.ensures) c.loop-part.invariant
+    subst (λ ps. HasFactsOfParts c.args.macros.now.entries ps c.loop-part.facts) (take_all c.loop-part.part-index items c.loop-part-test.false ∙ c.as_slice-part-items.ensures) c.loop-part.invariant
