@@ -7,6 +7,7 @@ ghost use Rattle.odd_meaning.specs.Admission.{Admits};
 ghost use Rattle.odd_meaning.specs.Classes.{AreMembers, Members, members_count};
 ghost use Rattle.odd_meaning.specs.Rules.{Breaks};
 ghost use Rattle.rng_grammar.specs.Acceptance.{Accepts};
+ghost use Rattle.rng_emit.specs.Grammar.{grammar_text};
 ghost use Rattle.rng_emit.specs.Nodes.{text_nodes};
 ghost use Rattle.rng_emit.specs.Plain.{IsPlain};
 ghost use Rattle.compile_contents.specs.Contents.{listed_in};
@@ -14,6 +15,7 @@ ghost use Rattle.compile_contents.specs.declared.budget.MakeRefusal.TheVariants 
 ghost use Rattle.compile_defines.specs.Compiled.{HoldsStart, IsGrammarOf};
 ghost use Rattle.odd_library.specs.Formed.{IsFormedLibrary};
 ghost use Rattle.compile_core.specs.Schema.{HasLargeSchema, IsLeast, IsStartOffence, IsTooLarge};
+ghost use Rattle.compile_core.specs.SchemaText.{IsSchemaText};
 
 use compile_contents::{Budget, MakeRefusal, conditions_of, holds_element, references_pattern};
 use compile_defines::{condition_defines, library_defines};
@@ -67,9 +69,9 @@ const MOST_NODES: u64 = 4_000_000;
 
 /// The grammar of a library and a list of start words: a define for each condition of `anyElement` by its number, one for
 /// each class of type `model`, one for each datatype, element and macro by its ident, and a start that refers to the start
-/// words (docs/schema.md). An element has the attributes that it offers. The grammar of a formed library, as files give it, accepts
-/// the documents that the library admits, and no other (docs/admission.md; ISO/IEC 19757-2, section 9). The library must break
-/// none of the rules on a whole library.
+/// words (docs/schema.md). An element has the attributes that it offers. The text of the grammar is that of the library's schema,
+/// define by define. The grammar of a formed library, as files give it, accepts the documents that the library admits, and no other
+/// (docs/admission.md; ISO/IEC 19757-2, section 9). The library must break none of the rules on a whole library.
 ///
 /// Offence comes where a start word is no held element, and only there. It names the least of these words in the order
 /// of bytes, and its file is 0. TooLarge comes where each is one and the schema's text has more than 1,000,000 elements or
@@ -78,6 +80,7 @@ const MOST_NODES: u64 = 4_000_000;
 pub fn compile(alloc: Global, library: &Library, start: &Words) -> Result<Grammar, CompileRefusal>
     requires { (key : AKey) (rule : ℕ) → Breaks library.now key rule → ⊥ }
     ensures grammar { IfOk result (IsGrammarOf library.now start.now) }
+    ensures text { IfOk result (λ grammar. IsSchemaText library.now start.now (grammar_text grammar)) }
     ensures plain { IfOk result (λ grammar. IsFormedLibrary library.now → IsPlain grammar) }
     ensures accepts { IfOk result (λ grammar. IsFormedLibrary library.now → (t : ATree) → Accepts grammar t ↔ Admits library.now start.now t) }
     ensures held { IsOk result → HoldsStart library.now start.now }

@@ -2,6 +2,7 @@ use Rattle.std.proofs.Common.{◌<◌, arith}
 use Rattle.std.proofs.lemmas.Grind.{common_steps}
 use Rattle.compile_laws.proofs.Correct.{accepts_admitted}
 use Rattle.compile_core.proofs.Plain.{apart, plain}
+use Rattle.compile_core.proofs.SchemaText.{schema_text}
 use Rattle.compile_core.proofs.TooLarge.{nodes_pass}
 use Rattle.compile_core.proofs.compiling.compile.Goals as goal
 
@@ -18,6 +19,9 @@ returns-then-branch-gt-MOST_NODES-clause-too_large c = λ e.
       is_grammar = c.in_ok-grammar.ensures.grammar;
       too_large = nodes_pass grammar c.in_ok-linked_nodes.field-0 c.in_ok-linked_nodes.ensures over;
     }
+
+pub returns-clause-text : goal.returns-clause-text
+returns-clause-text c = schema_text c.args.library.now c.args.start.now c.in_ok-grammar.grammar c.in_ok-grammar.ensures.grammar
 
 pub returns-clause-plain : goal.returns-clause-plain
 returns-clause-plain c = λ f. plain c.args.library.now c.args.start.now c.in_ok-grammar.grammar f c.requires c.in_default.ensures c.in_ok-grammar.ensures.grammar

@@ -1,5 +1,4 @@
 use Rattle.std.proofs.Common.{◌≡◌, ap, inl, inr, refl, subst, sym, ◌∙◌, Err}
-use Rattle.compile_core.proofs.SchemaText.{schema_text}
 use Rattle.compile_core.specs.SchemaText.{IsSchemaText}
 use Rattle.odd_cli.specs.Outcome.{answers}
 use Rattle.odd_cli.specs.Reply.{HasSchema, HasStart, start_offence}
@@ -27,7 +26,7 @@ returns-in-Ok-print_rng-clause-ok c = (
   c.args.library.now,
   HasStart.start_held (c.in-Ok.ensures.held refl),
   HasSchema.schema c.in-Ok.grammar (record { holds_start = c.in-Ok.ensures.held refl; is_grammar = c.in-Ok.ensures.grammar; within = c.in-Ok.ensures.within })
-      (subst (IsSchemaText c.args.library.now c.args.library.now.start) (sym c.in-Ok-print_rng.ensures.text) (schema_text c.args.library.now c.args.library.now.start c.in-Ok.grammar c.in-Ok.ensures.grammar)),
+      (subst (IsSchemaText c.args.library.now c.args.library.now.start) (sym c.in-Ok-print_rng.ensures.text) c.in-Ok.ensures.text),
 )
 
 pub returns-in-Ok-print_rng-clause-accepts : goal.returns-in-Ok-print_rng-clause-accepts
