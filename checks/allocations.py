@@ -1,13 +1,12 @@
 #!/usr/bin/env python3
 """Makes each allocation of a run of odd fail in turn, and looks for an answer that is not the proper one.
 
-    checks/allocations.py PROGRAM [aside] [FILE..]
+    checks/allocations.py PROGRAM [WORD..]
 
-PROGRAM is the built program odd, FILE.. the chain that is compiled, with the word `aside` or without it: the two files of examples/ where
-none is given. A shim over malloc and realloc, which is compiled here with cc, lets the Nth call of a run find no memory, for each N up to
-the number of calls of a run in which none fails. Each run must end with 8, nothing on standard output and the line for
-want of memory, or with 8 and nothing at all, as where there is no memory for the words, or else as the run without a
-failure does. Ends with 1 where one does otherwise.
+PROGRAM is the built program odd, WORD.. are its words: where none is given, `compile` with the two files of examples/. A shim over malloc and
+realloc, which is compiled here with cc, lets the Nth call of a run find no memory, for each N up to the number of calls of a run in which none
+fails. Each run must end with 8, nothing on standard output and the line for want of memory, or with 8 and nothing at all, as where there is no
+memory for the words, or else as the run without a failure does. Ends with 1 where one does otherwise.
 """
 
 import collections
@@ -18,7 +17,7 @@ import sys
 import tempfile
 
 EXAMPLES = pathlib.Path(__file__).resolve().parent.parent / "examples"
-CHAIN = [EXAMPLES / "source.odd", EXAMPLES / "edition.odd"]
+WORDS = ["compile", EXAMPLES / "source.odd", EXAMPLES / "edition.odd"]
 NO_MEMORY, NO_WORDS = (8, b"", b"odd: no memory\n"), (8, b"", b"")
 TOLD = {NO_MEMORY: "for want of memory", NO_WORDS: "without words"}
 SHIM = r"""
@@ -77,8 +76,7 @@ def answer(command, shim, failing=0, told=None):
 
 
 def main(program, words):
-    aside = words[:1] == ["aside"]
-    command = [str(pathlib.Path(program).resolve()), *["aside"] * aside, "compile", *map(str, words[aside:] or CHAIN)]
+    command = [str(pathlib.Path(program).resolve()), *map(str, words or WORDS)]
     counts = collections.Counter()
     with tempfile.TemporaryDirectory() as name:
         folder = pathlib.Path(name)
