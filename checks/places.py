@@ -51,6 +51,7 @@ FILES = [
     b"<a/>", b"<a>t</a>", b"<a b='c' d=\"e\"/>", b"<a><b/>t<c></c></a>", b"<?xml version='1.0' encoding='utf-8'?>\n<a/>\n<!--c-->",
     b"<a xmlns='n' xmlns:p='m'><p:b p:c='1' c='2'/><c xmlns=''/></a>", b"<a>&lt;&#60;&#x3c;]]&gt;<![CDATA[<&]]]]></a>",
     b"<p:a xmlns:p='n'><p:b xmlns:p='m'/></p:a>", b"\xef\xbb\xbf<?p d?><a>\xc3\xa4\xe2\x82\xac\xf0\x9d\x84\x9e</a>", b"<a xml:lang='de'/>",
+    b"<a>t<?p?>u<?q\td ?><!--c--><?xmlp e>?><b/><?r \xc3\xa4?></a>",
 ]
 PIECES = [
     b"<", b">", b"/>", b"</a>", b"=", b'"', b"'", b"&", b"&amp;", b"&#60;", b"&#x", b";", b"<!--", b"-->", b"--", b"<![CDATA[", b"]]>", b"]]",

@@ -4,6 +4,7 @@ pub mod FormedBindings
 pub mod LongestFront
 pub mod NumberProofs
 pub mod Openings
+pub mod PassedProofs
 pub mod Places
 pub mod PlainBytes
 pub mod PlainText

@@ -20,7 +20,7 @@ use Rattle.odd_reader.specs.declared.builder.Last.{Last}
 use Rattle.odd_reader.specs.declared.element.OpenElement.{OpenElement}
 use Rattle.odd_reader.proofs.PlainBytes.{chars_pass}
 use Rattle.odd_reader.proofs.StandsTaken.{kept}
-use Rattle.odd_reader.proofs.TaggingProofs.{joined, shorter_written}
+use Rattle.odd_reader.proofs.TaggingProofs.{marked, shorter_written}
 
 -- text that stands inside an element fits where one is open
 
@@ -63,19 +63,13 @@ section_read (c ∷ cs) h =
     let p = and_parts (is_in_section c) (list_all is_in_section cs) h in
     rw (no_return c p.0) (ap (λ xs. c ∷ xs) (section_read cs p.1))
 
-section_assembled : (open_mark inside close rest : List ℕ) → open_mark ++ (inside ++ (close ++ rest)) ≡ ((open_mark ++ inside) ++ close) ++ rest
-section_assembled open_mark inside close rest = simp append_assoc
-
 pub section_first : (text begun inside ended rest : List ℕ) → IsUtf8 inside → list_all is_section_byte inside ≡ true → text ≡ codes "<![CDATA[" ++ begun → begun ≡ inside ++ ended
     → ended ≡ codes "]]>" ++ rest → IsSectionFirst text inside rest
 section_first text begun inside ended rest u h e f g =
     let cs = chars inside in
     let same : encode_utf8_all cs ≡ inside = encodes-chars inside u in
     let all : text ≡ encode_utf8_all (token_written (cdata cs)) ++ rest =
-    e ∙ ap (λ xs. codes "<![CDATA[" ++ xs) (f ∙ ap (λ xs. inside ++ xs) g)
-    ∙ section_assembled (codes "<![CDATA[") inside (codes "]]>") rest
-    ∙ ap (λ xs. xs ++ rest) (sym (joined (codes "<![CDATA[" ++ cs) (codes "]]>") (codes "<![CDATA[" ++ inside) (codes "]]>")
-    (joined (codes "<![CDATA[") cs (codes "<![CDATA[") inside (ascii_codes (codes "<![CDATA[") refl) same) (ascii_codes (codes "]]>") refl))) in
+    marked (codes "<![CDATA[") cs (codes "]]>") text begun inside ended rest (ascii_codes (codes "<![CDATA[") refl) (ascii_codes (codes "]]>") refl) same e f g in
     let some : 0 < length (token_written (cdata cs)) = omega arith in
     record { characters = cs; all_plain = chars_pass is_in_section high_section inside u h; written = same; parts = all; shorter = shorter_written text (token_written (cdata cs)) rest some all }
 

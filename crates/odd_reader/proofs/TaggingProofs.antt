@@ -1,25 +1,22 @@
 -- What the parts of a tag that are read at once make together.
-use Rattle.std.proofs.Common.{◌≡◌, ◌≢◌, ℕ, ◌<◌, ◌≤◌, true, false, ◌&&◌, ◌||◌, ◌==◌, List, [], ◌∷◌, ◌++◌, length, length-append, get_or, take, zero, suc, IsTrue, IsUtf8, refl, sym, ap, ap₂, ◌∙◌, append_assoc, append-nil, codes, arith}
+use Rattle.std.proofs.Common.{◌≡◌, ◌≢◌, ℕ, ◌<◌, ◌≤◌, true, false, ◌||◌, ◌==◌, List, [], ◌∷◌, ◌++◌, length, length-append, get_or, take, zero, suc, IsTrue, refl, sym, ap, ap₂, ◌∙◌, append_assoc, append-nil, codes, arith}
 use Rattle.std.proofs.lemmas.Bool.{and_parts, and_from}
 use Rattle.std.proofs.lemmas.Bool.Decides.{nat_tests}
 use Rattle.std.proofs.lemmas.List.{map-append}
-use Rattle.std.proofs.lemmas.List.Folds.{list_all-append}
 use Rattle.std.proofs.lemmas.List.Elements.{All-push}
-use Rattle.std.proofs.lemmas.Str.{encodes-append, encodes-chars, encode_ascii, length-le-encodes}
+use Rattle.std.proofs.lemmas.Str.{encodes-append, encode_ascii, length-le-encodes}
 use Rattle.std.specs.List.{list_all}
-use Rattle.std.specs.Str.{chars, encode_utf8_all}
+use Rattle.std.specs.Str.{encode_utf8_all}
 use Rattle.odd_tokens.proofs.Ascii.{ascii_codes, ascii_name, ascii_ncname, ascii_text, is_ascii_name}
-use Rattle.odd_tokens.proofs.Characters.{all_weaker}
-use Rattle.odd_tokens.specs.Characters.{is_char, is_space, is_white}
+use Rattle.odd_tokens.specs.Characters.{is_space, is_white}
 use Rattle.odd_tokens.specs.Making.{attribute_made, tag_made}
-use Rattle.odd_tokens.specs.Tokens.{Attribute, IsAttribute, IsQName, Tag, attribute_written, attributes_written, comment, empty_tag, name_written, start_tag, tag_written, token_written, value_written}
-use Rattle.odd_tokens.specs.Whole.{IsLexed, IsLexedTag}
+use Rattle.odd_tokens.specs.Tokens.{Attribute, IsAttribute, IsQName, Tag, attribute_written, attributes_written, empty_tag, name_written, start_tag, tag_written, token_written, value_written}
+use Rattle.odd_tokens.specs.Whole.{IsLexedTag}
 use Rattle.odd_tokens.specs.declared.token.Token.TheVariants as made
 use Rattle.odd_tokens.specs.declared.token.WrittenAttr.{WrittenAttr}
 use Rattle.odd_tokens.specs.declared.token.WrittenName.{WrittenName}
-use Rattle.odd_reader.proofs.PlainBytes.{chars_pass}
 use Rattle.odd_reader.proofs.ValueProofs.{pieces_in}
-use Rattle.odd_reader.specs.Tagging.{AreAttributesFirst, IsAttributeFirst, IsCommentFirst, IsNamed, IsPlainName, IsQuoted, IsSpaced, IsTokenFirst, begins_plain, is_comment_byte, is_in_comment, is_plain_part, qname}
+use Rattle.odd_reader.specs.Tagging.{AreAttributesFirst, IsAttributeFirst, IsNamed, IsPlainName, IsQuoted, IsSpaced, IsTokenFirst, begins_plain, is_plain_part, qname}
 
 -- what is put together, as bytes
 
@@ -32,38 +29,16 @@ shorter_written text written rest some e =
     let same = ap length e ∙ length-append (encode_utf8_all written) rest in
     omega (arith, all, same, some)
 
--- comments
+assembled_marks : (open_mark inside close rest : List ℕ) → open_mark ++ (inside ++ (close ++ rest)) ≡ ((open_mark ++ inside) ++ close) ++ rest
+assembled_marks open_mark inside close rest = simp append_assoc
 
-high_comment : (c : ℕ) → 128 ≤ c → is_char c ≡ true → is_in_comment c ≡ true
-high_comment c l h = grind (arith, nat_tests)
-
-comment_chars : (cs : List ℕ) → list_all is_in_comment cs ≡ true → list_all is_char cs ≡ true
-comment_chars cs h = all_weaker is_in_comment is_char (λ c k. (and_parts (is_char c) _ k).0) cs h
-
-no_dash : (front rest cs : List ℕ) → list_all is_in_comment cs ≡ true → cs ≢ front ++ 0x2D ∷ rest
-no_dash front rest cs h e =
-    let all : (list_all is_in_comment front && list_all is_in_comment (0x2D ∷ rest)) ≡ true = sym (list_all-append is_in_comment front (0x2D ∷ rest)) ∙ ap (list_all is_in_comment) (sym e) ∙ h in
-    let k : false ≡ true = (and_parts (is_char 0x2D) false (and_parts (is_char 0x2D && false) _ (and_parts (list_all is_in_comment front) _ all).1).0).1 in
-    cc k
-
-pub comment_lexed : (cs : List ℕ) → list_all is_in_comment cs ≡ true → IsLexed (comment cs)
-comment_lexed cs h = (comment_chars cs h, λ before after e. no_dash before (0x2D ∷ after) cs h (e ∙ append_assoc before (codes "--") after), λ front e. no_dash front [] cs h e)
-
-comment_assembled : (open_mark inside close rest : List ℕ) → open_mark ++ (inside ++ (close ++ rest)) ≡ ((open_mark ++ inside) ++ close) ++ rest
-comment_assembled open_mark inside close rest = simp append_assoc
-
-pub comment_first : (text begun inside ended rest : List ℕ) → IsUtf8 inside → list_all is_comment_byte inside ≡ true → text ≡ codes "<!--" ++ begun → begun ≡ inside ++ ended → ended ≡ codes "-->" ++ rest
-    → IsCommentFirst text rest
-comment_first text begun inside ended rest u h e f g =
-    let cs = chars inside in
-    let same : encode_utf8_all cs ≡ inside = encodes-chars inside u in
-    let all : text ≡ encode_utf8_all (token_written (comment cs)) ++ rest =
-    e ∙ ap (λ xs. codes "<!--" ++ xs) (f ∙ ap (λ xs. inside ++ xs) g)
-    ∙ comment_assembled (codes "<!--") inside (codes "-->") rest
-    ∙ ap (λ xs. xs ++ rest) (sym (joined (codes "<!--" ++ cs) (codes "-->") (codes "<!--" ++ inside) (codes "-->")
-    (joined (codes "<!--") cs (codes "<!--") inside (ascii_codes (codes "<!--") refl) same) (ascii_codes (codes "-->") refl))) in
-    let some : 0 < length (token_written (comment cs)) = omega arith in
-    record { inside = cs; all_plain = chars_pass is_in_comment high_comment inside u h; parts = all; shorter = shorter_written text (token_written (comment cs)) rest some all }
+-- what stands between two marks of ASCII
+pub marked : (open_mark cs close : List ℕ) (text begun inside ended rest : List ℕ) → encode_utf8_all open_mark ≡ open_mark → encode_utf8_all close ≡ close → encode_utf8_all cs ≡ inside
+    → text ≡ open_mark ++ begun → begun ≡ inside ++ ended → ended ≡ close ++ rest → text ≡ encode_utf8_all ((open_mark ++ cs) ++ close) ++ rest
+marked open_mark cs close text begun inside ended rest o c same e f g =
+    e ∙ ap (λ xs. open_mark ++ xs) (f ∙ ap (λ xs. inside ++ xs) g)
+    ∙ assembled_marks open_mark inside close rest
+    ∙ ap (λ xs. xs ++ rest) (sym (joined (open_mark ++ cs) close (open_mark ++ inside) close (joined open_mark cs open_mark inside o same) c))
 
 -- names
 

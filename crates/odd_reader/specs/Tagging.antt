@@ -1,11 +1,11 @@
--- What is read at once of the text that is left: tags with names of ASCII and values without tabs and line ends, comments, CDATA sections, references.
+-- What is read at once of the text that is left: tags with names of ASCII and values without tabs and line ends, comments, processing instructions, CDATA sections, references.
 use Rattle.std.specs.Prelude.{◌≡◌, ◌<◌, ℕ, length, Bool, true, ◌&&◌, ◌||◌, ◌==◌, not, List, ◌∷◌, ◌++◌, map, All, IsTrue}
 use Rattle.std.specs.List.{list_all}
-use Rattle.std.specs.Str.{encode_utf8_all}
+use Rattle.std.specs.Str.{chars, encode_utf8_all}
 use Rattle.std.specs.Str.Parse.{IsNumeral, digits_value}
 use Rattle.odd_tokens.specs.Characters.{is_char, is_ncname, is_white, is_within}
 use Rattle.odd_tokens.specs.Making.{attribute_made, token_made}
-use Rattle.odd_tokens.specs.Tokens.{Attribute, IsAttribute, IsQName, IsReference, Piece, QName, Reference, Token, attribute_written, attributes_written, cdata, character_of, comment, itself, name_written, reference, reference_written, token_written, value_written}
+use Rattle.odd_tokens.specs.Tokens.{Attribute, IsAttribute, IsQName, IsReference, Piece, QName, Reference, Token, attribute_written, attributes_written, cdata, character_of, comment, instruction, is_set_off, is_xml, itself, name_written, reference, reference_written, token_written, value_written}
 use Rattle.odd_tokens.specs.Values.{value_read}
 use Rattle.odd_tokens.specs.Whole.{IsLexed}
 use Rattle.odd_tokens.specs.declared.token.Token.{Token as Made}
@@ -84,18 +84,35 @@ pub record AreAttributesFirst (text : List ℕ) (made : List WrittenAttr) (rest 
   pub are_made : made ≡ map attribute_made attributes
   pub parts : text ≡ encode_utf8_all (attributes_written attributes) ++ rest
 
--- a character of a comment, but for a dash
-abbrev pub is_in_comment : ℕ → Bool
-is_in_comment c = is_char c && not (c == 0x2D)
+-- a character of XML other than the mark
+abbrev pub is_char_but : ℕ → ℕ → Bool
+is_char_but mark c = is_char c && not (c == mark)
 
-abbrev pub is_comment_byte : ℕ → Bool
-is_comment_byte b = is_in_comment b && not (b == 0xEF)
+abbrev pub is_byte_but : ℕ → ℕ → Bool
+is_byte_but mark b = is_char_but mark b && not (b == 0xEF)
+
+-- characters of XML other than the mark, with these bytes, stand first in the text
+pub record IsUntil (mark : ℕ) (text front rest : List ℕ) : Type 0 where
+  pub all_but : list_all (is_char_but mark) (chars front) ≡ true
+  pub written : encode_utf8_all (chars front) ≡ front
+  pub parts : text ≡ front ++ rest
 
 -- a comment without dashes in it stands first in the text
 pub record IsCommentFirst (text rest : List ℕ) : Type 0 where
   pub inside : List ℕ
-  pub all_plain : list_all is_in_comment inside ≡ true
+  pub all_but : list_all (is_char_but 0x2D) inside ≡ true
   pub parts : text ≡ encode_utf8_all (token_written (comment inside)) ++ rest
+  pub shorter : length rest < length text
+
+-- a processing instruction without question marks after its target stands first in the text
+pub record IsInstructionFirst (text rest : List ℕ) : Type 0 where
+  pub target : List ℕ
+  pub inside : List ℕ
+  pub named : IsTrue (is_ncname target)
+  pub other : IsTrue (not (is_xml target))
+  pub set_off : IsTrue (is_set_off inside)
+  pub all_but : list_all (is_char_but 0x3F) inside ≡ true
+  pub parts : text ≡ encode_utf8_all (token_written (instruction target inside)) ++ rest
   pub shorter : length rest < length text
 
 -- a character of a CDATA section that is read as itself, but for a bracket

@@ -3,6 +3,7 @@ ghost use Rattle.std.specs.Option.{option_copied};
 ghost use Rattle.odd_reader.specs.Resolving.{Gives, around, attribute_named, attributes_named, element_named, resolved};
 ghost use Rattle.odd_tree.specs.Names.{in_force, last_bound};
 
+use crate::children::Children;
 use crate::declarations::{declarations, may_all_bind};
 use crate::element::OpenElement;
 use crate::misfit::Misfit;
@@ -10,7 +11,7 @@ use crate::twice::is_named_twice;
 use crate::xml::XmlNamespace;
 use odd_text::{Name, NoMemory, Text, TryCopy};
 use odd_tokens::{WrittenAttr, WrittenName, WrittenTag};
-use odd_tree::{Attr, Attrs, Bindings, Nodes};
+use odd_tree::{Attr, Attrs, Bindings};
 use std::alloc::Global;
 
 /// What a start tag stands in: the open elements, the outermost first, and the namespace of the prefix `xml`.
@@ -47,7 +48,7 @@ impl<'a> Around<'a> {
             name,
             attrs,
             binds,
-            children: Nodes::new(self.alloc),
+            children: Children::new(self.alloc),
             at,
         })
     }
@@ -124,13 +125,15 @@ impl<'a> Around<'a> {
     fn attributes(&self, own: &Bindings, plain: Vec<WrittenAttr>) -> Result<Attrs, Misfit>
         ensures { Gives (attributes_named (around (reverse self.now.open.now) ++ own.now) plain.items) result }
     {
-        let mut attrs = Attrs::new(self.alloc);
+        if plain.is_empty() {
+            return Ok(Attrs::new(self.alloc));
+        }
+        let mut attrs = Vec::with_capacity(self.alloc, plain.len())?;
         for attr in plain {
             let WrittenAttr { name, value } = attr;
             let name = self.attribute_name(own, name)?;
             attrs.push(Attr { name, value })?;
         }
-        attrs.fit();
-        Ok(attrs)
+        Ok(Attrs::of(self.alloc, attrs)?)
     }
 }

@@ -4,6 +4,7 @@ ghost use Rattle.odd_reader.specs.Stepping.{EndsFirst, ended, some_open, takes_p
 ghost use Rattle.odd_tree.specs.Spelled.{deepest};
 
 use crate::around::Around;
+use crate::children::Children;
 use crate::element::{OpenElement, add_child, tree_of};
 use crate::ends::after_end;
 use crate::misfit::Misfit;
@@ -33,6 +34,8 @@ pub struct Builder {
     alloc: Global,
     // the open elements, the outermost first
     open: Vec<OpenElement>,
+    // what held the children of elements that are closed
+    spare: Vec<Children>,
     root: Option<Tree>,
     // the text that is not finished, in a buffer that is used again
     text: String,
@@ -49,6 +52,7 @@ impl Builder {
         Ok(Builder {
             alloc,
             open: Vec::new(alloc),
+            spare: Vec::new(alloc),
             root: None,
             text: String::new(alloc),
             last: Last::Other,
@@ -125,7 +129,7 @@ impl Builder {
         }
     }
 
-    /// Passes a comment.
+    /// Passes a comment or a processing instruction.
     pub fn pass(&mut self)
         ensures { build (kept_of self.old) Token.Passed ≡ Ok (kept_of self.new) }
     {
@@ -148,6 +152,7 @@ impl Builder {
         let Builder {
             alloc: _,
             open: _,
+            spare: _,
             root,
             text: _,
             last: _,
@@ -273,11 +278,15 @@ impl Builder {
             open: self.open.as_slice(),
             xml: &self.xml,
         };
-        let element = around.opened(tag)?;
+        let mut element = around.opened(tag)?;
         if self.is_deepest() {
             return Err(Misfit::TooDeep);
         }
         self.end_text()?;
+        if let Some(mut children) = self.spare.pop() {
+            children.clear();
+            element.children = children;
+        }
         self.open.push(element)?;
         Ok(())
     }
@@ -303,7 +312,7 @@ impl Builder {
         let Some(innermost) = self.open.pop() else {
             return Ok(());
         };
-        let closed = tree_of(innermost);
+        let closed = tree_of(self.alloc, innermost, &mut self.spare)?;
         if self.open.is_empty() {
             self.root = Some(closed);
             return Ok(());

@@ -1,9 +1,11 @@
-ghost use Rattle.std.specs.Prelude.{◌≡◌, ◌∷◌, [], OnOk, reverse};
+ghost use Rattle.std.specs.Prelude.{◌≡◌, ◌∷◌, [], IfOk, OnOk, reverse};
 ghost use Rattle.odd_reader.specs.Resolving.{tree_of as the_tree_of, with_children};
 
+use crate::children::Children;
 use odd_text::{Name, NoMemory};
 use odd_tokens::WrittenName;
-use odd_tree::{Attrs, Bindings, Node, Nodes, Tree};
+use odd_tree::{Attrs, Bindings, Node, Tree};
+use std::alloc::Global;
 
 /// An open element with its children so far: its name as it is written and in its namespace, and the byte of its tag.
 #[derive(Drop)]
@@ -12,13 +14,17 @@ pub struct OpenElement {
     pub name: Name,
     pub attrs: Attrs,
     pub binds: Bindings,
-    pub children: Nodes,
+    pub children: Children,
     pub at: u64,
 }
 
-/// The tree of an element that is closed.
-pub fn tree_of(element: OpenElement) -> Tree
-    ensures { result ≡ the_tree_of element }
+/// The tree of an element that is closed. What held its children is kept for others. The only error is NoMemory, for want of memory.
+pub fn tree_of(
+    alloc: Global,
+    element: OpenElement,
+    spare: &mut Vec<Children>,
+) -> Result<Tree, NoMemory>
+    ensures { IfOk result (λ tree. tree ≡ the_tree_of element) }
 {
     let OpenElement {
         written: _,
@@ -28,14 +34,15 @@ pub fn tree_of(element: OpenElement) -> Tree
         mut children,
         at,
     } = element;
-    children.fit();
-    Tree {
+    let nodes = children.taken(alloc)?;
+    spare.push(children)?;
+    Ok(Tree {
         name,
         attrs,
         binds: binds.into_scope(),
-        children,
+        children: nodes,
         at,
-    }
+    })
 }
 
 /// Puts a node among the children of the innermost of the open elements, the last. The only error is NoMemory, for want of memory.

@@ -3,10 +3,12 @@
 
 mod around;
 mod builder;
+mod children;
 mod comments;
 mod declarations;
 mod element;
 mod ends;
+mod instructions;
 mod misfit;
 mod names;
 pub mod reader;
@@ -15,6 +17,7 @@ mod runs;
 mod sections;
 mod simple_tags;
 mod twice;
+mod until;
 mod xml;
 
 pub use odd_printing::{escape_text, escape_value};

@@ -8,6 +8,7 @@ ghost use Rattle.odd_tree.specs.Spelled.{DepthPlace, GivesTree, IsNotXml};
 
 use crate::builder::Builder;
 use crate::comments::after_comment;
+use crate::instructions::after_instruction;
 use crate::misfit::Misfit;
 use crate::references::after_reference;
 use crate::runs::plain_run;
@@ -206,6 +207,21 @@ impl Reader {
         ensures too_deep { IfErr result (λ e. (place : ℕ) → e ≡ ReadRefusal.TooDeep place → Refuses DepthPlace self.old at text.now place) }
     {
         let Some(rest) = after_comment(text) else {
+            return self.instruction(at, text);
+        };
+        self.builder.pass();
+        Ok(rest)
+    }
+
+    // Takes the processing instruction that stands first, inside an element, or other markup.
+    fn instruction<'a>(&mut self, at: u64, text: &'a str) -> Result<&'a str, ReadRefusal>
+        requires some { 0 < length text.now }
+        requires inside { IsInside self.old }
+        ensures ok { IfOk result (λ rest. Advances self.old self.new at text.now rest.now) }
+        ensures not_xml { IfErr result (λ e. (place : ℕ) → e ≡ ReadRefusal.NotXml place → Refuses IsNotXml self.old at text.now place) }
+        ensures too_deep { IfErr result (λ e. (place : ℕ) → e ≡ ReadRefusal.TooDeep place → Refuses DepthPlace self.old at text.now place) }
+    {
+        let Some(rest) = after_instruction(text) else {
             return self.section(at, text);
         };
         self.builder.pass();

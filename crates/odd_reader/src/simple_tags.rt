@@ -74,8 +74,8 @@ fn value_length(quote: u8, bytes: &[u8]) -> usize
     at
 }
 
-// A name of ASCII without a colon that stands first, and what follows.
-fn part(text: &str) -> Option<(&str, &str)>
+/// A name of ASCII without a colon that stands first, and what follows.
+pub fn part(text: &str) -> Option<(&str, &str)>
     ensures parts { IfSome result (λ p. text.now ≡ p.0.now ++ p.1.now) }
     ensures name { IfSome result (λ p. IsPlainName p.0.now) }
 {

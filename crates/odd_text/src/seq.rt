@@ -1,4 +1,4 @@
-ghost use Rattle.std.specs.Prelude.{◌≡◌, [], ◌∷◌, ◌++◌, ◌<◌, ◌≤◌, ◌↔◌, length, slice_get, OnOk, OnErr, IsNone, IsTrue};
+ghost use Rattle.std.specs.Prelude.{◌≡◌, [], ◌∷◌, ◌++◌, ◌<◌, ◌≤◌, ◌↔◌, length, slice_get, IfOk, OnOk, OnErr, IsNone, IsTrue};
 ghost use Rattle.std.specs.Option.{option_copied};
 
 use crate::copy::TryCopy;
@@ -89,6 +89,32 @@ impl<T> Seq<T> {
 }
 
 impl<T: Drop> Seq<T> {
+    /// A list of these items, in no more memory than they take. The only error is NoMemory, for want of memory.
+    pub fn of(alloc: Global, mut items: Vec<T>) -> Result<Seq<T>, NoMemory>
+        ensures { IfOk result (λ made. made ≡ items.items) }
+    {
+        items.shrink_to_fit();
+        Ok(Seq {
+            alloc,
+            items: Some(Box::new(alloc, items)?),
+        })
+    }
+
+    /// A list of the items of another, in no more memory than they take. The other is empty then, and keeps its memory. The only
+    /// error is NoMemory, for want of memory; the items stay where they are then.
+    pub fn moved(alloc: Global, items: &mut Vec<T>) -> Result<Seq<T>, NoMemory>
+        ensures ok { IfOk result (λ made. made ≡ items.old.items) }
+        ensures empty { OnOk result (items.new.items ≡ []) }
+        ensures err { OnErr result (items.new.items ≡ items.old.items) }
+    {
+        let mut exact = Box::new(alloc, Vec::with_capacity(alloc, items.len())?)?;
+        exact.append(items)?;
+        Ok(Seq {
+            alloc,
+            items: Some(exact),
+        })
+    }
+
     /// Puts an item at the end. Without memory the list stays as it was.
     pub fn push(&mut self, item: T) -> Result<(), NoMemory>
         ensures ok { OnOk result (self.new ≡ self.old ++ item ∷ []) }

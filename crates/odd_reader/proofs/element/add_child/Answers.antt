@@ -9,4 +9,4 @@ returns-in-Some c =
     on_ok_weaker c.push.result
     (last_grown v.items (v.len - 1) c.in-Some.parent.now c.push.new.self c.args.node (ap (λ n. n - 1) v.ok.0)
     (subst (λ n. 0 < n) v.ok.0 (c.in-Some.ensures.variant.0 refl)) c.in-Some.ensures.value)
-    c.push.ensures.ok
+    c.push.ensures

@@ -13,8 +13,8 @@ loop-attr-preserved c =
     let attr = c.in-Some.attr in
     let left = c.next.new.self.rest.items in
     record {
-      so_far = attributes_more binds done attr c.loop-attr.attrs c.in_ok-name.name c.loop-attr.invariant.so_far c.in_ok-name.ensures
-          ∙ ap (λ l. Some l) (sym c.in_ok-push.ensures.ok);
+      so_far = attributes_more binds done attr c.loop-attr.attrs.items c.in_ok-name.name c.loop-attr.invariant.so_far c.in_ok-name.ensures
+          ∙ ap (λ l. Some l) (sym c.in_ok-push.ensures.items);
       parted = c.loop-attr.invariant.parted ∙ ap (λ l. done ++ l) c.in-Some.ensures.steps.0 ∙ sym (append_assoc done (attr ∷ []) left);
     }
 
@@ -25,6 +25,6 @@ returns-in_err-name c =
     let left = c.next.new.self.rest.items in
     let parts : c.args.plain.items ≡ c.loop-attr.yielded ++ attr ∷ left =
     c.loop-attr.invariant.parted ∙ ap (λ l. c.loop-attr.yielded ++ l) c.in-Some.ensures.steps.0 in
-    let given = err_from_is_err_and c.from_residual.result c.from_residual.ensures.1 in
-    gives_none (attribute_named binds attr.name) (attributes_named binds c.args.plain.items) c.from_residual.result c.in_err-name.field-0.0
+    let given = err_from_is_err_and c.from_residual-in_err-name.result c.from_residual-in_err-name.ensures.1 in
+    gives_none (attribute_named binds attr.name) (attributes_named binds c.args.plain.items) c.from_residual-in_err-name.result c.in_err-name.field-0.0
     (given.1 ∙ ap (λ e. Err e) given.2) c.in_err-name.ensures (λ e. ap (attributes_named binds) parts ∙ attributes_stop binds c.loop-attr.yielded attr left e)

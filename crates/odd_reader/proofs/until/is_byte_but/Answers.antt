@@ -1,7 +1,7 @@
 use Rattle.std.proofs.Common.{arith}
 use Rattle.std.proofs.lemmas.Bool.Decides.{nat_tests}
 use Rattle.odd_tokens.specs.Characters.{is_char}
-use Rattle.odd_reader.proofs.comments.is_comment_byte.Goals as goal
+use Rattle.odd_reader.proofs.until.is_byte_but.Goals as goal
 
 pub returns-then-b-ge32 : goal.returns-then-b-ge32
 unfolding is_char
