@@ -13,7 +13,7 @@ use Rattle.odd_tree.specs.declared.tree.Tree.{Tree, out-Tree}
 use Rattle.odd_tree.proofs.InList.{map_stands, nothing_stands, stands_map}
 use Rattle.odd_tree.proofs.PrintedTrees.{Shows, binds_to}
 use Rattle.odd_decls.proofs.OneDoc.{HasNone, one_read}
-use Rattle.odd_decls.specs.Aside.{IsConstraint, IsConstraintIn, IsConstraintOf, IsLeftOut, IsReadIn, IsReadOf}
+use Rattle.odd_decls.specs.Aside.{IsConstraintOf, IsLeftOut, IsReadOf}
 use Rattle.odd_decls.specs.Declares.{Declares, DeclaresWhole, IsEntryOf, PlacesRise, namespace_of, start_of}
 use Rattle.odd_decls.specs.Items.{IsSpecOf, at_of}
 use Rattle.odd_decls.specs.Offences.{HasIdAgain, ItemFault, ItemsOffend, Offends, ReferencesOffend, SchemasOffend}
@@ -24,6 +24,7 @@ use Rattle.odd_forms.specs.Words.{is_among, words_of}
 use Rattle.odd_forms.specs.declared.element.Element.{Element}
 use Rattle.odd_forms.specs.declared.element.Element.TheVariants as kind
 use Rattle.odd_items.proofs.Standing.{one_search}
+use Rattle.odd_items.specs.Constraints.{IsConstraint, IsConstraintIn, IsReadIn}
 use Rattle.odd_items.specs.Groups.{HoldsItems, IsItemIn, group_names, reference_names, schema_names}
 use Rattle.odd_items.specs.Search.{Finds, FindsAmong, Found, children_found, own}
 use Rattle.odd_library.specs.Formed.{IsFormedLibrary, IsFormedPart}

@@ -13,7 +13,6 @@ use Rattle.std.specs.Option.{IfSome, option_map}
 use Rattle.std.specs.Ordering.{eq_by_cmp}
 use Rattle.odd_text.proofs.Entries.{put_rises, put_sets}
 use Rattle.odd_text.specs.Text.{text_cmp}
-use Rattle.odd_text.specs.declared.name.Bind.{Bind}
 use Rattle.odd_text.specs.declared.name.Name.{Name}
 use Rattle.odd_tokens.specs.Characters.{IsLegal}
 use Rattle.odd_tokens.specs.Same.{is_same}
@@ -41,16 +40,17 @@ use Rattle.odd_forms.specs.Words.{is_among}
 use Rattle.odd_forms.specs.declared.element.Element.{Element}
 use Rattle.odd_forms.specs.declared.element.Element.TheVariants as element
 use Rattle.odd_data.proofs.Formed.{IsValued, all_valued, data_formed, list_formed, marks_formed}
-use Rattle.odd_data.proofs.FormedTrees.{IsFormedSomewhere, child_formed, tag_formed}
-use Rattle.odd_data.proofs.Unbroken.{IsUnbroken, attribute_kept, bounds_formed, by_text, child_kept, decided, legal_given, suited}
+use Rattle.odd_data.proofs.FormedTrees.{child_formed, tag_formed}
+use Rattle.odd_data.proofs.Unbroken.{IsUnbroken, bounds_formed, by_text, child_kept, decided, legal_given, suited}
 use Rattle.odd_data.specs.Formed.{IsFormedData}
 use Rattle.odd_data.specs.Values.{kind_in, list_given, marks_in}
 use Rattle.odd_attributes.specs.Formed.{AreFormedEdits, AreFormedFields, IsFormedDatatype, IsFormedDef, IsFormedEdit, IsFormedValEdit}
-use Rattle.odd_attributes.specs.Giving.{AreEditsOf, AttListFault, alt_given, datatype_by, datatype_given, datatype_in, def_of, edit_of, fields_of, is_in_mode, val_edit_given, val_edit_of, with_definition, with_ident}
+use Rattle.odd_attributes.specs.Giving.{AreEditsOf, alt_given, datatype_by, datatype_given, datatype_in, def_of, edit_of, fields_of, is_in_mode, val_edit_given, val_edit_of, with_definition, with_ident}
 use Rattle.odd_attributes.specs.declared.att_edit.AttEdit.{AttEdit}
 use Rattle.odd_attributes.specs.declared.att_edit.AttEdit.TheVariants as edit
 use Rattle.odd_attributes.specs.declared.val_edit.ValEdit.TheVariants as vals
 use Rattle.odd_attributes.proofs.Formed.{laid_formed}
+use Rattle.odd_attributes.proofs.ReadLists.{IsReadAs, IsSound, IsUnbrokenSomewhere, child_sound, children_sound, ident_sound}
 
 -- what is found among items is one of them, and passes the test
 found : {A : Type 0} (test : A → Bool) (xs : List A) (x : A) → find test xs ≡ Some x → StandsIn xs x × (test x ≡ true)
@@ -102,24 +102,28 @@ val_formed list valued =
     cond_both (is_in_mode (codes "delete") list) vals.Delete (if is_in_mode (codes "change") list then change else set) IsFormedValEdit (λ deleted. tt)
     (λ kept. cond_both (is_in_mode (codes "change") list) change set IsFormedValEdit (λ changed. marks_formed false list valued) (λ other. list_formed list valued))
 
--- an `attDef` that breaks nothing
-module _ {left first end : ℕ} {around : List Bind} {def : Tree} (unbroken : IsUnbroken (DeepFault element.AttDef left around def)) (formed : IsFormed first end def) where
+-- an `attDef` that breaks nothing, as it is read
+module _ {first end : ℕ} {def : Tree} (sound : IsSound element.AttDef def) (formed : IsFormed first end def) where
+  -- no child of a kind does
+  abbrev inside : (child : Tree) → StandsIn (children_of def) child → (kind : Element) → IsChild element.AttDef kind child → IsUnbrokenSomewhere kind child
+  inside child s kind is = children_sound def sound child s kind is
+
   alt_formed : IfSome (alt_given def) IsAttributeName
   alt_formed = by_child (codes "altIdent") def (λ o. IfSome (option_map collapsed_in o) IsAttributeName) tt (λ alt s is.
-      attribute_named (collapsed_in alt) (λ no. child_kept unbroken alt s element.AttAltIdent (is_kind element.AttDef element.AttAltIdent (codes "altIdent") alt refl is) 1
+      attribute_named (collapsed_in alt) (λ no. (inside alt s element.AttAltIdent (is_kind element.AttDef element.AttAltIdent (codes "altIdent") alt refl is)).2 1
       (DeepFault.itself (FormFault.own (OwnFault.demand (own_text attribute_name) (stands_first _ _) (DemandFault.not_of_kind no))))))
 
   datatype_formed : IfSome (datatype_given def) IsFormedDatatype
   datatype_formed = by_child (codes "datatype") def (λ o. IfSome (datatype_in o) IsFormedDatatype) tt (λ d s is.
-      let inside = child_kept unbroken d s element.Datatype (is_kind element.AttDef element.Datatype (codes "datatype") d refl is) in
+      let within = (inside d s element.Datatype (is_kind element.AttDef element.Datatype (codes "datatype") d refl is)).2 in
       by_child (codes "dataRef") d (λ o. IfSome (datatype_by d o) IsFormedDatatype) tt (λ ref r of.
-      with_bounds _ _ (bounds_formed inside (stands_first _ _) (stands_later _ _ _ (stands_first _ _)) (stands_first _ _))
-      (data_formed (child_kept inside ref r element.AttDataRef (is_kind element.Datatype element.AttDataRef (codes "dataRef") ref refl of)) (child_formed (child_formed formed d s).2 ref r).2 (stands_first _ _)
+      with_bounds _ _ (bounds_formed within (stands_first _ _) (stands_later _ _ _ (stands_first _ _)) (stands_first _ _))
+      (data_formed (child_kept within ref r element.AttDataRef (is_kind element.Datatype element.AttDataRef (codes "dataRef") ref refl of)) (child_formed (child_formed formed d s).2 ref r).2 (stands_first _ _)
       (stands_later _ _ _ (stands_later _ _ _ (stands_later _ _ _ (stands_later _ _ _ (stands_first _ _))))))))
 
   vals_formed : IfSome (val_edit_given def) IsFormedValEdit
   vals_formed = by_child (codes "valList") def (λ o. IfSome (option_map val_edit_of o) IsFormedValEdit) tt (λ list s is.
-      val_formed list (all_valued (child_kept unbroken list s element.AttValList (is_kind element.AttDef element.AttValList (codes "valList") list refl is)) (child_formed formed list s).2 element.AttValItem
+      val_formed list (all_valued (inside list s element.AttValList (is_kind element.AttDef element.AttValList (codes "valList") list refl is)).2 (child_formed formed list s).2 element.AttValItem
       (λ child item. is_kind element.AttValList element.AttValItem (codes "valItem") child refl item) (stands_first _ _)))
 
   fields_formed : AreFormedFields (fields_of def)
@@ -141,21 +145,15 @@ module _ {left first end : ℕ} {around : List Bind} {def : Tree} (unbroken : Is
 
   ident_named : (ident : List ℕ) → given def (codes "ident") ≡ Some ident → IsAttributeName ident
   ident_named ident is =
-      attribute_named ident (suited (needed (codes "ident") attribute_name) def ident refl is (attribute_kept unbroken (needed (codes "ident") attribute_name) (stands_first _ _)))
-
--- a formed tree that breaks nothing as an element of this kind
-abbrev IsSound : Element → Tree → Type 0
-IsSound e t = (left : ℕ) × (around : List Bind) × IsUnbroken (DeepFault e left around t) × IsFormedSomewhere t
+      attribute_named ident (suited (needed (codes "ident") attribute_name) def ident refl is (ident_sound def sound))
 
 -- what is listed is sound, where the children that are definitions are, and the lists
 mutual
   all_sound : {list : Tree} {defs : List Tree} → Lists list defs → (e : Element) → kind_named e (tei (codes "attDef")) ≡ Some element.AttDef
       → kind_named e (tei (codes "attList")) ≡ Some element.NestedAttList → IsSound e list → (def : Tree) → StandsIn defs def → IsSound element.AttDef def
   all_sound (Lists.list {t = list} among) e of_def of_list sound =
-      let unbroken = sound.2 in
-      let formed = sound.3.2 in
-      among_sound among (λ t s is. (_, _, child_kept unbroken t s element.AttDef (is_kind e element.AttDef (codes "attDef") t of_def is), child_formed formed t s))
-      (λ t s is. (_, _, child_kept unbroken t s element.NestedAttList (is_kind e element.NestedAttList (codes "attList") t of_list is), child_formed formed t s))
+      among_sound among (λ t s is. child_sound e element.AttDef list t sound s (is_kind e element.AttDef (codes "attDef") t of_def is))
+      (λ t s is. child_sound e element.NestedAttList list t sound s (is_kind e element.NestedAttList (codes "attList") t of_list is))
 
   among_sound : {ts defs : List Tree} → ListsAmong ts defs → ((t : Tree) → StandsIn ts t → is_definition t ≡ true → IsSound element.AttDef t)
       → ((t : Tree) → StandsIn ts t → is_list t ≡ true → IsSound element.NestedAttList t) → (def : Tree) → StandsIn defs def → IsSound element.AttDef def
@@ -189,13 +187,19 @@ definitions_formed : (edits : List (List ℕ × AttEdit)) (defs : List Tree) →
 definitions_formed edits [] sound formed = formed
 definitions_formed edits (def ∷ defs) sound formed =
     let here = sound def (stands_first def defs) in
-    let unbroken = here.2 in
-    let whole = here.3.2 in
+    let formed_here = here.formed.2 in
     definitions_formed (with_definition edits def) defs (λ later s. sound later (stands_later def later defs s))
     (by_text (given def (codes "ident")) (λ o. AreFormedEdits (with_ident o (edit_of def) edits)) (λ none. formed)
-    (λ ident is. put_formed ident (edit_of def) edits (ident_named unbroken whole ident is) (edit_formed unbroken whole) formed))
+    (λ ident is. put_formed ident (edit_of def) edits (ident_named here formed_here ident is) (edit_formed here formed_here) formed))
 
-pub attlist_formed : (list : Tree) (edits : List (List ℕ × AttEdit)) {first end : ℕ} → IsUnbroken (AttListFault list) → IsFormed first end list → AreEditsOf list edits → AreFormedEdits edits
-attlist_formed list edits {first} {end} unbroken formed of =
-    subst AreFormedEdits (sym of.are)
-    (definitions_formed [] of.defs (all_sound of.listed element.AttList refl refl (60, [], unbroken, (first, end, formed))) (record { rising = refl; each = λ ident made e. cc }))
+-- the edits of a list whose reading breaks nothing
+pub read_formed : (list read : Tree) (edits : List (List ℕ × AttEdit)) {first end : ℕ} → IsReadAs element.AttList list read → IsUnbroken (DeepFault element.AttList 60 [] read)
+    → IsFormed first end list → AreEditsOf list edits → AreFormedEdits edits
+read_formed list read edits {first} {end} is_read unbroken formed of =
+    let sound : IsSound element.AttList list = record { read = read; is_read = is_read; unbroken = (60, [], unbroken); formed = (first, end, formed) } in
+    subst AreFormedEdits (sym of.are) (definitions_formed [] of.defs (all_sound of.listed element.AttList refl refl sound) (record { rising = refl; each = λ ident made e. cc }))
+
+-- and of one that is read whole
+pub attlist_formed : (list : Tree) (edits : List (List ℕ × AttEdit)) {first end : ℕ} → IsUnbroken (DeepFault element.AttList 60 [] list) → IsFormed first end list → AreEditsOf list edits
+    → AreFormedEdits edits
+attlist_formed list edits unbroken formed of = read_formed list list edits IsReadAs.whole unbroken formed of

@@ -1,5 +1,5 @@
 -- The edits of attributes that an `attList` says (TEI Guidelines, the chapter Documentation Elements), and what it breaks.
-use Rattle.std.specs.Prelude.{◌≡◌, ℕ, Bool, false, List, [], Option, Some, None, if◌then◌else◌, codes, unwrap_or}
+use Rattle.std.specs.Prelude.{◌≡◌, ℕ, Bool, true, false, List, [], Option, Some, None, if◌then◌else◌, codes, unwrap_or}
 use Rattle.std.specs.FinMap.{put}
 use Rattle.std.specs.List.{fold}
 use Rattle.std.specs.Option.{option_map}
@@ -14,6 +14,8 @@ use Rattle.odd_forms.specs.Names.{first_named}
 use Rattle.odd_forms.specs.Tags.{tags_in}
 use Rattle.odd_forms.specs.Texts.{collapsed_in}
 use Rattle.odd_forms.specs.declared.element.Element.TheVariants as element
+use Rattle.odd_items.specs.Constraints.{IsConstraintIn}
+use Rattle.odd_items.specs.Without.{IsWithout}
 use Rattle.odd_data.specs.Items.{item_given}
 use Rattle.odd_data.specs.Occurrence.{bounds_in}
 use Rattle.odd_data.specs.Values.{has_mode, kind_in, list_given, marks_in}
@@ -99,9 +101,16 @@ pub record AreEditsOf (list : Tree) (edits : List (List ℕ × AttEdit)) : Type 
   pub listed : Lists list defs
   pub are : edits ≡ edits_of defs
 
--- what an `attList` breaks, which the declarations around it do not touch
-abbrev pub AttListFault : Tree → ℕ → Type 0
-AttListFault list = DeepFault element.AttList 60 [] list
+-- the list as it is read: whole, or with `aside` without the constraints that would break rule 2
+pub data IsListRead (list : Tree) : Bool → Tree → Type 0 where
+  whole : IsListRead list false list
+  without : {left : Tree} {count : ℕ} → IsWithout (IsConstraintIn element.AttList list) list left count → IsListRead list true left
+
+-- what an `attList` breaks as it is read, which the declarations around it do not touch
+pub record AttListFault (list : Tree) (aside : Bool) (rule : ℕ) : Type 0 where
+  pub read : Tree
+  pub is_read : IsListRead list aside read
+  pub breaks : DeepFault element.AttList 60 [] read rule
 
 -- the edits that the `attList` of a declaration says, or none
 abbrev pub AreEditsGiven : Option Tree → List (List ℕ × AttEdit) → Type 0

@@ -1,20 +1,25 @@
-ghost use Rattle.std.specs.Prelude.{◌≡◌, ℕ, Err, IfOk, IsOk, OnOk, Some, codes};
+ghost use Rattle.std.specs.Prelude.{◌≡◌, ℕ, [], Err, IfOk, IsOk, IsTrue, OnOk, Some, codes};
 ghost use Rattle.std.specs.FinMap.{put};
 ghost use Rattle.odd_text.specs.Text.{text_cmp};
 ghost use Rattle.odd_tree.specs.Formed.{IsFormed};
+ghost use Rattle.odd_tree.specs.declared.tree.Tree.{Tree as ATree};
+ghost use Rattle.odd_forms.specs.Deep.{DeepFault};
 ghost use Rattle.odd_forms.specs.Least.{IsLeast};
+ghost use Rattle.odd_forms.specs.declared.element.Element.TheVariants as element;
 ghost use Rattle.odd_attributes.specs.Formed.{AreFormedEdits};
-ghost use Rattle.odd_attributes.specs.Giving.{AreEditsGiven, AreEditsOf, AttListFault};
+ghost use Rattle.odd_attributes.specs.Giving.{AreEditsGiven, AreEditsOf, AttListFault, IsListRead};
 ghost use Rattle.odd_forms.specs.Names.{first_named};
 
 use crate::att_edit::AttEdit;
 use crate::att_edits::AttEdits;
 use crate::definition::read_edit;
 use odd_forms::{Element, LEVELS, child_named, deep_fault, definitions_in};
+use odd_items::add_constraints;
+use odd_items::without::without;
 use odd_text::{NoMemory, Text, TryCopy};
 use odd_tree::{Tree, attribute};
 use std::alloc::Global;
-use std::collections::BTreeMap;
+use std::collections::{BTreeMap, BTreeSet};
 
 /// Why an `attList` gives no edits.
 #[derive(Clone, Copy, Debug, PartialEq, Eq)]
@@ -38,17 +43,32 @@ impl From<NoMemory> for AttRefusal {
 /// least that it breaks: 1, a needed attribute is absent or one is malformed, or a number of a facet is; 2, a form that is left
 /// out; 3, a child that may not stand there or one that must and does not, an unknown `org`, `mode`, `usage` or `type`, or what
 /// contradicts itself; 4, an attribute, a value, a facet or a child twice. NoMemory is answered for want of memory. With `aside`
-/// constraints are taken out; that comes later. Of a formed tree, as `read_tree` gives it, the edits are formed.
-pub fn read_attlist(alloc: Global, tree: &Tree, _aside: bool) -> Result<AttEdits, AttRefusal>
+/// the constraints that would break rule 2 are taken out first: of a formed tree, as `read_tree` gives it, what is left is judged.
+/// Of a formed tree the edits are formed.
+pub fn read_attlist(alloc: Global, tree: &Tree, aside: bool) -> Result<AttEdits, AttRefusal>
     ensures ok { IfOk result (AreEditsOf tree.now) }
-    ensures sound { IsOk result → (rule : ℕ) → AttListFault tree.now rule → ⊥ }
-    ensures rule { (rule : ℕ) → result ≡ Err (AttRefusal.Rule rule) → IsLeast (AttListFault tree.now) (Some rule) }
+    ensures sound { IsOk result → (first end : ℕ) → (IsTrue aside → IsFormed first end tree.now) → (rule : ℕ) → AttListFault tree.now aside rule → ⊥ }
+    ensures rule { (rule : ℕ) → result ≡ Err (AttRefusal.Rule rule) → (first end : ℕ) → (IsTrue aside → IsFormed first end tree.now) → IsLeast (AttListFault tree.now aside) (Some rule) }
     ensures formed { (first end : ℕ) → IsFormed first end tree.now → IfOk result AreFormedEdits }
 {
-    match deep_fault(alloc, Element::AttList, tree, LEVELS, &[])? {
+    match list_fault(alloc, tree, aside)? {
         Some(rule) => Err(AttRefusal::Rule(rule)),
         None => Ok(edits_in(alloc, tree)?),
     }
+}
+
+// The least rule of form that an `attList` breaks as it is read.
+fn list_fault(alloc: Global, tree: &Tree, aside: bool) -> Result<Option<u8>, NoMemory>
+    ensures { (first end : ℕ) → (IsTrue aside → IsFormed first end tree.now) → IfOk result (λ fault. (read : ATree) × IsListRead tree.now aside read × IsLeast (DeepFault element.AttList 60 [] read) fault) }
+{
+    if !aside {
+        return deep_fault(alloc, Element::AttList, tree, LEVELS, &[]);
+    }
+    let mut places = BTreeSet::new(alloc);
+    add_constraints(Element::AttList, tree, &mut places)?;
+    let mut gone = Vec::new(alloc);
+    let left = without(alloc, tree, &places, &mut gone)?;
+    deep_fault(alloc, Element::AttList, &left, LEVELS, &[])
 }
 
 /// The edits that the `attList` of a declaration says, and none where it has no `attList`. The only error is NoMemory, for want

@@ -1,14 +1,12 @@
 -- A chain that has no offence without `aside` is read with it as the same: from none of its files a constraint is taken out.
-use Rattle.std.proofs.Common.{◌≡◌, ℕ, true, false, List, [], ◌∷◌, refl, sym, ap, subst, codes}
+use Rattle.std.proofs.Common.{◌≡◌, ℕ, true, false, List, [], refl, sym, ap, subst, codes}
 use Rattle.std.proofs.lemmas.Bool.{and_from, and_parts}
 use Rattle.odd_text.specs.declared.name.Bind.{Bind}
 use Rattle.odd_tokens.specs.Same.{is_same}
 use Rattle.odd_tree.proofs.InList.{standing, stands_first, stands_later}
 use Rattle.odd_tree.proofs.PrintedTrees.{same_from}
 use Rattle.odd_tree.specs.Elements.{StandsIn, children_of, within}
-use Rattle.odd_tree.specs.Formed.{AreApart, AreFormed, IsFormed}
-use Rattle.odd_tree.specs.Formed as formed
-use Rattle.odd_tree.specs.declared.tree.Node.{Node, Text}
+use Rattle.odd_tree.specs.Formed.{IsFormed}
 use Rattle.odd_tree.specs.declared.tree.Tree.{Tree, out-Tree}
 use Rattle.odd_forms.proofs.Children.{one_named}
 use Rattle.odd_forms.proofs.Least.{any_stands}
@@ -17,12 +15,13 @@ use Rattle.odd_forms.specs.Faults.{ChildFault, FormFault}
 use Rattle.odd_forms.specs.Names.{is_one_of}
 use Rattle.odd_forms.specs.Table.{form_at}
 use Rattle.odd_forms.specs.declared.element.Element.{Element}
+use Rattle.odd_items.proofs.AllLeft.{all_left}
+use Rattle.odd_items.specs.Constraints.{IsConstraint, IsReadIn, LeavesOutConstraints}
+use Rattle.odd_items.specs.Constraints as inner
 use Rattle.odd_items.specs.Groups.{schema_names}
 use Rattle.odd_items.specs.Search.{Finds, Found}
-use Rattle.odd_items.specs.Without.{AreWithout, IsWithout, text_before}
-use Rattle.odd_items.specs.Without as left
 use Rattle.odd_decls.proofs.OneDoc.{HasNone}
-use Rattle.odd_decls.specs.Aside.{IsConstraint, IsConstraintOf, IsLeftOut, IsReadIn, IsReadOf, LeavesOutConstraints}
+use Rattle.odd_decls.specs.Aside.{IsConstraintOf, IsLeftOut, IsReadOf}
 use Rattle.odd_decls.specs.Aside as aside
 use Rattle.odd_decls.specs.Declares.{Declares, DeclaresWhole}
 use Rattle.odd_decls.specs.Items.{at_of}
@@ -32,26 +31,6 @@ use Rattle.odd_library.specs.declared.odd.OddDoc.{OddDoc}
 use Rattle.odd_chain.proofs.Files.{docs_give, of_chain, whole}
 use Rattle.odd_chain.specs.Files.{AreDeclared, Gives}
 use Rattle.odd_chain.specs.Files as files
-
--- a text that is apart from others stands before the rest as it is
-text_alone : (bytes : List ℕ) (ns : List Node) → AreApart (Text bytes ∷ ns) → (text_before bytes ns ≡ Text bytes ∷ ns) × AreApart ns
-text_alone bytes [] a = (refl, a.2)
-text_alone bytes (Text other ∷ ns) a = absurd a
-text_alone bytes (n ∷ ns) a = (refl, a.2)
-
--- of a formed element in which nothing is gone all is left
-module _ (Gone : Tree → Type 0) (none : (c : Tree) → Gone c → ⊥) where
-  mutual
-    all_left : (first end : ℕ) (t : Tree) → IsFormed first end t → IsWithout Gone t t 0
-    all_left first end t (formed.element low tag apart nodes) = left.element refl refl refl refl (nodes_left _ end (out-Tree t).children apart nodes)
-
-    nodes_left : (first end : ℕ) (ns : List Node) → AreApart ns → AreFormed first end ns → AreWithout Gone ns ns 0
-    nodes_left first end ns apart (formed.nothing h) = left.nothing
-    nodes_left first end ns apart (formed.text {bytes = bytes} {nodes = rest} later) =
-        let alone = text_alone bytes rest apart in
-        subst (λ ms. AreWithout Gone (Text bytes ∷ rest) ms 0) alone.0 (left.text bytes (nodes_left first end rest alone.1 later))
-    nodes_left first end ns apart (formed.child {t = t} {nodes = rest} between one later) =
-        left.kept (none t) (all_left first between t one) (nodes_left between end rest apart later)
 
 -- a constraint is left out by its name where the element of the table leaves them out
 by_name : (g : Element) (c : Tree) → LeavesOutConstraints g → IsConstraint c → is_one_of (form_at g).left_out_children c ≡ true
@@ -63,14 +42,14 @@ by_name g c leaves is =
 -- an element in which one stands that may not breaks rule 2, wherever it is read
 read_fault : {e g : Element} {t parent : Tree} → IsReadIn e t g parent → (c : Tree) → LeavesOutConstraints g → StandsIn (children_of parent) c → IsConstraint c → (levels : ℕ) (around : List Bind)
     → DeepFault e levels around t 2
-read_fault {g = g} aside.itself c leaves stands is levels around = DeepFault.itself (FormFault.child c stands (ChildFault.left_out (by_name g c leaves is)))
-read_fault {e = e} {t = t} (aside.inside {f = f} child of there read) c leaves stands is levels around =
+read_fault {g = g} inner.itself c leaves stands is levels around = DeepFault.itself (FormFault.child c stands (ChildFault.left_out (by_name g c leaves is)))
+read_fault {e = e} {t = t} (inner.inside {f = f} child of there read) c leaves stands is levels around =
     DeepFault.inside f child there of (read_fault read c leaves stands is (left_inside (is_level (form_at e) t) levels) (within around t))
 
 -- and so does the item
 item_fault : (around : List Bind) (item c : Tree) → IsConstraintOf item c → ItemFault around item 2
 item_fault around item c (aside.itself is) = ItemFault.misplaced (ChildFault.left_out is)
-item_fault around item c (aside.inside e of (aside.child g parent read leaves stands is)) = ItemFault.deep e of (read_fault read c leaves stands is 60 around)
+item_fault around item c (aside.inside e of (inner.child g parent read leaves stands is)) = ItemFault.deep e of (read_fault read c leaves stands is 60 around)
 
 -- so in a file without an offence none is left out
 none_left_out : (t : Tree) (schemas : List Found) → HasNone t → Finds schema_names false [] t schemas → (c : Tree) → IsLeftOut t schemas c → ⊥

@@ -1,21 +1,18 @@
 -- What is read of a file, with `aside` or without: one tree, and what the file offends and declares is what that tree does.
-use Rattle.std.proofs.Common.{◌≡◌, ℕ, inr, ⊎_elim, Bool, true, false, List, [], refl, sym, ap, subst, ◌∙◌, arith}
+use Rattle.std.proofs.Common.{◌≡◌, ℕ, Bool, true, false, List, [], refl, sym, subst}
 use Rattle.std.specs.List.{Contains}
-use Rattle.odd_text.specs.declared.name.Bind.{Bind}
 use Rattle.odd_text.specs.declared.offence.Offence.{Offence}
-use Rattle.odd_tree.specs.Elements.{StandsIn, children_of, within}
 use Rattle.odd_tree.specs.Formed.{IsFormed}
 use Rattle.odd_tree.specs.declared.tree.Tree.{Tree, out-Tree}
-use Rattle.odd_tree.proofs.InList.{map_stands}
-use Rattle.odd_forms.specs.declared.element.Element.{Element}
-use Rattle.odd_items.proofs.Remaining.{formed_left, one_left, same_gone}
-use Rattle.odd_items.proofs.Standing as under
-use Rattle.odd_items.proofs.Standing.{StandsUnder, child_under, item_under, one_search, same_place}
+use Rattle.odd_items.proofs.ConstraintsLeft.{constraint_stands, left_by_places}
+use Rattle.odd_items.proofs.Remaining.{formed_left, one_left}
+use Rattle.odd_items.proofs.Standing.{StandsUnder, item_under, one_search}
+use Rattle.odd_items.specs.Constraints.{AddsPlaces}
 use Rattle.odd_items.specs.Groups.{schema_names}
 use Rattle.odd_items.specs.Search.{Finds, Found}
 use Rattle.odd_items.specs.Without.{IsWithout}
 use Rattle.odd_library.specs.declared.odd.OddDoc.{OddDoc}
-use Rattle.odd_decls.specs.Aside.{AddsPlaces, IsConstraintOf, IsLeftOut, IsReadIn, IsReadOf}
+use Rattle.odd_decls.specs.Aside.{IsConstraintOf, IsLeftOut, IsReadOf}
 use Rattle.odd_decls.specs.Aside as left
 use Rattle.odd_decls.specs.Declares.{Declares, DeclaresWhole}
 use Rattle.odd_decls.specs.Offences.{HasOffence, IsRefusal, OffendsWhole}
@@ -48,50 +45,19 @@ refused_with t u aside n file offence is r = record {
       r.is_first.first place rule (subst (λ w. OffendsWhole w place rule) same.0 h.offends);
 }
 
--- the child of one that stands in a file stands there
-child_stands : (t child : Tree) (f : Found) → StandsUnder [] t f → StandsIn (children_of f.element) child → (c : Found) × StandsUnder [] t c × (c.element ≡ child)
-child_stands t child f under s =
-    let found : Tree → Found = λ c. record { around = within f.around f.element; element = c } in
-    (found child, child_under [] t f (found child) under (map_stands found (children_of f.element) child s), refl)
-
--- and so does what is read in it
-read_stands : {e g : Element} {s u : Tree} → IsReadIn e s g u → (t : Tree) (f : Found) → StandsUnder [] t f → f.element ≡ s → (c : Found) × StandsUnder [] t c × (c.element ≡ u)
-read_stands left.itself t f under same = (f, under, same)
-read_stands (left.inside child is stands read) t f under same =
-    let c = child_stands t child f under (subst (λ w. StandsIn (children_of w) child) (sym same) stands) in
-    read_stands read t c.0 c.1 c.2
-
--- and what is left out of the file
+-- what is left out of the file stands there
 left_out_stands : (t : Tree) (schemas : List Found) → Finds schema_names false [] t schemas → (c : Tree) → IsLeftOut t schemas c → (f : Found) × StandsUnder [] t f × (f.element ≡ c)
 left_out_stands t schemas finds c h = of_item h.0 (item_under t schemas finds h.0 h.1) h.2 refl
   where
     of_item : (item : Found) → StandsUnder [] t item → {s : Tree} → IsConstraintOf s c → item.element ≡ s → (f : Found) × StandsUnder [] t f × (f.element ≡ c)
     of_item item under (left.itself k) same = (item, under, same)
-    of_item item under (left.inside e is (left.child g parent read l stands k)) same =
-        let p = read_stands read t item under same in
-        child_stands t c p.0 p.1 (subst (λ w. StandsIn (children_of w) c) (sym p.2) stands)
-
--- what stands in an element stands there whatever is declared around it
-any_around : {outer : List Bind} {t : Tree} {f : Found} → StandsUnder outer t f → (other : List Bind) → (g : Found) × StandsUnder other t g × (g.element ≡ f.element)
-any_around {t = t} under.itself other = (record { around = other; element = t }, under.itself, refl)
-any_around {t = t} (under.inside child s d) other = let g = any_around d (within other t) in (g.0, under.inside child s g.1, g.2)
+    of_item item under {s} (left.inside e is h) same = constraint_stands t item under e s c same h
 
 -- where the elements are gone whose places were put into a set, a formed file is read as what is left
 pub places_left : (first end : ℕ) (t u : Tree) (schemas : List Found) (places : List ℕ) (count : ℕ) → IsFormed first end t → Finds schema_names false [] t schemas
     → AddsPlaces (IsLeftOut t schemas) [] places → IsWithout (λ c. Contains places (out-Tree c).at) t u count → IsReadOf t true u count
-places_left first end t u schemas places count formed finds adds is = left.without schemas finds (same_gone (λ c. Contains places (out-Tree c).at) (IsLeftOut t schemas) t u count same is)
-  where
-    same : (outer : List Bind) (f : Found) → StandsUnder outer t f
-        → (Contains places (out-Tree f.element).at → IsLeftOut t schemas f.element) × (IsLeftOut t schemas f.element → Contains places (out-Tree f.element).at)
-    same outer f under = (λ h. ⊎_elim (λ k. absurd (omega (arith, k.1))) one ((adds (out-Tree f.element).at).0 h), λ h. (adds (out-Tree f.element).at).1 (inr (f.element, h, refl)))
-      where
-        one : (c : Tree) × IsLeftOut t schemas c × ((out-Tree f.element).at ≡ (out-Tree c).at) → IsLeftOut t schemas f.element
-        one h =
-            let g = any_around under [] in
-            let k = left_out_stands t schemas finds h.0 h.1 in
-            let placed : (out-Tree g.0.element).at ≡ (out-Tree k.0.element).at = ap (λ w. (out-Tree w).at) g.2 ∙ h.2 ∙ ap (λ w. (out-Tree w).at) (sym k.2) in
-            let e = same_place first end [] t g.0 k.0 formed g.1 k.1 placed in
-            subst (IsLeftOut t schemas) (sym (sym g.2 ∙ ap (λ w. w.element) e ∙ k.2)) h.1
+places_left first end t u schemas places count formed finds adds is =
+    left.without schemas finds (left_by_places first end t u (IsLeftOut t schemas) places count formed (left_out_stands t schemas finds) adds is)
 
 -- what is declared by the tree that is read of a file is declared by the file
 pub declares_with : (t u : Tree) (aside : Bool) (n : ℕ) → IsReadOf t aside u n → (doc : OddDoc) → DeclaresWhole u doc × (doc.asides ≡ n) → Declares t aside doc

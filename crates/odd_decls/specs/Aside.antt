@@ -1,32 +1,12 @@
 -- What is left of an ODD file with `aside`: each `constraintSpec` that would break rule 2 is taken out before all else. Where it stands elsewhere it stays.
-use Rattle.std.specs.Prelude.{◌≡◌, ◌↔◌, ◌⊎◌, ℕ, zero, Bool, true, false, List, [], ◌∷◌, codes, IsTrue}
-use Rattle.std.specs.List.{Contains}
-use Rattle.odd_tree.specs.Elements.{StandsIn, children_of}
-use Rattle.odd_tree.specs.declared.tree.Tree.{Tree, out-Tree}
-use Rattle.odd_forms.specs.Children.{IsChild}
-use Rattle.odd_forms.specs.Names.{is_one_of}
-use Rattle.odd_forms.specs.Table.{form_at}
+use Rattle.std.specs.Prelude.{ℕ, zero, Bool, true, false, List, []}
+use Rattle.odd_tree.specs.declared.tree.Tree.{Tree}
 use Rattle.odd_forms.specs.declared.element.Element.{Element}
+use Rattle.odd_items.specs.Constraints.{IsConstraint, IsConstraintIn}
 use Rattle.odd_items.specs.Groups.{IsItemIn, schema_names}
 use Rattle.odd_items.specs.Search.{Finds, Found}
 use Rattle.odd_items.specs.Without.{IsWithout}
 use Rattle.odd_decls.specs.Items.{IsItem}
-
-abbrev pub IsConstraint : Tree → Type 0
-IsConstraint t = IsTrue (is_one_of (codes "constraintSpec" ∷ []) t)
-
--- an element is read as the element of the table, in one that is read as another, or as that one itself
-pub data IsReadIn : Element → Tree → Element → Tree → Type 0 where
-  itself : {e : Element} {t : Tree} → IsReadIn e t e t
-  inside : {e f g : Element} {t u : Tree} (child : Tree) → IsChild e f child → StandsIn (children_of t) child → IsReadIn f child g u → IsReadIn e t g u
-
--- a constraint may not stand in the element of the table
-abbrev pub LeavesOutConstraints : Element → Type 0
-LeavesOutConstraints e = Contains (form_at e).left_out_children (codes "constraintSpec")
-
--- a constraint that may not stand where it does, in an element that is read as an element of the table
-pub data IsConstraintIn (e : Element) (t : Tree) : Tree → Type 0 where
-  child : {c : Tree} (g : Element) (parent : Tree) → IsReadIn e t g parent → LeavesOutConstraints g → StandsIn (children_of parent) c → IsConstraint c → IsConstraintIn e t c
 
 -- an item that is a constraint, or one in it
 pub data IsConstraintOf (item : Tree) : Tree → Type 0 where
@@ -36,10 +16,6 @@ pub data IsConstraintOf (item : Tree) : Tree → Type 0 where
 -- a constraint that would break rule 2, in a file in which these are the `schemaSpec`
 abbrev pub IsLeftOut : Tree → List Found → Tree → Type 0
 IsLeftOut t schemas c = (item : Found) × IsItemIn t schemas item × IsConstraintOf item.element c
-
--- the places of such elements were put into a set
-abbrev pub AddsPlaces : (Tree → Type 0) → List ℕ → List ℕ → Type 0
-AddsPlaces Is old new = (place : ℕ) → Contains new place ↔ (Contains old place ⊎ ((c : Tree) × Is c × (place ≡ (out-Tree c).at)))
 
 -- what is read of a file, with `aside` or without, and how many constraints were taken out
 pub data IsReadOf (t : Tree) : Bool → Tree → ℕ → Type 0 where

@@ -1,5 +1,8 @@
 pub mod Added
+pub mod AllLeft
 pub mod ByNames
+pub mod ConstraintPlaces
+pub mod ConstraintsLeft
 pub mod Grown
 pub mod Held
 pub mod Holders

@@ -65,7 +65,7 @@ mutual
       left.gone ((h t elements.itself).0 is) (same_among Gone Other rest others n (same_later Gone Other t rest same) later)
 
 -- what is in an element stands there with some declarations around it
-some_under : {t s : Tree} → StandsWithin t s → (outer : List Bind) → (f : Found) × StandsUnder outer t f × (f.element ≡ s)
+pub some_under : {t s : Tree} → StandsWithin t s → (outer : List Bind) → (f : Found) × StandsUnder outer t f × (f.element ≡ s)
 some_under {t = t} elements.itself outer = (record { around = outer; element = t }, under.itself, refl)
 some_under {t = t} (elements.inside child k w) outer = let h = some_under w (within outer t) in (h.0, under.inside child k h.1, h.2)
 

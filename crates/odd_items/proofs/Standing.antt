@@ -83,7 +83,7 @@ one_or_later all ts t child e s = first_or_later t child ts (subst (λ us. Stand
 
 -- where what stands in two of some formed nodes begins at one place, the two are one
 module _ (outer : List Bind) (f g : Found) (same : (out-Tree f.element).at ≡ (out-Tree g.element).at) (c d : Tree) (under : StandsUnder outer c f) (under_other : StandsUnder outer d g) where
-  same_child : {first end : ℕ} {nodes : List Node} → AreFormed first end nodes → StandsIn (elements_of nodes) c → StandsIn (elements_of nodes) d → c ≡ d
+  pub same_child : {first end : ℕ} {nodes : List Node} → AreFormed first end nodes → StandsIn (elements_of nodes) c → StandsIn (elements_of nodes) d → c ≡ d
   same_child (formed.nothing h) s k = absurd (nothing_stands c s)
   same_child (formed.text {bytes = bytes} {nodes = nodes} later) s k =
       same_child later (subst (λ ts. StandsIn ts c) (with_text bytes nodes) s) (subst (λ ts. StandsIn ts d) (with_text bytes nodes) k)

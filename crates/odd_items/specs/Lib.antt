@@ -1,5 +1,6 @@
 pub mod Adding
 pub mod Arrows
+pub mod Constraints
 pub mod Groups
 pub mod Held
 pub mod Holding

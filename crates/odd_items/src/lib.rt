@@ -1,7 +1,9 @@
-//! Which elements of an ODD file are items: what may hold them, the groups and who refers to them, and what is left of a file without some.
+//! Which elements of an ODD file are items: what may hold them, the groups and who refers to them, the constraints that may
+//! not stand where they do, and what is left of a file without some.
 #![tactic(auto)]
 
 mod around;
+mod constraints;
 mod holding;
 mod ids;
 mod left;
@@ -11,6 +13,7 @@ mod searching;
 pub mod without;
 
 pub use around::{bindings_around, level_bindings};
+pub use constraints::{add_constraints, is_constraint};
 pub use holding::{arrows_of, target_id};
 pub use ids::{Ids, id_of, ids_of};
 pub use listing::{Item, items_held};

@@ -18,9 +18,9 @@ enum Joined {
 }
 
 /// Puts the edits of attribute lists as one, or the rule that one of them breaks. The lists have tabs between them, and each is
-/// without its beginning.
-pub fn add_edits(alloc: Global, out: &mut Text, lists: &str) -> Result<(), CaseFault> {
-    match joined_lists(alloc, lists)? {
+/// without its beginning. With `aside` constraints are taken out of them.
+pub fn add_edits(alloc: Global, out: &mut Text, lists: &str, aside: bool) -> Result<(), CaseFault> {
+    match joined_lists(alloc, lists, aside)? {
         Joined::Edits(edits) => add_all_edits(alloc, out, &edits),
         Joined::Rule(rule) => Ok(out.push_str(format!(in alloc; "rule {rule}")?.as_str())?),
     }
@@ -28,7 +28,7 @@ pub fn add_edits(alloc: Global, out: &mut Text, lists: &str) -> Result<(), CaseF
 
 /// Puts the attributes that the edits of attribute lists make of none.
 pub fn add_definitions(alloc: Global, out: &mut Text, lists: &str) -> Result<(), CaseFault> {
-    match joined_lists(alloc, lists)? {
+    match joined_lists(alloc, lists, false)? {
         Joined::Edits(edits) => match edits.over(alloc, None)? {
             Some(defs) => {
                 for (ident, def) in defs.entries() {
@@ -43,7 +43,7 @@ pub fn add_definitions(alloc: Global, out: &mut Text, lists: &str) -> Result<(),
     }
 }
 
-fn joined_lists(alloc: Global, lists: &str) -> Result<Joined, CaseFault> {
+fn joined_lists(alloc: Global, lists: &str, aside: bool) -> Result<Joined, CaseFault> {
     let mut edits = AttEdits::new(alloc);
     for list in lists.split('\t') {
         let text = text_of(alloc, list)?;
@@ -51,7 +51,7 @@ fn joined_lists(alloc: Global, lists: &str) -> Result<Joined, CaseFault> {
         let Ok(tree) = read_tree(alloc, text.as_bytes()) else {
             return Err(CaseFault::NoValue);
         };
-        match read_attlist(alloc, &tree, false) {
+        match read_attlist(alloc, &tree, aside) {
             Ok(later) => edits = edits.then(alloc, later)?,
             Err(AttRefusal::Rule(rule)) => return Ok(Joined::Rule(rule)),
             Err(AttRefusal::NoMemory) => return Err(CaseFault::NoMemory),

@@ -68,7 +68,8 @@ fn add_answer(alloc: Global, out: &mut Text, question: &str) -> Result<(), CaseF
         "allows" => add_allowing(alloc, out, rest),
         "item" => add_item(alloc, out, rest),
         "meets" => add_meeting(alloc, out, rest),
-        "edits" => add_edits(alloc, out, rest),
+        "edits" => add_edits(alloc, out, rest, false),
+        "edits_aside" => add_edits(alloc, out, rest, true),
         "definitions" => add_definitions(alloc, out, rest),
         _ => Err(CaseFault::NoValue),
     }

@@ -5,10 +5,12 @@ use Rattle.odd_tree.specs.Formed.{IsFormed}
 use Rattle.odd_tree.specs.declared.tree.Tree.{Tree}
 use Rattle.odd_forms.specs.Table.{form_at}
 use Rattle.odd_forms.specs.declared.element.Element.{Element}
+use Rattle.odd_items.specs.Constraints.{IsConstraint, IsConstraintIn, IsReadIn}
+use Rattle.odd_items.specs.Constraints as inner
 use Rattle.odd_items.specs.Groups.{schema_names}
 use Rattle.odd_items.specs.Search.{Finds, Found}
 use Rattle.odd_decls.proofs.ReadWith.{one_read}
-use Rattle.odd_decls.specs.Aside.{IsConstraint, IsConstraintIn, IsConstraintOf, IsLeftOut, IsReadIn, IsReadOf}
+use Rattle.odd_decls.specs.Aside.{IsConstraintOf, IsLeftOut, IsReadOf}
 use Rattle.odd_decls.specs.Aside as left
 use Rattle.order_laws.specs.Reordered.{IsReordered}
 use Rattle.order_laws.specs.Reorderings.{IsReordering}
@@ -26,11 +28,11 @@ constraint_there r is = sym (same_one_of (codes "constraintSpec" ∷ []) r) ∙ 
 module _ {Beside : Tree → Tree → Type 0} {t u : Tree} (p : IsPairing Beside t u) where
   -- what is read in an element is beside what is read in the one beside it
   parent_there : {e g : Element} {x parent : Tree} (y : Tree) → Beside x y → IsReadIn e x g parent → (other : Tree) × IsReadIn e y g other × Beside parent other
-  parent_there y b left.itself = (y, left.itself, b)
-  parent_there {e = e} {x = x} y b (left.inside child is s read) =
+  parent_there y b inner.itself = (y, inner.itself, b)
+  parent_there {e = e} {x = x} y b (inner.inside child is s read) =
       let c = p.child x y child b s in
       let h = parent_there c.0 c.2 read in
-      (h.0, left.inside c.0 (sym (same_child_in (form_at e) (p.alike child c.0 c.2)) ∙ is) c.1 h.1, h.2)
+      (h.0, inner.inside c.0 (sym (same_child_in (form_at e) (p.alike child c.0 c.2)) ∙ is) c.1 h.1, h.2)
 
   -- one element is beside each
   one_beside : (c d other : Tree) → Beside c d → Beside c other → other ≡ d
@@ -38,10 +40,10 @@ module _ {Beside : Tree → Tree → Type 0} {t u : Tree} (p : IsPairing Beside 
 
   -- a constraint that may not stand in an element is beside one that may not stand in the one beside it
   constraint_in_there : {e : Element} {x c : Tree} (y d : Tree) → Beside x y → Beside c d → IsConstraintIn e x c → IsConstraintIn e y d
-  constraint_in_there {c = c} y d b k (left.child g parent read leaves s is) =
+  constraint_in_there {c = c} y d b k (inner.child g parent read leaves s is) =
       let h = parent_there y b read in
       let i = p.child parent h.0 c h.2 s in
-      left.child g h.0 h.1 leaves (subst (StandsIn (children_of h.0)) (one_beside c d i.0 k i.2) i.1) (constraint_there (p.alike c d k) is)
+      inner.child g h.0 h.1 leaves (subst (StandsIn (children_of h.0)) (one_beside c d i.0 k i.2) i.1) (constraint_there (p.alike c d k) is)
 
   -- beside an item that is such a constraint, or has one in it, stands one that is so or has the one beside it
   constraint_of_there : {x c : Tree} (y d : Tree) → Beside x y → Beside c d → IsConstraintOf x c → IsConstraintOf y d

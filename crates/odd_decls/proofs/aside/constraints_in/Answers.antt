@@ -2,10 +2,11 @@ use Rattle.std.proofs.Common.{◌+◌, [], drop, refl, subst, sym}
 use Rattle.std.proofs.lemmas.List.{drop_all}
 use Rattle.odd_tree.proofs.InList.{begins, standing}
 use Rattle.odd_tree.specs.declared.tree.Tree.{Tree}
+use Rattle.odd_items.proofs.ConstraintPlaces.{AddedSoFar, InOne, added_all, added_none, added_one, adds_same}
 use Rattle.odd_items.specs.Groups.{IsItemIn}
 use Rattle.odd_items.specs.declared.listing.Item.{Item}
 use Rattle.odd_decls.specs.Aside.{IsConstraintOf, IsLeftOut}
-use Rattle.odd_decls.proofs.Constraints.{AddedSoFar, InOne, added_all, added_none, added_one, adds_same, items_have, items_told}
+use Rattle.odd_decls.proofs.Constraints.{items_have, items_told}
 use Rattle.odd_decls.proofs.aside.constraints_in.Goals as goal
 
 pub loop-item-init : goal.loop-item-init

@@ -3,7 +3,7 @@ use Rattle.odd_tree.specs.Elements.{StandsIn}
 use Rattle.odd_items.specs.declared.listing.Item.{Item}
 use Rattle.odd_decls.specs.Aside.{IsConstraintOf}
 use Rattle.odd_decls.specs.Items.{IsTold}
-use Rattle.odd_decls.proofs.Constraints.{AddedSoFar}
+use Rattle.odd_items.proofs.ConstraintPlaces.{AddedSoFar}
 use Rattle.odd_decls.proofs.aside.constraints_in.Given as goal
 
 abbrev pub invariant-loop-item : goal.invariant-loop-item

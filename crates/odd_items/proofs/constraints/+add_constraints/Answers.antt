@@ -5,10 +5,10 @@ use Rattle.odd_tree.specs.Elements.{children_of, elements_of}
 use Rattle.odd_forms.proofs.Children.{element_first}
 use Rattle.odd_forms.specs.Faults.{child_in}
 use Rattle.odd_forms.specs.Table.{form_at}
-use Rattle.odd_decls.specs.Aside.{AddsPlaces, IsConstraint, LeavesOutConstraints}
-use Rattle.odd_decls.proofs.Constraints.{AddedSoFar, HasConstraint, IsInside, IsOne, added_all, added_none, added_one, adds_same, child_put, in_children, inside_none, inside_put, none_put, one_put, text_passed}
-use Rattle.odd_decls.proofs.aside.+add_within.Goals.{then-leaves_out_constraints+then-is_constraint+in_ok-insert, else-leaves_out_constraints, else-leaves_out_constraints-via-then-leaves_out_constraints+else-is_constraint, else-leaves_out_constraints-via-else-leaves_out_constraints, in-Some+in_ok-add_within, in_default-child_of}
-use Rattle.odd_decls.proofs.aside.+add_within.Goals as goal
+use Rattle.odd_items.specs.Constraints.{AddsPlaces, IsConstraint, LeavesOutConstraints}
+use Rattle.odd_items.proofs.ConstraintPlaces.{AddedSoFar, HasConstraint, IsInside, IsOne, added_all, added_none, added_one, adds_same, child_put, in_children, inside_none, inside_put, none_put, one_put, text_passed}
+use Rattle.odd_items.proofs.constraints.+add_constraints.Goals.{then-leaves_out_constraints+then-is_constraint+in_ok-insert, else-leaves_out_constraints, else-leaves_out_constraints-via-then-leaves_out_constraints+else-is_constraint, else-leaves_out_constraints-via-else-leaves_out_constraints, in-Some+in_ok-add_constraints, in_default-child_of}
+use Rattle.odd_items.proofs.constraints.+add_constraints.Goals as goal
 
 pub loop-node-init : goal.loop-node-init
 loop-node-init t c = added_none (HasConstraint c.args.element) _ _ _ (ap elements_of c.as_slice-node-items.ensures)
@@ -40,8 +40,8 @@ loop-node-preserved t c =
           ]) w.places-is
     ] in
     let in_it : AddsPlaces (IsInside (child_in (form_at e) child) child) between.keys now.keys = elim c.match-child_of.branch [
-      | in-Some+in_ok-add_within w ↦
-          inside_put _ child between w.in-Some.inner w.add_within.new.places now (sym of ∙ w.in-Some.is) w.in_ok-add_within.ensures w.places-is
+      | in-Some+in_ok-add_constraints w ↦
+          inside_put _ child between w.in-Some.inner w.add_constraints.new.places now (sym of ∙ w.in-Some.is) w.in_ok-add_constraints.ensures w.places-is
       | in_default-child_of w ↦ inside_none _ child between now (sym of ∙ w.in_default-child_of.is) w.places-is
     ] in
     added_one (HasConstraint e) _ _ _ _ c.loop-node.invariant child _ now.keys

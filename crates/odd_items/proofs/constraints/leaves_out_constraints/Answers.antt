@@ -1,7 +1,7 @@
 use Rattle.std.proofs.Common.{◌↔◌, IsTrue, ap, codes, subst}
 use Rattle.std.specs.List.{Contains}
-use Rattle.odd_decls.proofs.Constraints.{word_among}
-use Rattle.odd_decls.proofs.aside.leaves_out_constraints.Goals as goal
+use Rattle.odd_items.proofs.ConstraintPlaces.{word_among}
+use Rattle.odd_items.proofs.constraints.leaves_out_constraints.Goals as goal
 
 pub returns : goal.returns
 returns c =
