@@ -61,7 +61,8 @@ impl Chain {
         }
     }
 
-    /// How many constraints were taken out of its files; past the last number of 64 bits it stands still.
+    /// How many constraints were taken out of its files, where each of them declares a doc; past the last number of 64 bits it
+    /// stands still.
     pub fn asides(&self) -> u64
         ensures { (aside : Bool) (trees : List ATree) (docs : List AnOddDoc) → IsChainOf aside self.now trees → AreDeclared aside trees docs → result ≡ min (all_asides docs) last_count }
     {

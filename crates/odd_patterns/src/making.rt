@@ -7,8 +7,9 @@ use odd_text::{NoMemory, Seq};
 use sqlite_items::Boxed;
 use std::alloc::Global;
 
-/// Either of two patterns. A side that is Never is dropped, and one of two equal sides. The only error is NoMemory, for
-/// want of memory. It takes stack for the depth of the patterns.
+/// Either of two patterns: it matches the words of both, and of two equal ones it is that pattern. The only error is NoMemory,
+/// for want of memory. It takes stack for the depth of the patterns.
+// To keep patterns small, a side that is Never is dropped.
 pub fn choice<A: Alphabet>(alloc: Global, left: Pat<A>, right: Pat<A>) -> Result<Pat<A>, NoMemory>
     ensures words { IfOk result (λ made. SameWords made (Pat.Choice left right)) }
     ensures equal { left ≡ right → IfOk result (λ made. made ≡ left) }
@@ -67,8 +68,9 @@ fn same<A: Alphabet>(left: &Pat<A>, right: &Pat<A>) -> bool
     }
 }
 
-/// One pattern and then the other. A side that is Empty is dropped, and beside one that is Never it is Never. The only
-/// error is NoMemory, for want of memory. It takes stack for the depth of the patterns.
+/// One pattern and then the other. The only error is NoMemory, for want of memory. It takes stack for the depth of the
+/// patterns.
+// To keep patterns small, a side that is Empty is dropped, and beside one that is Never it is Never.
 pub fn group<A: Alphabet>(alloc: Global, left: Pat<A>, right: Pat<A>) -> Result<Pat<A>, NoMemory>
     ensures { IfOk result (λ made. SameWords made (Pat.Group left right)) }
 {
@@ -90,8 +92,8 @@ fn plain_group<A: Alphabet>(alloc: Global, left: Pat<A>, right: Pat<A>) -> Resul
     Ok(Pat::Group(Boxed::new(alloc, left)?, Boxed::new(alloc, right)?))
 }
 
-/// The pattern once or more. It is Never of Never, Empty of Empty, and of a repetition that repetition. The only error
-/// is NoMemory, for want of memory. It takes stack for the depth of the pattern.
+/// The pattern once or more. The only error is NoMemory, for want of memory. It takes stack for the depth of the pattern.
+// To keep patterns small, it is Never of Never, Empty of Empty, and of a repetition that repetition.
 pub fn more<A: Alphabet>(alloc: Global, pat: Pat<A>) -> Result<Pat<A>, NoMemory>
     ensures { IfOk result (λ made. SameWords made (Pat.More pat)) }
 {

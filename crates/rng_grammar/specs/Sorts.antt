@@ -1,4 +1,4 @@
--- Which patterns may stand where: in the content of elements, in a value, and in a `list` (ISO/IEC 19757-2, section 7.2 and 7.1.3, with one addition: a define
+-- Which patterns may stand where: in the content of elements, in a value, and in a `list` (ISO/IEC 19757-2, sections 10.3 and 10.2.4, with one addition: a define
 -- of `notAllowed` alone may be referred to from each).
 use Rattle.std.specs.Prelude.{◌≡◌, ◌⊎◌, ℕ, List, All}
 use Rattle.odd_tree.specs.Elements.{StandsIn}
