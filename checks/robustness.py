@@ -1,9 +1,9 @@
 #!/usr/bin/env python3
 """Runs odd on chains of files that nobody wrote, and looks for an answer that no contract has.
 
-    checks/robustness.py PROGRAM [RUNS]
+    checks/robustness.py PROGRAM [RUNS [SEED]]
 
-PROGRAM is the built program odd, RUNS the number of chains (200,000 unless given). The files are made from a fixed seed:
+PROGRAM is the built program odd, RUNS the number of chains (200,000 unless given). The files are made from SEED, a number, or else from a fixed one:
 sources with elements, classes and macros in modules, some of them in groups or without a schemaSpec, and customisations of them;
 files with every element of the profile in every place and every attribute on each; files of many levels; the same with some bytes changed, cut, doubled
 or moved, with elements put into one another; and random bytes. Each run is `compile`, each third with the word `aside`
@@ -269,9 +269,9 @@ def run(program, folder, files, aside):
     return result.returncode, fault_of(result.returncode, result.stdout, result.stderr, aside)
 
 
-def main(program, runs):
+def main(program, runs, seed):
     resource.setrlimit(resource.RLIMIT_AS, (MOST_MEMORY, MOST_MEMORY))
-    rand = random.Random(SEED)
+    rand = random.Random(seed)
     counts, faults = collections.Counter(), 0
     with tempfile.TemporaryDirectory() as folder:
         for number in range(runs):
@@ -288,4 +288,4 @@ def main(program, runs):
 
 
 if __name__ == "__main__":
-    sys.exit(main(sys.argv[1], int(sys.argv[2]) if len(sys.argv) > 2 else 200_000))
+    sys.exit(main(sys.argv[1], int(sys.argv[2]) if len(sys.argv) > 2 else 200_000, int(sys.argv[3]) if len(sys.argv) > 3 else SEED))
