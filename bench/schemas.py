@@ -12,6 +12,8 @@ compiles, each five times:
   elements in 100 classes, where each class but the first ten is a member of another, and the same five and ten times as large;
 - 400 classes, each a member of the next, with an element each, so that their schema has 80,000 references to members; and twice as many;
 - 10,000 macros, each of which names the next, and twice as many;
+- 10,000 classes that give an element one attribute, and 8,000 elements below 8,000 classes of type `atts`, each a member of the next, and twice as many;
+- 100 levels of two classes that are members of both of the level before, and of which each adds a value to a list, which the element below deletes; and twice as many;
 - two files whose schemas pass the limit of a million elements, which is the answer that is wanted: one of repetitions in one another
   whose numbers multiply to more than 64 bits hold, and one of a class of 100,000 members that is listed 10 times, and of half as many.
 
@@ -79,6 +81,34 @@ def nested_macros(macros):
     items += [f'<macroSpec ident="m{at:05}"><content><macroRef key="m{at + 1:05}" minOccurs="0"/></content></macroSpec>' for at in range(macros)]
     items += [f'<macroSpec ident="m{macros:05}"><content><textNode/></content></macroSpec>']
     return schema_spec("e", items)
+
+
+def attribute_class(ident, of, attributes):
+    """A class of attributes that is a member of others."""
+    keys = "".join(f'<memberOf key="{key}"/>' for key in of)
+    return f'<classSpec ident="{ident}" type="atts"><classes>{keys}</classes><attList>{attributes}</attList></classSpec>'
+
+
+def givers(classes):
+    """Classes that give an element one attribute."""
+    names = [f"c{at:05}" for at in range(classes)]
+    return schema_spec("e", [attribute_class(name, [], '<attDef ident="n"/>') for name in names] + [element_spec("e", names, "<empty/>")])
+
+
+def below_classes(count):
+    """Elements below as many classes of attributes in one another."""
+    items = [attribute_class(f"c{at:05}", [f"c{at + 1:05}"] if at + 1 < count else [], "") for at in range(count)]
+    return schema_spec("e00000", items + [element_spec(f"e{at:05}", ["c00000"], "<empty/>") for at in range(count)])
+
+
+def levels(count):
+    """Levels of two classes, each a member of both of the level before, and each with a value of its own for a list."""
+    change = '<attDef ident="n" mode="change"><valList mode="change"><valItem ident="{}"/></valList></attDef>'
+    items = [attribute_class(f"{name}{count:04}", [], '<attDef ident="n"><valList type="closed"/></attDef>' if name == "a" else "") for name in "ab"]
+    for at in range(count):
+        items += [attribute_class(f"{name}{at:04}", [f"a{at + 1:04}", f"b{at + 1:04}"], change.format(f"{name}{at:04}")) for name in "ab"]
+    below = '<elementSpec ident="e"><classes><memberOf key="a0000"/><memberOf key="b0000"/></classes><attList><attDef ident="n" mode="delete"/></attList></elementSpec>'
+    return schema_spec("e", [*items, below])
 
 
 def nested_repetitions(depth):
@@ -182,7 +212,9 @@ def main(program):
     with tempfile.TemporaryDirectory() as name:
         folder = pathlib.Path(name)
         attribute_rows(program, folder)
-        for title, made, counts in (("classes", many_classes, (100, 500, 1000)), ("nested classes", nested_classes, (400, 800)), ("nested macros", nested_macros, (10_000, 20_000))):
+        for title, made, counts in (("classes", many_classes, (100, 500, 1000)), ("nested classes", nested_classes, (400, 800)), ("nested macros", nested_macros, (10_000, 20_000)),
+                                    ("classes that give one attribute", givers, (10_000, 20_000)), ("elements below as many classes", below_classes, (8_000, 16_000)),
+                                    ("levels of two classes that add a value", levels, (100, 200))):
             found = {}
             for count in counts:
                 path = folder / f"{made.__name__}{count}.odd"

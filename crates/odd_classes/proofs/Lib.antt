@@ -21,5 +21,6 @@ pub mod Scanning
 pub mod Sweeping
 pub mod TableMembers
 pub mod TablesTaken
+pub mod Thinning
 pub mod TreeFacts
 pub mod WrongNames

@@ -78,7 +78,7 @@ pub record ListedSoFar (entries : List (Key × Component)) (arrows : List (List 
   pub sets : (place : ℕ) (class : List ℕ) → IsModelAt entries place class → IsSet text_cmp (IsListedBefore entries arrows count place) (get_or lists place [])
 
 -- where a class stands
-model_within : (entries : List (Key × Component)) (place : ℕ) (class : List ℕ) → IsModelAt entries place class → place < length entries
+pub model_within : (entries : List (Key × Component)) (place : ℕ) (class : List ℕ) → IsModelAt entries place class → place < length entries
 model_within entries place class m = slice_get_within entries place (class_key class, component.Class m.part) m.here
 
 -- after none each list is empty

@@ -9,11 +9,14 @@ use Rattle.odd_graph.specs.Graph.{HasArrow}
 use Rattle.odd_graph.specs.Ordering.{IsOrder}
 use Rattle.odd_library.specs.declared.library.Component.{Component}
 use Rattle.odd_library.specs.declared.library.Library.{Library}
-use Rattle.odd_meaning.specs.Links.{class_key, classes_of, memberships}
-use Rattle.odd_meaning.specs.Offering.{Offers}
+use Rattle.odd_attributes.specs.declared.att_def.AttDef.{AttDef}
+use Rattle.odd_meaning.specs.Links.{IsHeld, class_key, classes_of, memberships}
+use Rattle.odd_meaning.specs.Offering.{Inherits, Offers}
+use Rattle.odd_offers.proofs.StandingFor.{through_apart, through_least}
 use Rattle.odd_offers.proofs.TableOf.{offers_held}
-use Rattle.odd_offers.specs.Tables.{HaveAll, IsInherited, IsTableOf, Table}
+use Rattle.odd_offers.specs.Tables.{HaveAll, IsInherited, IsTableOf, Table, Tells}
 use Rattle.odd_text.specs.Key.{key_cmp}
+use Rattle.odd_text.specs.Text.{text_cmp}
 use Rattle.odd_text.specs.declared.key.Key.{Key}
 use Rattle.odd_tree.proofs.InList.{begins, map_stands, stands_map}
 use Rattle.odd_tree.specs.Elements.{StandsIn}
@@ -66,28 +69,45 @@ module _ (library : Library) (arrows : List (List ℕ)) (graph : IsGraphOf class
           (c.0, front.1, omega (arith, front.0))
 
   module _ (ready : AreReady library arrows order at tables) (made : List Table) (are : AreTablesAt tables (get_or arrows place []) made) (table : Table) (all : HaveAll made table) where
-    -- the tables of its nodes together have what the entry inherits
+    -- a class through which something is inherited has its table among these
+    table_of : (class : List ℕ) → StandsIn (memberships part) class → IsHeld library (class_key class) → (one : Table) × StandsIn made one × IsTableOf library class one
+    table_of class among is_held =
+        let found = held (class_key class) library is_held in
+        let next = arrow_from class among found.0 found.1 in
+        let earlier = stands_before next.0 next.2 in
+        let has = ready earlier.0 at place next.0 class found.0 earlier.1 here next.2 next.1 earlier.2 (omega arith) in
+        let of_class = exact next.0 has.0 has.1 in
+        let same : class_key of_class.0 ≡ class_key class = (one_entry library.parts next.0 (class_key of_class.0) (class_key class) of_class.1 found.0 of_class.2 next.1).0 in
+        (has.0, (are has.0).1 (next.0, next.2.among, has.1), subst (λ (k : Key). IsTableOf library k.ident has.0) same of_class.3)
+
+    -- the tables of its nodes together stand for what the entry inherits
     pub inherited : IsInherited library part table
-    inherited ident def giver = (
-      λ h.
-          let one = (all ident def giver).0 h in
+    inherited ident = record {
+      sound = λ def giver s.
+          let one = (all ident).sound def giver s in
           let node = (are one.0).0 one.1 in
           let of_class = exact node.0 one.0 node.2 in
           record {
             class = of_class.0;
             among = class_of part of_class.0 (arrow_to node.0 (class_key of_class.0) of_class.1 of_class.2 node.1);
-            offered = (of_class.3 ident def giver).0 one.2;
-          },
-      λ i.
-          let found = held (class_key i.class) library (offers_held library (class_key i.class) (class_key giver) ident def i.offered) in
-          let next = arrow_from i.class i.among found.0 found.1 in
-          let earlier = stands_before next.0 next.2 in
-          let has = ready earlier.0 at place next.0 i.class found.0 earlier.1 here next.2 next.1 earlier.2 (omega arith) in
-          let of_class = exact next.0 has.0 has.1 in
-          let same : class_key of_class.0 ≡ class_key i.class = (one_entry library.parts next.0 (class_key of_class.0) (class_key i.class) of_class.1 found.0 of_class.2 next.1).0 in
-          let offers : Offers library (class_key of_class.0) ident def (class_key giver) = subst (λ k. Offers library k ident def (class_key giver)) (sym same) i.offered in
-          (all ident def giver).1 (has.0, (are has.0).1 (next.0, next.2.among, has.1), (of_class.3 ident def giver).1 offers),
-    )
+            offered = (of_class.3 ident).sound def giver one.2;
+          };
+      least = λ def giver i.
+          let one = of_inherited def giver i in
+          through_least (Given i.class) OneTells (find text_cmp ident one.0) (find text_cmp ident table) (one.2 ident) (all ident) (λ d g m. (one.0, one.1, m)) def giver i.offered;
+      apart = λ fields one_made def giver i.
+          let one = of_inherited def giver i in
+          through_apart (Given i.class) OneTells (find text_cmp ident one.0) (find text_cmp ident table) (one.2 ident) (all ident) (λ d g m. (one.0, one.1, m)) fields one_made def giver i.offered;
+    }
+      where
+        Given : List ℕ → AttDef → List ℕ → Type 0
+        Given class def giver = Offers library (class_key class) ident def (class_key giver)
+
+        OneTells : AttDef → List ℕ → Type 0
+        OneTells def giver = (one : Table) × StandsIn made one × Tells one ident def giver
+
+        of_inherited : (def : AttDef) (giver : List ℕ) → (i : Inherits library part ident def (class_key giver)) → (one : Table) × StandsIn made one × IsTableOf library i.class one
+        of_inherited def giver i = table_of i.class i.among (offers_held library (class_key i.class) (class_key giver) ident def i.offered)
 
 -- what is left is still exact
 pub left_exact : (library : Library) (last : List ℕ) (at : ℕ) (old new : List (Option Table)) → AreLeft last at old new → AreTablesOf library old → AreTablesOf library new

@@ -1,5 +1,6 @@
 pub mod DataFacts
 pub mod Inheriting
+pub mod Leading
 pub mod Listing
 pub mod Offered
 pub mod Placing

@@ -8,6 +8,7 @@ mod cycles;
 mod data;
 mod graph;
 mod inheriting;
+mod leading;
 mod links;
 mod macro_order;
 mod member_lists;

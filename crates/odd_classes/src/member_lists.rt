@@ -13,6 +13,7 @@ ghost use Rattle.odd_classes.specs.Placing.{IsFirstAmong};
 use crate::class_members::is_element;
 use crate::cycles::{CycleRefusal, check_own_members};
 use crate::graph::graph_by;
+use crate::leading::leading_to_models;
 use crate::links::Link;
 use odd_graph::{reached, unmarked};
 use odd_library::{Component, Library};
@@ -93,14 +94,15 @@ pub fn member_table(
 }
 
 // For each entry of a library the members of the class that it is, where it is one of type `model`, and else none. None where
-// they are more than the limit.
+// they are more than the limit. No arrow is followed that leads to no such class: so a chain of other classes costs an element no step.
 fn listed(alloc: Global, library: &Library, limit: usize) -> Result<Option<Vec<Words>>, NoMemory>
     ensures lists { IfOk result (λ given. IfSome given (λ lists. AreListsOf library.now lists.items)) }
     ensures within { IfOk result (λ given. IfSome given (λ lists. sum_by length lists.items ≤ limit)) }
     ensures more { result ≡ Ok None → (lists : List (List (List ℕ))) × AreListed library.now lists × (limit < sum_by length lists) }
 {
     let entries = library.parts.entries();
-    let arrows = graph_by(alloc, Link::Classes, entries)?;
+    let graph = graph_by(alloc, Link::Classes, entries)?;
+    let arrows = leading_to_models(alloc, entries, graph.as_slice())?;
     let mut marks = unmarked(alloc, arrows.as_slice())?;
     let mut lists = no_lists(alloc, entries.len())?;
     let mut left = limit;
@@ -153,8 +155,8 @@ fn list_in_each(
     Ok(count)
 }
 
-// The ident of the class of type `model` that stands at a place among entries.
-fn model_at(entries: &[(Key, Component)], place: usize) -> Option<&Text>
+/// The ident of the class of type `model` that stands at a place among entries.
+pub fn model_at(entries: &[(Key, Component)], place: usize) -> Option<&Text>
     ensures { (class : List ℕ) → (option_copied result ≡ Some class) ↔ IsModelAt entries.now place class }
 {
     match entries.get(place) {

@@ -5,28 +5,21 @@ use Rattle.std.specs.FinMap.{find, is_sorted, slice_cmp-IsAntisymmetric, nat_cmp
 use Rattle.std.specs.List.{list_any}
 use Rattle.odd_text.proofs.Entries.{as_T, found_contained}
 use Rattle.odd_text.specs.Text.{text_cmp}
-use Rattle.odd_text.specs.declared.key.Key.{Key}
 use Rattle.odd_tree.specs.Elements.{StandsIn}
 use Rattle.odd_tree.proofs.InList.{first_or_later, nothing_stands, standing, stands_first, stands_later}
 use Rattle.odd_attributes.specs.Attributes.{def_changed}
 use Rattle.odd_attributes.specs.declared.att_def.AttDef.{AttDef}
 use Rattle.odd_attributes.specs.declared.att_edit.AttEdit.{AttEdit}
 use Rattle.odd_attributes.specs.declared.att_edit.AttEdit.TheVariants.{Set, Change, Delete}
-use Rattle.odd_library.specs.declared.library.Component.{Component}
-use Rattle.odd_library.specs.declared.library.Library.{Library}
+use Rattle.odd_attributes.specs.declared.att_edit.AttFields.{AttFields}
 use Rattle.odd_meaning.specs.Links.{class_key}
 use Rattle.odd_meaning.specs.Offering.{Inherits, Passes}
 use Rattle.odd_offers.specs.Same.{both, def_same, def_test, first as first_true, second as second_true}
-use Rattle.odd_offers.specs.Tables.{ClashesBy, IsInherited, StandsAt, Table, clashes_with, differ, passes_at}
+use Rattle.odd_offers.specs.Tables.{ClashesBy, MakesOne, StandFor, StandsAt, Table, clashes_with, differ, passes_at}
 use Rattle.odd_offers.specs.declared.table.Offer.{Offer}
-use Rattle.odd_offers.proofs.Lists.{any_stands, stands_any}
+use Rattle.odd_offers.proofs.Lists.{any_stands, not_true, stands_any}
 use Rattle.odd_offers.proofs.Named.{found_in}
 use Rattle.odd_offers.proofs.TableOf.{giver_is_class}
-
--- what is not so is false
-not_true : (b : Bool) → not b ≡ true → b ≡ false
-not_true true h = cc
-not_true false h = refl
 
 -- where the definitions differ, two of the offers have different ones
 differ_two : (os : List Offer) → differ os ≡ true → (a b : Offer) × StandsIn os a × StandsIn os b × (a.def ≢ b.def)
@@ -46,15 +39,6 @@ same_unless d os p h m =
 -- and so is that of each of the offers
 all_same : (o : Offer) (os : List Offer) → list_any (λ (p : Offer). not (def_same o.def p.def)) os ≡ false → (a : Offer) → StandsIn (o ∷ os) a → o.def ≡ a.def
 all_same o os e a m = ⊎_elim (λ is. ap (λ (x : Offer). x.def) (sym is)) (λ later. same_unless o.def os a e later) (first_or_later o a os m)
-
--- where two of the offers have different definitions, they differ
-two_differ : (os : List Offer) (a b : Offer) → StandsIn os a → StandsIn os b → a.def ≢ b.def → differ os ≡ true
-two_differ [] a b m n h = absurd (nothing_stands a m)
-two_differ (o ∷ os) a b m n h =
-    elim (list_any (λ (p : Offer). not (def_same o.def p.def)) os) as (λ w. list_any (λ (p : Offer). not (def_same o.def p.def)) os ≡ w → w ≡ true) [
-      | true ↦ λ e. refl
-      | false ↦ λ e. absurd (h (sym (all_same o os e a m) ∙ all_same o os e b n))
-    ] refl
 
 -- an own edit that is no Set and no Delete lets each definition pass
 passes_some : (e : Option AttEdit) (d : AttDef) → passes_at e ≡ true → (result : AttDef) × Passes e d result
@@ -84,12 +68,24 @@ some_of : (o : Option (List Offer)) (d : AttDef) (g : List ℕ) → StandsAt o d
 some_of None d g m = absurd m
 some_of (Some os) d g m = (os, refl)
 
--- what is inherited stands in the table, and a class gives it
-stands_inherited : (library : Library) (part : Component) (inherited : Table) → IsInherited library part inherited → (ident : List ℕ) (def : AttDef) (giver : Key) → Inherits library part ident def giver
-    → (class : List ℕ) × StandsAt (find text_cmp ident inherited) def class
-stands_inherited library part inherited all ident def giver i =
-    let g = giver_is_class library (class_key i.class) giver ident def i.class refl i.offered in
-    (g.0, (all ident def g.0).1 (subst (λ k. Inherits library part ident def k) g.1 i))
+-- a change that gives nothing anew
+abbrev no_fields : AttFields
+no_fields = record { alt = None; ns = None; needed = None; datatype = None; vals = None }
+
+-- where no definitions differ, those for which they stand don't either
+one_for_all : (IsOne : AttDef → List ℕ → Type 0) (os : List Offer) → StandFor IsOne (Some os) → differ os ≡ false → (one other : AttDef) (giver other_giver : List ℕ) → IsOne one giver → IsOne other other_giver → one ≡ other
+one_for_all IsOne [] stand e one other giver other_giver h k = absurd (nothing_stands _ (stand.least one giver h).1)
+one_for_all IsOne (o ∷ os) stand e one other giver other_giver h k =
+    let makes_one : MakesOne no_fields (Some (o ∷ os)) = λ a b g h m n. sym (all_same o os e (record { def = a; giver = g }) m) ∙ all_same o os e (record { def = b; giver = h }) n in
+    stand.apart no_fields makes_one one giver h o.def o.giver (stands_first o os) ∙ sym (stand.apart no_fields makes_one other other_giver k o.def o.giver (stands_first o os))
+
+-- where they stand for two that differ, they differ
+two_for : (IsOne : AttDef → List ℕ → Type 0) (os : List Offer) → StandFor IsOne (Some os) → (one other : AttDef) (giver other_giver : List ℕ) → IsOne one giver → IsOne other other_giver → one ≢ other → differ os ≡ true
+two_for IsOne os stand one other giver other_giver h k apart =
+    elim (differ os) as (λ b. differ os ≡ b → b ≡ true) [
+      | true ↦ λ e. refl
+      | false ↦ λ e. absurd (apart (one_for_all IsOne os stand e one other giver other_giver h k))
+    ] refl
 
 -- the answer tells whether some attribute clashes
 pub clash_told : (edits : List (List ℕ × AttEdit)) (inherited : Table) (b : Bool) → IsTrue (is_sorted text_cmp inherited) → b ≡ list_any (λ entry. clashes_with edits entry) inherited
@@ -110,20 +106,22 @@ clash_told edits inherited b up e library part same all = (
           giver = class_key d.0.giver;
           other_giver = class_key d.1.giver;
           passes = subst (λ (es : List (List ℕ × AttEdit)). (result : AttDef) × Passes (find text_cmp ident es) d.0.def result) (sym same) passed;
-          first = (all ident d.0.def d.0.giver).0 (subst (λ o. StandsAt o d.0.def d.0.giver) (sym found) d.2);
-          second = (all ident d.1.def d.1.giver).0 (subst (λ o. StandsAt o d.1.def d.1.giver) (sym found) d.3);
+          first = (all ident).sound d.0.def d.0.giver (subst (λ o. StandsAt o d.0.def d.0.giver) (sym found) d.2);
+          second = (all ident).sound d.1.def d.1.giver (subst (λ o. StandsAt o d.1.def d.1.giver) (sym found) d.3);
           differ = d.4;
         },
       ),
   λ c.
       let ident = c.0 in
       let clash = c.1 in
-      let one = stands_inherited library part inherited all ident clash.one clash.giver clash.first in
-      let other = stands_inherited library part inherited all ident clash.other clash.other_giver clash.second in
-      let os = some_of (find text_cmp ident inherited) clash.one one.0 one.1 in
-      let differs =
-      two_differ os.0 (record { def = clash.one; giver = one.0 }) (record { def = clash.other; giver = other.0 }) (subst (λ o. StandsAt o clash.one one.0) os.1 one.1)
-      (subst (λ o. StandsAt o clash.other other.0) os.1 other.1) clash.differ in
+      let IsOne : AttDef → List ℕ → Type 0 = λ def giver. Inherits library part ident def (class_key giver) in
+      let one = giver_is_class library (class_key clash.first.class) clash.giver ident clash.one clash.first.class refl clash.first.offered in
+      let other = giver_is_class library (class_key clash.second.class) clash.other_giver ident clash.other clash.second.class refl clash.second.offered in
+      let first : IsOne clash.one one.0 = subst (λ k. Inherits library part ident clash.one k) one.1 clash.first in
+      let second : IsOne clash.other other.0 = subst (λ k. Inherits library part ident clash.other k) other.1 clash.second in
+      let kept = (all ident).least clash.one one.0 first in
+      let os = some_of (find text_cmp ident inherited) kept.0.def kept.0.giver kept.1 in
+      let differs = two_for IsOne os.0 (subst (StandFor IsOne) os.1 (all ident)) clash.one clash.other one.0 other.0 first second clash.differ in
       let passed = subst (λ (es : List (List ℕ × AttEdit)). Passes (find text_cmp ident es) clash.one clash.passes.0) same clash.passes.1 in
       e ∙ stands_any (λ (entry : List ℕ × List Offer). clashes_with edits entry) inherited (ident, os.0) (found_entry inherited ident os.0 os.1)
       (both (differ os.0) (passes_at (find text_cmp ident edits)) differs (some_passes (find text_cmp ident edits) clash.one clash.passes.0 passed)),

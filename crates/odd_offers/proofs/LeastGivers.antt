@@ -19,7 +19,6 @@ use Rattle.odd_attributes.specs.Attributes.{def_changed}
 use Rattle.odd_attributes.specs.declared.att_def.AttDef.{AttDef}
 use Rattle.odd_attributes.specs.declared.att_edit.AttEdit.{AttEdit}
 use Rattle.odd_attributes.specs.declared.att_edit.AttEdit.TheVariants.{Set, Change, Delete}
-use Rattle.odd_attributes.specs.declared.att_edit.AttFields.{AttFields}
 use Rattle.odd_library.specs.Odd.{element_key}
 use Rattle.odd_library.specs.declared.library.Component.{Component}
 use Rattle.odd_library.specs.declared.library.Library.{Library}
@@ -31,23 +30,8 @@ use Rattle.odd_offers.specs.Same.{def_same, def_test}
 use Rattle.odd_offers.specs.Tables.{IsInherited, StandsAt, Table}
 use Rattle.odd_offers.specs.declared.given.Given.{Given}
 use Rattle.odd_offers.specs.declared.table.Offer.{Offer}
-use Rattle.odd_offers.proofs.TableOf.{giver_is_class, same_some}
-
--- what is not above the one, where that is not above the other, is not above the other
-not_above : (x y z : List ℕ) → text_cmp x y ≢ Greater → text_cmp y z ≢ Greater → text_cmp x z ≢ Greater
-not_above x y z first second =
-    elim (text_cmp x y) as (λ o. text_cmp x y ≡ o → text_cmp x z ≢ Greater) [
-      | Less ↦ λ e. elim (text_cmp y z) as (λ o. text_cmp y z ≡ o → text_cmp x z ≢ Greater) [
-        | Less ↦ λ f g. let less = nat_list_cmp_total.trans x y z e f in cc
-        | Equal ↦ λ f. subst (λ w. text_cmp x w ≢ Greater) (exact y z f) first
-        | Greater ↦ λ f. absurd (second f)
-      ] refl
-      | Equal ↦ λ e. subst (λ w. text_cmp w z ≢ Greater) (sym (exact x y e)) second
-      | Greater ↦ λ e. absurd (first e)
-    ] refl
-  where
-    exact : (a b : List ℕ) → text_cmp a b ≡ Equal → a ≡ b
-    exact a b = slice_cmp-IsAntisymmetric nat_cmp-IsAntisymmetric a b
+use Rattle.odd_offers.proofs.StandingFor.{not_above, not_above_itself, not_below}
+use Rattle.odd_offers.proofs.TableOf.{giver_is_class, passes_change, passes_none, passes_too, same_some}
 
 -- two of which neither is above the other are one
 both_below : (x y : List ℕ) → text_cmp x y ≢ Greater → text_cmp y x ≢ Greater → x ≡ y
@@ -56,19 +40,6 @@ both_below x y first second =
       | Less ↦ λ e. absurd (second (nat_list_cmp_total.antisymm y x ∙ ap ordering_reverse e))
       | Equal ↦ λ e. slice_cmp-IsAntisymmetric nat_cmp-IsAntisymmetric x y e
       | Greater ↦ λ e. absurd (first e)
-    ] refl
-
--- a text is not above itself
-not_above_itself : (x : List ℕ) → text_cmp x x ≢ Greater
-not_above_itself x g = let tied = tied_itself nat_list_cmp_total x in cc
-
--- what is not below the other is not above it the other way round
-not_below : (x y : List ℕ) → is_lt (text_cmp x y) ≡ false → text_cmp y x ≢ Greater
-not_below x y h g =
-    elim (text_cmp x y) as (λ o. text_cmp x y ≡ o → ⊥) [
-      | Less ↦ λ e. let no : true ≡ false = sym (ap is_lt e) ∙ h in cc
-      | Equal ↦ λ e. let no : Greater ≡ Equal = sym g ∙ nat_list_cmp_total.antisymm y x ∙ ap ordering_reverse e in cc
-      | Greater ↦ λ e. let no : Greater ≡ Less = sym g ∙ nat_list_cmp_total.antisymm y x ∙ ap ordering_reverse e in cc
     ] refl
 
 -- and what is below it is not above it
@@ -108,14 +79,6 @@ least_below best (o ∷ os) x m =
           (first_or_later best x (o ∷ os) m)
     ] refl
 
--- what passes without an own edit stays
-passes_none : (before def : AttDef) → Passes None before def → def ≡ before
-passes_none before def Passes.as_it_is = refl
-
--- what passes a Change is changed
-passes_change : (f : AttFields) (before def : AttDef) → Passes (Some (Change f)) before def → def ≡ def_changed f before
-passes_change f before def (Passes.changed g) = refl
-
 -- what each own edit makes of what is inherited, where it lets that pass
 passed_answer : (e : Option AttEdit) (b : Offer) (os : List Offer) (before def : AttDef) → Passes e before def → (least_from b os).def ≡ before
     → answer_at e (Some (b ∷ os)) ≡ Some (record { def = def; giver = Some (least_from b os).giver })
@@ -124,13 +87,6 @@ passed_answer (Some (Set d)) b os before def p same = elim p [ ]
 passed_answer (Some Delete) b os before def p same = elim p [ ]
 passed_answer (Some (Change f)) b os before def p same =
     ap (λ d. Some (record { def = d; giver = Some (least_from b os).giver })) (ap (def_changed f) same ∙ sym (passes_change f before def p))
-
--- an own edit that lets one definition pass lets each
-passes_too : (e : Option AttEdit) (before def other : AttDef) → Passes e before def → (made : AttDef) × Passes e other made
-passes_too None before def other p = (other, Passes.as_it_is)
-passes_too (Some (Set d)) before def other p = elim p [ ]
-passes_too (Some Delete) before def other p = elim p [ ]
-passes_too (Some (Change f)) before def other p = (def_changed f other, Passes.changed f)
 
 -- an own Set lets nothing pass
 set_passes_none : (e : Option AttEdit) (set before def : AttDef) → e ≡ Some (Set set) → Passes e before def → ⊥
@@ -180,7 +136,8 @@ module _ (library : Library) (element : List ℕ) (part : Component) (inherited 
 
   -- what is offered is set, or inherited and passed
   offers_by : (holder : Key) (ident : List ℕ) (def : AttDef) (giver : Key) → holder ≡ element_key element → Offers library holder ident def giver
-      → ((edit ident ≡ Some (Set def)) × (giver ≡ element_key element)) ⊎ ((before : AttDef) × (class : List ℕ) × Passes (edit ident) before def × StandsAt (here ident) before class × (giver ≡ class_key class))
+      → ((edit ident ≡ Some (Set def)) × (giver ≡ element_key element))
+      ⊎ ((before : AttDef) × (class : List ℕ) × Passes (edit ident) before def × Inherits library part ident before (class_key class) × (giver ≡ class_key class))
   offers_by holder ident def giver e (Offers.own other is set) =
       let same : other ≡ part = same_some other part (sym is ∙ ap (λ k. find key_cmp k library.parts) e ∙ held) in
       inl (subst (λ (p : Component). find text_cmp ident (edits_of p) ≡ Some (Set def)) same set, e)
@@ -189,18 +146,19 @@ module _ (library : Library) (element : List ℕ) (part : Component) (inherited 
       let class = giver_is_class library (class_key through) giver ident before through refl offered in
       let inherits : Inherits library part ident before (class_key class.0) =
       record { class = through; among = subst (λ (p : Component). StandsIn (memberships p) through) same among; offered = subst (λ k. Offers library (class_key through) ident before k) class.1 offered } in
-      inr (before, class.0, subst (λ (p : Component). Passes (find text_cmp ident (edits_of p)) before def) same passes, (all ident before class.0).1 inherits, class.1)
+      inr (before, class.0, subst (λ (p : Component). Passes (find text_cmp ident (edits_of p)) before def) same passes, inherits, class.1)
 
   -- what is set is offered
   set_offered : (ident : List ℕ) (def : AttDef) → edit ident ≡ Some (Set def) → Offers library (element_key element) ident def (element_key element)
   set_offered ident def set = Offers.own part held set
 
   -- and so is what is inherited and passed
-  passed_offered : (ident : List ℕ) (before def : AttDef) (class : List ℕ) → Passes (edit ident) before def → StandsAt (here ident) before class → Offers library (element_key element) ident def (class_key class)
-  passed_offered ident before def class passes m = let i = (all ident before class).0 m in Offers.inherited part i.class before held i.among i.offered passes
+  passed_offered : (ident : List ℕ) (before def : AttDef) (class : List ℕ) → Passes (edit ident) before def → Inherits library part ident before (class_key class)
+      → Offers library (element_key element) ident def (class_key class)
+  passed_offered ident before def class passes i = Offers.inherited part i.class before held i.among i.offered passes
 
   -- two that are inherited and pass are one
-  one_def : (ident : List ℕ) (one other : AttDef) (giver other_giver : List ℕ) → StandsAt (here ident) one giver → StandsAt (here ident) other other_giver
+  one_def : (ident : List ℕ) (one other : AttDef) (giver other_giver : List ℕ) → Inherits library part ident one (class_key giver) → Inherits library part ident other (class_key other_giver)
       → (def : AttDef) → Passes (edit ident) one def → one ≡ other
   one_def ident one other giver other_giver m n def passes =
       elim (def_same one other) as (λ b. def_same one other ≡ b → one ≡ other) [
@@ -215,12 +173,24 @@ module _ (library : Library) (element : List ℕ) (part : Component) (inherited 
             giver = class_key giver;
             other_giver = class_key other_giver;
             passes = (def, passes);
-            first = (all ident one giver).0 m;
-            second = (all ident other other_giver).0 n;
+            first = m;
+            second = n;
             differ = λ same. let no : true ≡ false = sym (subst (λ d. def_same one d ≡ true) same (def_test.itself one)) ∙ e in cc;
           };
         }))
       ] refl
+
+  -- the offer of the least giver is inherited
+  least_inherited : (ident : List ℕ) (b : Offer) (os : List Offer) → here ident ≡ Some (b ∷ os) → Inherits library part ident (least_from b os).def (class_key (least_from b os).giver)
+  least_inherited ident b os is =
+      (all ident).sound (least_from b os).def (least_from b os).giver (subst (λ o. StandsAt o (least_from b os).def (least_from b os).giver) (sym is) (least_in b os))
+
+  -- and its giver is above none by whom something is inherited
+  least_of_all : (ident : List ℕ) (b : Offer) (os : List Offer) → here ident ≡ Some (b ∷ os) → (before : AttDef) (class : List ℕ) → Inherits library part ident before (class_key class)
+      → text_cmp (least_from b os).giver class ≢ Greater
+  least_of_all ident b os is before class i =
+      let kept = (all ident).least before class i in
+      not_above (least_from b os).giver kept.0.giver class (least_below b os kept.0 (subst (λ o. StandsAt o kept.0.def kept.0.giver) is kept.1)) kept.2
 
   -- an answer is what is offered
   answer_offered : (ident : List ℕ) (given : Given) → answer_at (edit ident) (here ident) ≡ Some given → IsOfferOf library element ident given.def given.giver
@@ -240,26 +210,23 @@ module _ (library : Library) (element : List ℕ) (part : Component) (inherited 
           let b = g.0 in
           let os = g.1 in
           let least = least_from b os in
-          let stands : StandsAt (here ident) least.def least.giver = subst (λ o. StandsAt o least.def least.giver) (sym g.2) (least_in b os) in
           subst (IsOfferOf library element ident given.def) (sym g.4) (record {
-            offered = passed_offered ident least.def given.def least.giver g.3 stands;
+            offered = passed_offered ident least.def given.def least.giver g.3 (least_inherited ident b os g.2);
             least = λ def other offers.
                 ⊎_elim (λ k. absurd (set_passes_none (edit ident) def least.def given.def k.0 g.3))
-                (λ k. subst (λ x. key_cmp (class_key least.giver) x ≢ Greater) (sym k.4)
-                (least_below b os (record { def = k.0; giver = k.1 }) (subst (λ o. StandsAt o k.0 k.1) g.2 k.3)))
+                (λ k. subst (λ x. key_cmp (class_key least.giver) x ≢ Greater) (sym k.4) (least_of_all ident b os g.2 k.0 k.1 k.3))
                 (offers_by (element_key element) ident def other refl offers);
           })
 
   -- what is inherited and passed is answered, by its least giver
-  passed_answered : (ident : List ℕ) (before def : AttDef) (class : List ℕ) → Passes (edit ident) before def → StandsAt (here ident) before class
-      → (b : Offer) × (os : List Offer) × (here ident ≡ Some (b ∷ os)) × StandsIn (b ∷ os) (record { def = before; giver = class })
-      × (answer_at (edit ident) (here ident) ≡ Some (record { def = def; giver = Some (least_from b os).giver }))
-  passed_answered ident before def class passes m =
-      let f = some_first (here ident) before class m in
+  passed_answered : (ident : List ℕ) (before def : AttDef) (class : List ℕ) → Passes (edit ident) before def → Inherits library part ident before (class_key class)
+      → (b : Offer) × (os : List Offer) × (here ident ≡ Some (b ∷ os)) × (answer_at (edit ident) (here ident) ≡ Some (record { def = def; giver = Some (least_from b os).giver }))
+  passed_answered ident before def class passes i =
+      let kept = (all ident).least before class i in
+      let f = some_first (here ident) kept.0.def kept.0.giver kept.1 in
       let least = least_from f.0 f.1 in
-      let stands : StandsAt (here ident) least.def least.giver = subst (λ o. StandsAt o least.def least.giver) (sym f.2) (least_in f.0 f.1) in
-      let same : least.def ≡ before = sym (one_def ident before least.def class least.giver m stands def passes) in
-      (f.0, f.1, f.2, f.3, ap (answer_at (edit ident)) f.2 ∙ passed_answer (edit ident) f.0 f.1 before def passes same)
+      let same : least.def ≡ before = sym (one_def ident before least.def class least.giver i (least_inherited ident f.0 f.1 f.2) def passes) in
+      (f.0, f.1, f.2, ap (answer_at (edit ident)) f.2 ∙ passed_answer (edit ident) f.0 f.1 before def passes same)
 
   -- what is offered by the least giver is the answer
   offered_answer : (ident : List ℕ) (given : Given) → IsOfferOf library element ident given.def given.giver → answer_at (edit ident) (here ident) ≡ Some given
@@ -276,17 +243,16 @@ module _ (library : Library) (element : List ℕ) (part : Component) (inherited 
       by_set : (edit ident ≡ Some (Set given.def)) × (giver_key element given.giver ≡ element_key element) → answer_at (edit ident) (here ident) ≡ Some given
       by_set s = ap (λ e. answer_at e (here ident)) s.0 ∙ ap (λ g. Some (record { def = given.def; giver = g })) (sym (own_giver given.giver s.1))
 
-      by_class : (before : AttDef) × (class : List ℕ) × Passes (edit ident) before given.def × StandsAt (here ident) before class × (giver_key element given.giver ≡ class_key class)
+      by_class : (before : AttDef) × (class : List ℕ) × Passes (edit ident) before given.def × Inherits library part ident before (class_key class) × (giver_key element given.giver ≡ class_key class)
           → answer_at (edit ident) (here ident) ≡ Some given
       by_class k =
           let a = passed_answered ident k.0 given.def k.1 k.2 k.3 in
           let least = least_from a.0 a.1 in
-          let stands : StandsAt (here ident) least.def least.giver = subst (λ o. StandsAt o least.def least.giver) (sym a.2) (least_in a.0 a.1) in
           let too = passes_too (edit ident) k.0 given.def least.def k.2 in
-          let under : text_cmp k.1 least.giver ≢ Greater = subst (λ x. key_cmp x (class_key least.giver) ≢ Greater) k.4 (r.least too.0 (class_key least.giver) (passed_offered ident least.def too.0 least.giver too.1 stands)) in
-          let over : text_cmp least.giver k.1 ≢ Greater = least_below a.0 a.1 (record { def = k.0; giver = k.1 }) a.3 in
+          let under : text_cmp k.1 least.giver ≢ Greater = subst (λ x. key_cmp x (class_key least.giver) ≢ Greater) k.4 (r.least too.0 (class_key least.giver) (passed_offered ident least.def too.0 least.giver too.1 (least_inherited ident a.0 a.1 a.2))) in
+          let over : text_cmp least.giver k.1 ≢ Greater = least_of_all ident a.0 a.1 a.2 k.0 k.1 k.3 in
           let same : k.1 ≡ least.giver = both_below k.1 least.giver under over in
-          a.4 ∙ ap (λ g. Some (record { def = given.def; giver = g })) (ap Some (sym same) ∙ sym (class_giver given.giver k.1 k.4))
+          a.3 ∙ ap (λ g. Some (record { def = given.def; giver = g })) (ap Some (sym same) ∙ sym (class_giver given.giver k.1 k.4))
 
   -- what is found in the answer
   found : (made : List (List ℕ × Given)) → IsAnswer (edits_of part) inherited made → (ident : List ℕ) → find text_cmp ident made ≡ answer_at (edit ident) (here ident)
@@ -301,6 +267,6 @@ module _ (library : Library) (element : List ℕ) (part : Component) (inherited 
     all = λ ident def giver offers.
         ⊎_elim
         (λ s. (record { def = def; giver = None }, found made is ident ∙ ap (λ e. answer_at e (here ident)) s.0, refl))
-        (λ k. let a = passed_answered ident k.0 def k.1 k.2 k.3 in (record { def = def; giver = Some (least_from a.0 a.1).giver }, found made is ident ∙ a.4, refl))
+        (λ k. let a = passed_answered ident k.0 def k.1 k.2 k.3 in (record { def = def; giver = Some (least_from a.0 a.1).giver }, found made is ident ∙ a.3, refl))
         (offers_by (element_key element) ident def giver refl offers);
   }

@@ -4,4 +4,7 @@ pub mod Clashing
 pub mod Lists
 pub mod Named
 pub mod OneByOne
+pub mod StandingFor
 pub mod TableOf
+pub mod TestsTold
+pub mod ToldSame

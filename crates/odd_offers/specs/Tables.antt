@@ -1,7 +1,8 @@
 -- Tables of what classes offer: at each ident the definitions with the classes that give them.
-use Rattle.std.specs.Prelude.{◌≡◌, ◌↔◌, ◌&&◌, Bool, true, false, not, if◌then◌else◌, ℕ, List, [], ◌∷◌, ◌++◌, map, Option, Some, None, IsTrue, refl}
+use Rattle.std.specs.Prelude.{◌≡◌, ◌≢◌, ◌↔◌, ◌&&◌, Bool, true, false, not, if◌then◌else◌, ℕ, List, [], ◌∷◌, ◌++◌, map, Option, Some, None, IsTrue}
 use Rattle.std.specs.FinMap.{find}
 use Rattle.std.specs.List.{list_any}
+use Rattle.std.specs.declared.cmp.Ordering.TheVariants.{Greater}
 use Rattle.odd_text.specs.Text.{text_cmp}
 use Rattle.odd_tree.specs.Elements.{StandsIn}
 use Rattle.odd_overlay.specs.Overlaid.{joined_at, zipped}
@@ -14,33 +15,31 @@ use Rattle.odd_library.specs.declared.library.Component.{Component}
 use Rattle.odd_library.specs.declared.library.Library.{Library}
 use Rattle.odd_meaning.specs.Links.{class_key}
 use Rattle.odd_meaning.specs.Offering.{Clashes, Inherits, Offers, edits_of}
-use Rattle.odd_offers.specs.Same.{Test, def_same, def_test, pair_test, test_by, text_test}
+use Rattle.odd_offers.specs.Same.{def_same}
+use Rattle.odd_offers.specs.Telling.{is_told}
 use Rattle.odd_offers.specs.declared.table.Offer.{Offer}
 
 -- by ident, the offers
 abbrev pub Table : Type 0
 Table = List (List ℕ × List Offer)
 
--- of offers: by giver and definition
-pub offer_test : Test Offer
-offer_test = test_by (pair_test text_test def_test) (λ (o : Offer). (o.giver, o.def)) (λ (p : List ℕ × AttDef). record { def = p.1; giver = p.0 }) (λ o. refl)
-
--- the two offers have one giver and the same definition
-abbrev pub offer_same : Offer → Offer → Bool
-offer_same = offer_test.same
-
--- the offer is put at the end where it is not there
+-- the offer is put at the end where it tells something more
 abbrev pub added : List Offer → Offer → List Offer
-added offers offer = if list_any (offer_same offer) offers then offers else offers ++ offer ∷ []
+added offers offer = if is_told offers offer then offers else offers ++ offer ∷ []
 
--- each of some more is put at the end where it is not there
-abbrev pub added_all : List Offer → List Offer → List Offer
-added_all offers [] = offers
-added_all offers (offer ∷ more) = added_all (added offers offer) more
+-- and so is each of some more, the last of them first
+abbrev pub added_each : List Offer → List Offer → List Offer
+added_each offers [] = offers
+added_each offers (offer ∷ more) = added (added_each offers more) offer
+
+-- what stands for the offers of two lists: the first, and of the others those that tell something more; what differs most from the first stands last
+abbrev pub offers_joined : List Offer → List Offer → List Offer
+offers_joined [] more = more
+offers_joined (first ∷ offers) more = added_each (added_each (first ∷ []) more) offers
 
 -- the offers of two tables at one ident
 abbrev pub united_at : Option (List Offer) → Option (List Offer) → Option (List Offer)
-united_at = joined_at added_all
+united_at = joined_at offers_joined
 
 -- the offers of two tables
 abbrev pub united : Table → Table → Table
@@ -67,17 +66,33 @@ StandsAt (Some offers) def giver = StandsIn offers (record { def = def; giver = 
 abbrev pub Tells : Table → List ℕ → AttDef → List ℕ → Type 0
 Tells table ident def giver = StandsAt (find text_cmp ident table) def giver
 
--- the table has exactly what the class offers
+-- the change makes all the definitions of these one
+abbrev pub MakesOne : AttFields → Option (List Offer) → Type 0
+MakesOne fields offers = (one other : AttDef) (giver other_giver : List ℕ) → StandsAt offers one giver → StandsAt offers other other_giver → def_changed fields one ≡ def_changed fields other
+
+-- the offers stand for all that there are: they are such, none of these has a lesser giver than each of them, and a change that makes their definitions one makes
+-- all one
+pub record StandFor (IsOne : AttDef → List ℕ → Type 0) (offers : Option (List Offer)) : Type 0 where
+  pub sound : (def : AttDef) (giver : List ℕ) → StandsAt offers def giver → IsOne def giver
+  pub least : (def : AttDef) (giver : List ℕ) → IsOne def giver → (kept : Offer) × StandsAt offers kept.def kept.giver × (text_cmp kept.giver giver ≢ Greater)
+  pub apart : (fields : AttFields) → MakesOne fields offers → (def : AttDef) (giver : List ℕ) → IsOne def giver → (kept : AttDef) (kept_giver : List ℕ) → StandsAt offers kept kept_giver
+      → def_changed fields def ≡ def_changed fields kept
+
+-- at each ident the table's offers stand for these
+abbrev pub StandsFor : (List ℕ → AttDef → List ℕ → Type 0) → Table → Type 0
+StandsFor IsOne table = (ident : List ℕ) → StandFor (IsOne ident) (find text_cmp ident table)
+
+-- for what the class offers
 abbrev pub IsTableOf : Library → List ℕ → Table → Type 0
-IsTableOf library class table = (ident : List ℕ) (def : AttDef) (giver : List ℕ) → Tells table ident def giver ↔ Offers library (class_key class) ident def (class_key giver)
+IsTableOf library class = StandsFor (λ ident def giver. Offers library (class_key class) ident def (class_key giver))
 
--- it has exactly what the component inherits
+-- for what the component inherits
 abbrev pub IsInherited : Library → Component → Table → Type 0
-IsInherited library part table = (ident : List ℕ) (def : AttDef) (giver : List ℕ) → Tells table ident def giver ↔ Inherits library part ident def (class_key giver)
+IsInherited library part = StandsFor (λ ident def giver. Inherits library part ident def (class_key giver))
 
--- the table has exactly what these have
+-- for what these tables have
 abbrev pub HaveAll : List Table → Table → Type 0
-HaveAll tables made = (ident : List ℕ) (def : AttDef) (giver : List ℕ) → Tells made ident def giver ↔ ((table : Table) × StandsIn tables table × Tells table ident def giver)
+HaveAll tables = StandsFor (λ ident def giver. (table : Table) × StandsIn tables table × Tells table ident def giver)
 
 -- the table has exactly what the class with these edits makes of what it inherits
 abbrev pub IsOwnTable : List ℕ → List (List ℕ × AttEdit) → Table → Table → Type 0
@@ -100,7 +115,7 @@ differ (offer ∷ offers) = list_any (λ other. not (def_same offer.def other.de
 abbrev pub clashes_with : List (List ℕ × AttEdit) → List ℕ × List Offer → Bool
 clashes_with edits entry = differ entry.1 && passes_at (find text_cmp entry.0 edits)
 
--- it is true just where some attribute clashes, in each component that has these edits and inherits just what the table has
+-- it is true just where some attribute clashes, in each component that has these edits and inherits what the table stands for
 abbrev pub ClashesBy : List (List ℕ × AttEdit) → Table → Bool → Type 0
 ClashesBy edits inherited answer = (library : Library) (part : Component) → edits_of part ≡ edits → IsInherited library part inherited
     → IsTrue answer ↔ ((ident : List ℕ) × Clashes library part ident)

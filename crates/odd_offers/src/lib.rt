@@ -10,6 +10,7 @@ mod pairings;
 mod same;
 mod shared;
 mod table;
+mod telling;
 
 pub use clash::clashes;
 pub use given::{Given, Givens, answered};

@@ -2,7 +2,7 @@ ghost use Rattle.std.specs.Prelude.{◌≡◌, ◌∷◌, [], IfOk, map};
 ghost use Rattle.odd_offers.specs.Tables.{offer_changed, own_at, united_at};
 
 use crate::shared::Shared;
-use crate::table::{Offer, Offers, added_all};
+use crate::table::{Offer, Offers, joined};
 use odd_attributes::{AttDef, AttEdit, AttFields, changed};
 use odd_overlay::Pairing;
 use odd_text::{NoMemory, Seq, Text, TryCopy};
@@ -35,7 +35,7 @@ impl Pairing for United {
             (None, other) => Ok(other),
             (Some(one), None) => Ok(Some(one)),
             (Some(one), Some(other)) => {
-                let made = added_all(alloc, one.get().copy(alloc)?, other.get())?;
+                let made = joined(alloc, one.get(), other.get())?;
                 Ok(Some(Shared::new(alloc, made)?))
             }
         }

@@ -15,9 +15,9 @@ pub fn same_def(one: &AttDef, other: &AttDef) -> bool
         && same_option(&one.vals, &other.vals)
 }
 
-// A type with a test of whether two values of it are equal.
-trait Told {
-    // Whether two values are equal.
+/// A type with a test of whether two values of it are equal.
+pub trait Told {
+    /// Whether two values are equal.
     fn is_same(&self, other: &Self) -> bool
         ensures { IsTrue result ↔ (self.now ≡ other.now) };
 }
@@ -40,8 +40,8 @@ impl Told for ValList {
     }
 }
 
-// Whether two values are equal, or there is neither.
-fn same_option<T: Told>(one: &Option<T>, other: &Option<T>) -> bool
+/// Whether two values are equal, or there is neither.
+pub fn same_option<T: Told>(one: &Option<T>, other: &Option<T>) -> bool
     ensures { IsTrue result ↔ (one.now ≡ other.now) }
 {
     match (one, other) {

@@ -1,10 +1,10 @@
 ghost use Rattle.std.specs.Prelude.{◌≡◌, IfOk};
-ghost use Rattle.std.specs.List.{list_any};
 ghost use Rattle.odd_offers.specs.Same.{def_same};
-ghost use Rattle.odd_offers.specs.Tables.{added as the_added, added_all as the_added_all, offer_same};
+ghost use Rattle.odd_offers.specs.Tables.{added as the_added, added_each as the_added_each, offers_joined};
 
 use crate::same::same_def;
 use crate::shared::Shared;
+use crate::telling::is_told;
 use odd_attributes::AttDef;
 use odd_text::{Map, NoMemory, Seq, Text, TryCopy};
 use std::alloc::Global;
@@ -16,7 +16,7 @@ pub struct Offer {
     pub giver: Text,
 }
 
-/// The offers of one attribute, each once.
+/// Offers of one attribute, which tell of all that there are: who gives it first, and what a later change leaves apart.
 pub type Offers = Seq<Offer>;
 
 /// By ident what is offered. Copies share the offers of each attribute.
@@ -31,45 +31,39 @@ impl TryCopy for Offer {
     }
 }
 
-/// The offers with more put at the end, each that is not there. The only error is NoMemory, for want of memory.
-pub fn added_all(alloc: Global, offers: Offers, more: &Offers) -> Result<Offers, NoMemory>
-    ensures { IfOk result (λ made. made ≡ the_added_all offers more.now) }
+/// What stands for the offers of both. The only error is NoMemory, for want of memory.
+pub fn joined(alloc: Global, offers: &Offers, more: &Offers) -> Result<Offers, NoMemory>
+    ensures { IfOk result (λ made. made ≡ offers_joined offers.now more.now) }
+{
+    let Some((first, others)) = offers.as_slice().split_first() else {
+        return more.copy(alloc);
+    };
+    let mut made = Offers::new(alloc);
+    made.push(first.copy(alloc)?)?;
+    let made = added_each(alloc, made, more.as_slice())?;
+    added_each(alloc, made, others)
+}
+
+// The offers with more put at the end, the last first, each that tells something more.
+fn added_each(alloc: Global, offers: Offers, more: &[Offer]) -> Result<Offers, NoMemory>
+    ensures { IfOk result (λ made. made ≡ the_added_each offers more.now) }
 {
     let mut made = offers;
-    for offer in more.as_slice() {
+    for offer in more.iter().rev() {
         made = added(alloc, made, offer)?;
     }
     Ok(made)
 }
 
-// The offers with one put at the end, where it is not there.
+// The offers with one put at the end, where it tells something more.
 fn added(alloc: Global, offers: Offers, offer: &Offer) -> Result<Offers, NoMemory>
     ensures { IfOk result (λ made. made ≡ the_added offers offer.now) }
 {
     let mut made = offers;
-    if !is_there(&made, offer) {
+    if !is_told(made.as_slice(), offer) {
         made.push(offer.copy(alloc)?)?;
     }
     Ok(made)
-}
-
-// Whether the offer is one of these.
-fn is_there(offers: &Offers, offer: &Offer) -> bool
-    ensures { result ≡ list_any (offer_same offer.now) offers.now }
-{
-    for other in offers.as_slice() {
-        if same_offer(offer, other) {
-            return true;
-        }
-    }
-    false
-}
-
-// Whether two offers have one giver and the same definition.
-fn same_offer(one: &Offer, other: &Offer) -> bool
-    ensures { result ≡ offer_same one.now other.now }
-{
-    one.giver == other.giver && have_same_def(one, other)
 }
 
 /// Whether two offers have the same definition.
