@@ -3,7 +3,7 @@
 
     bench/attributes.py PROGRAM
 
-PROGRAM is the built program of crates/odd_layer_cases. Each question is given to it as one case, with the answer worked out here; a wrong answer
+PROGRAM is the built program of crates/odd_cases. Each question is given to it as one case, with the answer worked out here; a wrong answer
 ends with 1. What is printed is as of bench/values.py; beside it stand the time and memory of `xmllint --noout` over a file with the same
 lists.
 """

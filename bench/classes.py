@@ -3,7 +3,7 @@
 
     bench/classes.py PROGRAM
 
-PROGRAM is the built program of crates/odd_layer_cases. For each shape of a library it is given one case, a doc that adds the
+PROGRAM is the built program of crates/odd_cases. For each shape of a library it is given one case, a doc that adds the
 classes, with the answer worked out here, at two sizes. The least processor time of three runs in seconds, the greatest memory
 in MB and how many times the smaller size that is are printed; a wrong answer ends with 1.
 

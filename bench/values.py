@@ -3,7 +3,7 @@
 
     bench/values.py PROGRAM
 
-PROGRAM is the built program of crates/odd_layer_cases. Each question is given to it as one case, with the answer worked out here; a wrong answer
+PROGRAM is the built program of crates/odd_cases. Each question is given to it as one case, with the answer worked out here; a wrong answer
 ends with 1. The least processor time of three runs in seconds, the greatest memory in MB and how many times those of the smaller size
 that is are printed. Beside them stand the time and memory of `xmllint --noout --relaxng` over a schema with that pattern or type and a small
 document, of `jing` for the same files, and of Python's `re` for the match alone; a dash where it refuses them or is not asked, and "longer"

@@ -3,7 +3,7 @@
 
     checks/attributes.py FOLDER
 
-Writes the cases of crates/odd_layer_cases/data/cases/attributes into FOLDER: each edit over each other, each fault beside each
+Writes the cases of crates/odd_cases/data/cases/attributes into FOLDER: each edit over each other, each fault beside each
 other, lists in one another, and random chains of lists, as docs/odd-files.md and docs/merging.md say.
 """
 
@@ -187,7 +187,7 @@ def datatype_said(element):
     reference = children(element, "dataRef")[0]
     said = f"key={reference.get('key')}" if reference.get("key") is not None else f"type={item(reference.get('name'), facets_of(reference))}"
     least, most = (element.get(name, "1") for name in ("minOccurs", "maxOccurs"))
-    return f"{said} {int(least)}..{'' if most == 'unbounded' else int(most)}"
+    return f"{said} {int(least)}..{'*' if most == 'unbounded' else int(most)}"
 
 
 def edit_said(element):

@@ -3,7 +3,7 @@
 
     checks/merging.py [FILE..]
 
-Prints the case crates/odd_layer_cases/data/cases/merging/random: chains made from a fixed seed, with the library after each, what
+Prints the case crates/odd_cases/data/cases/merging/random: chains made from a fixed seed, with the library after each, what
 its elements offer and what its last doc chooses, or the first offence, as docs/merging.md says. With FILES, which are cases of
 docs, prints each answer that says otherwise, and ends with 1 where there is one.
 """
@@ -437,7 +437,7 @@ def key_order(key):
 def told_component(key, component):
     """A key, and the fields in which a component differs from what is declared without any."""
     fields = [
-        f"{name}={shown_content(value) if name == 'content' else value}"
+        f"{name}={SHOWN.get(name, str)(value)}"
         for name, value, without in zip(Component._fields, component, BY_ITSELF)
         if value != without
     ]
@@ -450,10 +450,28 @@ def shown_content(content):
         if sign in content:
             return f"{name}({', '.join(map(shown_content, content.split(sign)))}) 1..1"
     if content == "value":
-        return "value Token"
+        return "value type=token"
     if content.startswith("data/"):
-        return content.replace("data/", "value ")
+        return content.replace("data/", "value key=")
     return content if content in ("text", "empty") else f"{content.replace('/', ' ')} 1..1"
+
+
+def told_edits(edits):
+    """Edits of attributes as the cases show them."""
+    found = edits_of(edits)
+    return " ; ".join(" ".join([ident, *([] if kind == "set" else [kind]), *told_given(given)]) for ident, (kind, given) in found.items())
+
+
+def told_given(given):
+    """What an edit or a definition gives, as the cases show it."""
+    if "usage" in given:
+        yield given["usage"]
+    yield from (f"{name}={given[name]}" for name in ("alt", "ns") if name in given)
+    if "datatype" in given:
+        yield f"key={given['datatype']} 1..1"
+
+
+SHOWN = {"content": shown_content, "atts": told_edits}
 
 
 def told_library(docs):
@@ -480,7 +498,8 @@ def told_offers(docs, is_asked=True):
     for key in sorted(library, key=key_order):
         if key[0] == "element":
             rules = list(broken_by_offering(library, offers, key))
-            yield " ".join([key[1], *([f"rule {min(rules)}"] if rules else told_attributes(offers[key], key))])
+            told = f"rule {min(rules)}" if rules else " ; ".join(told_attributes(offers[key], key))
+            yield f"{key[1]} {told}" if told else key[1]
 
 
 def told_unasked(docs):
@@ -492,7 +511,7 @@ def told_attributes(offers, key):
     """What an element offers, of each attribute the definition and the least giver."""
     for ident in sorted({offer.ident for offer in offers}, key=str.encode):
         best = min((offer for offer in offers if offer.ident == ident), key=lambda offer: offer.giver[1].encode())
-        yield f"{ident}:{shown_given(dict(best.definition))}@{'-' if best.giver == key else best.giver[1]}"
+        yield " ".join([ident, *told_given(dict(best.definition)), f"@{'-' if best.giver == key else best.giver[1]}"])
 
 
 def told_chosen(docs):

@@ -527,9 +527,13 @@ def is_tei(element, *locals):
     return element.ns == TEI and (not locals or element.local in locals)
 
 
+def is_searched(element):
+    return is_tei(element) and element.local != "constraintSpec"
+
+
 def found(element, *locals):
-    """Every element of these names around which all elements are TEI's, in document order."""
-    if is_tei(element):
+    """Every element of these names around which all elements are TEI's and none is a constraint, in document order."""
+    if is_searched(element):
         if element.local in locals:
             yield element
         for child in element.inside:
@@ -544,7 +548,7 @@ def declarations_without_a_schema(element):
     """The declarations that stand in no other one."""
     if is_tei(element, *SPECS):
         yield element
-    elif is_tei(element):
+    elif is_searched(element):
         for child in element.inside:
             yield from declarations_without_a_schema(child)
 

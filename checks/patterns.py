@@ -3,7 +3,7 @@
 
     checks/patterns.py [FILE..]
 
-Prints the case crates/odd_layer_cases/data/cases/patterns/random: patterns made from a fixed seed, what the calls `choice`,
+Prints the case crates/odd_cases/data/cases/patterns/random: patterns made from a fixed seed, what the calls `choice`,
 `group` and `more` make of each as their docstrings say, and the words that it matches. These are found by Python's `re` and again
 by trying all splits of a word, and both must agree. With FILES, which are cases of patterns whose words do not go on, prints each
 line that says otherwise, and ends with 1 where there is one.

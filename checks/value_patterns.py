@@ -3,7 +3,7 @@
 
     checks/value_patterns.py FOLDER
 
-Writes the cases `matching`, `allowed` and `borders` of crates/odd_layer_cases/data/cases/values, from a fixed seed. Whether a text
+Writes the cases `matching`, `allowed` and `borders` of crates/odd_cases/data/cases/values, from a fixed seed. Whether a text
 matches is asked of Python's `re`; whether a list is allowed, of all splits of its words at white space.
 """
 

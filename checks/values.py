@@ -3,7 +3,7 @@
 
     checks/values.py FOLDER
 
-Writes the cases of crates/odd_layer_cases/data/cases/values, from fixed seeds. A pattern is read here by trying the rules of
+Writes the cases of crates/odd_cases/data/cases/values, from fixed seeds. A pattern is read here by trying the rules of
 docs/values.md in all ways at once, with the places where each may end, and not by a machine; a text that ends within a rule
 may go on. So the place of a fault is found by asking of each front whether it may go on. What a pattern means is compared with
 Python's `re`, on random words, before it is written.

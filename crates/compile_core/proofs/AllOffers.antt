@@ -5,8 +5,8 @@ use Rattle.std.specs.Prelude.{MatchOption, unwrap_or}
 use Rattle.compile_defines.specs.Compiled.{AreAllOffers, offers_in, offers_of}
 use Rattle.odd_classes.proofs.OffersSet.{offers_set}
 use Rattle.odd_classes.specs.Offered.{AreOffersIn, Givens}
-use Rattle.odd_forms.proofs.SetOf.{none_rising}
-use Rattle.odd_forms.specs.Sorted.{IsSet}
+use Rattle.odd_text.proofs.SetOf.{none_rising}
+use Rattle.odd_text.specs.Sorted.{IsSet}
 use Rattle.odd_library.specs.Odd.{element_key}
 use Rattle.odd_library.specs.declared.library.Library.{Library}
 use Rattle.odd_meaning.specs.Offering as offering
@@ -16,7 +16,7 @@ use Rattle.odd_attributes.specs.declared.att_def.AttDef.{AttDef}
 use Rattle.odd_text.specs.Key.{key_cmp}
 use Rattle.odd_text.specs.Text.{text_cmp}
 use Rattle.odd_text.specs.declared.key.Key.{Key}
-use Rattle.odd_tree.proofs.InList.{nothing_stands}
+use Rattle.odd_text.proofs.InList.{nothing_stands}
 
 -- what is not held offers nothing
 none_offered : (library : Library) (holder : Key) (ident : List ℕ) (def : AttDef) (giver : Key) → find key_cmp holder library.parts ≡ None → Offers library holder ident def giver → ⊥

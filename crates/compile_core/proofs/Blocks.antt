@@ -4,19 +4,19 @@ use Rattle.std.proofs.lemmas.Cmp.{on_total}
 use Rattle.std.specs.FinMap.{is_sorted}
 use Rattle.std.specs.Prelude.{IsTrue, flat_map}
 use Rattle.std.specs.declared.cmp.Ordering.TheVariants.{Less}
-use Rattle.compile_contents.proofs.Collected.{collected_stands, each_of_both, stands_collected}
-use Rattle.compile_contents.proofs.Standing.{found, stands_left, stands_right}
+use Rattle.compile_defines.proofs.Collected.{collected_stands, each_of_both, stands_collected}
+use Rattle.compile_defines.proofs.Standing.{found, stands_left, stands_right}
 use Rattle.odd_content.specs.ConditionOrder.{condition_cmp}
-use Rattle.compile_contents.specs.Conditions.{IsConditionOf}
-use Rattle.compile_contents.specs.Contents.{class_name, define_name, macro_name}
-use Rattle.compile_contents.specs.Data.{datatype_name}
+use Rattle.compile_defines.specs.Conditions.{IsConditionOf}
+use Rattle.compile_defines.specs.Contents.{class_name, define_name, macro_name}
+use Rattle.compile_defines.specs.Data.{datatype_name}
 use Rattle.compile_core.proofs.Rising.{entries_rise, made_rise, IsFrom, IsUpTo, letter, letters_rise}
 use Rattle.compile_defines.proofs.NamedDefines.{define_total, entry_stands, listed_is}
 use Rattle.compile_defines.specs.Blocks.{class_defines, datatype_defines, element_defines, listed_defines, macro_defines, IsConditionDefine, component_defines, grammar_with}
 use Rattle.compile_defines.specs.Compiled.{AllOffers, AreAllOffers, IsDefineOf, define_cmp, class_define, datatype_define, element_define, macro_define, IsGrammarOf}
 use Rattle.compile_defines.specs.Compiled as compiled
 use Rattle.odd_content.specs.declared.content.Condition.{Condition}
-use Rattle.odd_forms.specs.Sorted.{AreRising, IsSet}
+use Rattle.odd_text.specs.Sorted.{AreRising, IsSet}
 use Rattle.odd_library.specs.Odd.{element_key}
 use Rattle.odd_library.specs.declared.library.Component.{Component}
 use Rattle.odd_library.specs.declared.library.Component.TheVariants as component
@@ -29,8 +29,8 @@ use Rattle.odd_text.specs.Text.{text_cmp}
 use Rattle.odd_text.specs.declared.key.Key.{Key}
 use Rattle.odd_text.specs.declared.key.Kind.{Kind}
 use Rattle.odd_text.specs.declared.key.Kind.TheVariants as kind
-use Rattle.odd_tree.proofs.InList.{first_or_later, nothing_stands, stands_first}
-use Rattle.odd_tree.specs.Elements.{StandsIn}
+use Rattle.odd_text.proofs.InList.{first_or_later, nothing_stands, stands_first}
+use Rattle.odd_text.specs.Standing.{StandsIn}
 use Rattle.rng_grammar.specs.declared.grammar.Define.{Define}
 
 -- nothing, or one item that is such

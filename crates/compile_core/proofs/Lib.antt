@@ -1,6 +1,7 @@
 pub mod AllOffers
 pub mod Blocks
 pub mod MembersExist
+pub mod OneAccount
 pub mod OneGrammarOf
 pub mod Plain
 pub mod PlainClass

@@ -6,11 +6,11 @@ use Rattle.std.specs.Bool.{Decides}
 use Rattle.std.specs.FinMap.{find, nat_cmp-IsAntisymmetric, slice_cmp-IsAntisymmetric}
 use Rattle.std.specs.Option.{is_some}
 use Rattle.std.specs.Ordering.{is_eq}
-use Rattle.compile_contents.proofs.Standing.{held_stands, filter_passed, stands_filter, element_found}
-use Rattle.compile_contents.specs.Contents.{holds_element}
+use Rattle.compile_defines.proofs.Standing.{held_stands, filter_passed, stands_filter, element_found}
+use Rattle.compile_defines.specs.Contents.{holds_element}
 use Rattle.compile_defines.proofs.NamedDefines.{entry_stands}
-use Rattle.odd_forms.proofs.SetOf.{set_of_is}
-use Rattle.odd_forms.specs.Sorted.{IsSet, set_of}
+use Rattle.odd_text.proofs.SetOf.{set_of_is}
+use Rattle.odd_text.specs.Sorted.{IsSet, set_of}
 use Rattle.odd_graph.proofs.Chains.{first_step, last_step, by_rank}
 use Rattle.odd_graph.specs.Graph.{Chained, at_once, through}
 use Rattle.odd_library.specs.Odd.{element_key}
@@ -25,8 +25,8 @@ use Rattle.odd_text.specs.Key.{key_cmp}
 use Rattle.odd_text.specs.KeyOrder.{key_total, key_exact, tied_is_same}
 use Rattle.odd_text.specs.Text.{text_cmp}
 use Rattle.odd_text.specs.declared.key.Key.{Key}
-use Rattle.odd_tree.proofs.InList.{StandsOnce, first_or_later, nothing_stands, stands_first, stands_later, map_stands, stands_map}
-use Rattle.odd_tree.specs.Elements.{StandsIn}
+use Rattle.odd_text.proofs.InList.{StandsOnce, first_or_later, nothing_stands, stands_first, stands_later, map_stands, stands_map}
+use Rattle.odd_text.specs.Standing.{StandsIn}
 
 -- a test tells it
 abbrev pub IsDecided : Type 0 → Type 0

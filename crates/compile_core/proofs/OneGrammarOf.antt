@@ -12,17 +12,17 @@ use Rattle.std.specs.Prelude.{IsTrue}
 use Rattle.std.specs.declared.cmp.Ordering.TheVariants.{Less, Equal, Greater}
 use Rattle.odd_attributes.specs.declared.att_def.AttDef.{AttDef}
 use Rattle.odd_content.specs.ConditionOrder.{condition_cmp, condition_total}
-use Rattle.compile_contents.specs.Conditions.{IsConditionOf}
+use Rattle.compile_defines.specs.Conditions.{IsConditionOf}
 use Rattle.compile_defines.proofs.NamedDefines.{define_total}
 use Rattle.compile_defines.specs.Compiled.{AllOffers, AreAllOffers, IsMissing, IsDefineOf, IsGrammarOf, define_cmp}
 use Rattle.odd_meaning.specs.Offering.{OffersOne, offer_cmp}
-use Rattle.odd_forms.proofs.SetOf.{not_below, one_set, rest_rising}
-use Rattle.odd_forms.specs.Sorted.{IsSet, AreRising}
+use Rattle.odd_text.proofs.SetOf.{not_below, one_set, rest_rising}
+use Rattle.odd_text.specs.Sorted.{IsSet, AreRising}
 use Rattle.odd_library.specs.declared.library.Library.{Library}
 use Rattle.odd_meaning.specs.Classes.{AreMembers, IsElementOf, IsListed, Members}
 use Rattle.odd_text.specs.Lesser.{lesser_of}
 use Rattle.odd_text.specs.Text.{text_cmp}
-use Rattle.odd_tree.proofs.InList.{stands_push}
+use Rattle.odd_text.proofs.InList.{stands_push}
 use Rattle.rng_grammar.specs.Denoting.{entry_of}
 use Rattle.rng_grammar.specs.declared.grammar.Define.{Define}
 use Rattle.rng_grammar.specs.declared.grammar.Grammar.{Grammar}

@@ -4,9 +4,9 @@ use Rattle.std.proofs.lemmas.List.Elements.{All-append, All-cons, All-contains, 
 use Rattle.std.specs.Prelude.{All}
 use Rattle.std.specs.FinMap.{find}
 use Rattle.std.specs.Option.{is_some}
-use Rattle.compile_contents.proofs.Standing.{stands_filter, macro_found, each_stands, found}
-use Rattle.compile_contents.specs.Conditions.{conditions_in, conditions_in_parts, conditions_of}
-use Rattle.compile_contents.specs.Contents.{macro_name, class_name, condition_name, content_pattern, define_name, references_pattern}
+use Rattle.compile_defines.proofs.Standing.{stands_filter, macro_found, each_stands, found}
+use Rattle.compile_defines.specs.Conditions.{conditions_in, conditions_in_parts, conditions_of}
+use Rattle.compile_defines.specs.Contents.{macro_name, class_name, condition_name, content_pattern, define_name, references_pattern}
 use Rattle.compile_core.proofs.PlainClass.{IsBodyOf, condition_body_is, element, nothing}
 use Rattle.compile_laws.proofs.Closed.{references_good}
 use Rattle.compile_defines.proofs.NamedDefines.{listed_is}
@@ -35,8 +35,8 @@ use Rattle.odd_text.specs.declared.key.Kind.{Kind}
 use Rattle.odd_text.specs.declared.key.Kind.TheVariants as kind
 use Rattle.odd_tokens.proofs.Characters.{none_twice}
 use Rattle.odd_tokens.specs.Characters.{IsNCName}
-use Rattle.odd_tree.proofs.InList.{contained, map_stands, nothing_stands}
-use Rattle.odd_tree.specs.Elements.{StandsIn}
+use Rattle.odd_text.proofs.InList.{contained, map_stands, nothing_stands}
+use Rattle.odd_text.specs.Standing.{StandsIn}
 use Rattle.rng_emit.proofs.Plain.{printable_plain}
 use Rattle.rng_emit.proofs.Printable as plain_form
 use Rattle.rng_emit.proofs.Printable.{IsPlainBody, IsPlainDefine, IsPlainPattern, IsPlainRule}
@@ -54,11 +54,11 @@ use Rattle.std.proofs.lemmas.Cmp.{nat_list_cmp_total}
 use Rattle.std.specs.Option.{IfSome}
 use Rattle.std.specs.Prelude.{unwrap_or}
 use Rattle.std.specs.declared.cmp.Ordering.TheVariants.{Less}
-use Rattle.compile_contents.specs.Data.{data_pattern, datatype_name}
+use Rattle.compile_defines.specs.Data.{data_pattern, datatype_name}
 use Rattle.odd_attributes.specs.Formed.{IsFormedDef}
 use Rattle.odd_attributes.specs.declared.att_def.AttDef.{AttDef}
 use Rattle.odd_classes.proofs.Linked.{held}
-use Rattle.odd_forms.proofs.SetOf.{first_below, not_below, rest_rising}
+use Rattle.odd_text.proofs.SetOf.{first_below, not_below, rest_rising}
 use Rattle.odd_forms.proofs.Colon.{xml_named}
 use Rattle.odd_forms.specs.Form as attribute
 use Rattle.std.proofs.lemmas.List.{take-append-drop}
@@ -66,16 +66,16 @@ use Rattle.std.specs.Cmp.Lexicographic.{same_text}
 use Rattle.odd_tokens.proofs.Ascii.{ascii_legal}
 use Rattle.std.proofs.lemmas.Bool.{false≢true}
 use Rattle.odd_forms.specs.Form.{IsAttributeName}
-use Rattle.odd_forms.specs.Sorted.{AreRising}
+use Rattle.odd_text.specs.Sorted.{AreRising}
 use Rattle.odd_graph.specs.Graph.{Chained}
 use Rattle.odd_meaning.specs.Naming.{attribute_name, name_written, xml_prefix}
 use Rattle.odd_text.specs.Text.{text_cmp}
 use Rattle.odd_tokens.proofs.Characters.{Distinct, Lacks}
 use Rattle.odd_tokens.specs.Characters.{IsLegal}
-use Rattle.odd_tokens.specs.Same.{is_same}
+use Rattle.odd_text.specs.Same.{is_same}
 use Rattle.odd_tokens.specs.Tokens.{NoneTwice}
 use Rattle.odd_tree.specs.Names.{xml_namespace}
-use Rattle.odd_tree.proofs.InList.{stands_first, stands_later, stands_map}
+use Rattle.odd_text.proofs.InList.{stands_first, stands_later, stands_map}
 use Rattle.rng_emit.proofs.Printable.{IsPlainName}
 use Rattle.rng_grammar.specs.declared.grammar.AttrRule.{AttrRule}
 use Rattle.rng_types.specs.declared.item.Item.TheVariants as items

@@ -7,7 +7,7 @@ use Rattle.odd_content.specs.Formed.{IsExceptedName, IsExceptedNamespace, IsForm
 use Rattle.odd_content.specs.declared.content.Condition.{Condition}
 use Rattle.odd_text.specs.declared.name.Name.{Name}
 use Rattle.odd_tokens.specs.Characters.{IsLegal}
-use Rattle.odd_tokens.specs.Same.{is_same}
+use Rattle.odd_text.specs.Same.{is_same}
 use Rattle.rng_emit.proofs.Printable.{IsPlainClass, IsPlainName, IsPlainPart}
 use Rattle.rng_grammar.specs.declared.grammar.AttrPart.TheVariants as attributes
 use Rattle.rng_grammar.specs.declared.grammar.Body.{Body}

@@ -8,17 +8,17 @@ use Rattle.std.proofs.lemmas.Str.{encodes-append}
 use Rattle.std.specs.Fmt.{digit_glyph, digits, digits_onto}
 use Rattle.std.specs.List.{list_all}
 use Rattle.std.specs.Prelude.{All, codes, decimal}
-use Rattle.compile_contents.specs.Contents.{class_name, content_pattern, macro_name, condition_name, define_name, number_of}
+use Rattle.compile_defines.specs.Contents.{class_name, content_pattern, macro_name, condition_name, define_name, number_of}
 use Rattle.compile_laws.proofs.Closed.{IsClosed, choice_good}
 use Rattle.odd_content.specs.declared.content.Condition.{Condition}
 use Rattle.odd_tokens.proofs.Ascii.{ascii_name, ascii_ncname, is_ascii_name}
 use Rattle.odd_tokens.proofs.AttributesLexed.{ncname_chars}
 use Rattle.odd_tokens.specs.Characters.{IsNCName, is_name_char, is_name_start, is_ncname}
-use Rattle.odd_data.specs.Formed.{IsFormedData, IsMadeItem}
+use Rattle.odd_content.specs.FormedData.{IsFormedData, IsMadeItem}
 use Rattle.odd_meaning.specs.Links.{datatype_key, named_by_item, named_in, named_in_parts}
-use Rattle.odd_tree.proofs.InList.{contained, nothing_stands, only_item, standing, stands_first}
-use Rattle.odd_tree.specs.Elements.{StandsIn}
-use Rattle.compile_contents.specs.Data.{data_pattern, data_patterns, datatype_name, item_pattern, list_pattern, listed_pattern}
+use Rattle.odd_text.proofs.InList.{contained, nothing_stands, only_item, standing, stands_first}
+use Rattle.odd_text.specs.Standing.{StandsIn}
+use Rattle.compile_defines.specs.Data.{data_pattern, data_patterns, datatype_name, item_pattern, list_pattern, listed_pattern}
 use Rattle.compile_laws.proofs.Good.{data_in, data_in_parts}
 use Rattle.compile_laws.proofs.GoodData.{IsGoodOfData}
 use Rattle.odd_content.specs.declared.content.Content.{Content, Empty, Text, Value, Vals, Element, Class, Macro, Any, Sequence', Alternate', Row_of-Content, end_of-Content, more_of-Content}
@@ -27,7 +27,7 @@ use Rattle.odd_meaning.specs.Classes.{Members}
 use Rattle.rng_types.specs.declared.val_list.ListKind.{ListKind}
 use Rattle.rng_types.specs.declared.val_list.ListKind.TheVariants as listing
 use Rattle.rng_types.specs.declared.val_list.ValList.{ValList}
-use Rattle.compile_contents.proofs.Standing.{each_stands, stands_either, stands_left, stands_right}
+use Rattle.compile_defines.proofs.Standing.{each_stands, stands_either, stands_left, stands_right}
 use Rattle.rng_grammar.proofs.Values.{same_shown, typed_shown}
 use Rattle.rng_grammar.specs.Denoting.{read_as}
 use Rattle.rng_types.specs.declared.data_type.DataType.{DataType}

@@ -8,15 +8,15 @@ use Rattle.std.specs.Ordering.{ordering_then}
 use Rattle.std.specs.Prelude.{IsTrue, flat_map}
 use Rattle.std.specs.declared.cmp.Ordering.{Ordering}
 use Rattle.std.specs.declared.cmp.Ordering.TheVariants.{Less}
-use Rattle.compile_contents.proofs.Collected.{collected_stands}
-use Rattle.compile_contents.proofs.Standing.{is_less, stands_either}
+use Rattle.compile_defines.proofs.Collected.{collected_stands}
+use Rattle.compile_defines.proofs.Standing.{is_less, stands_either}
 use Rattle.compile_defines.proofs.NamedDefines.{define_total}
 use Rattle.compile_defines.specs.Compiled.{define_cmp}
-use Rattle.odd_forms.proofs.SetOf.{first_below, rest_rising, rising_more}
-use Rattle.odd_forms.specs.Sorted.{AreRising}
+use Rattle.odd_text.proofs.SetOf.{first_below, rest_rising, rising_more}
+use Rattle.odd_text.specs.Sorted.{AreRising}
 use Rattle.odd_text.specs.Text.{text_cmp}
-use Rattle.odd_tree.proofs.InList.{stands_first, stands_later}
-use Rattle.odd_tree.specs.Elements.{StandsIn}
+use Rattle.odd_text.proofs.InList.{stands_first, stands_later}
+use Rattle.odd_text.specs.Standing.{StandsIn}
 use Rattle.rng_grammar.specs.declared.grammar.Define.{Define}
 
 module _ {A : Type 0} (order : A → A → Ordering) (total : IsTotalOrder order) where

@@ -3,11 +3,11 @@ use Rattle.std.proofs.Common.{◌≡◌, ℕ, zero, suc, Bool, true, false, List
 use Rattle.std.proofs.lemmas.Cmp.{nat_list_cmp_total, on_total}
 use Rattle.std.proofs.lemmas.List.{map-append}
 use Rattle.std.proofs.lemmas.Simd.{map-map}
-use Rattle.compile_contents.specs.Conditions.{IsConditionOf}
-use Rattle.compile_contents.specs.Contents.{class_name, condition_name, content_pattern, define_name, element_pattern, holds_element, holds_macro, macro_name, macro_pattern, members_pattern, part_patterns, reference, references_pattern}
-use Rattle.compile_contents.specs.Data.{data_pattern, data_patterns, datatype_name, item_pattern, listed_pattern, piece_pattern, pieces_pattern, value_pattern, values_pattern}
-use Rattle.compile_contents.specs.Repeating as repeating
-use Rattle.compile_contents.specs.Repeating.{choice_pattern, group_pattern, repeated, repeated_within}
+use Rattle.compile_defines.specs.Conditions.{IsConditionOf}
+use Rattle.compile_defines.specs.Contents.{class_name, condition_name, content_pattern, define_name, element_pattern, holds_element, holds_macro, macro_name, macro_pattern, members_pattern, part_patterns, reference, references_pattern}
+use Rattle.compile_defines.specs.Data.{data_pattern, data_patterns, datatype_name, item_pattern, listed_pattern, piece_pattern, pieces_pattern, value_pattern, values_pattern}
+use Rattle.compile_defines.specs.Repeating as repeating
+use Rattle.compile_defines.specs.Repeating.{choice_pattern, group_pattern, repeated, repeated_within}
 use Rattle.compile_core.proofs.OneGrammarOf.{one_members, one_offers}
 use Rattle.compile_core.specs.SchemaText as text
 use Rattle.compile_core.specs.SchemaText.{Defines, Held, IsSchemaText, choice, datatype_markup, element_markup, item_markup, listed_markup, offer_markup, piece_markup, pieces_markup, condition_markup, content_markup, data_markup, data_parts_markup, element_throughout, further, group, held_cmp, members_markup, often, often_within, parts_markup, refs, schema_markup, within_spaces}
@@ -20,15 +20,15 @@ use Rattle.odd_content.specs.declared.content.Condition.{Condition}
 use Rattle.odd_content.specs.declared.content.Content.{Content, Empty, Text, Value, Vals, Element, Class, Macro, Any, Sequence', Alternate', Row_of-Content, end_of-Content, more_of-Content}
 use Rattle.odd_content.specs.declared.content.Pick.{Pick}
 use Rattle.odd_content.specs.declared.content.Pick.TheVariants as pick
-use Rattle.odd_forms.proofs.SetOf.{first_below, none_rising, one_set, rest_rising, rising_more}
-use Rattle.odd_forms.specs.Sorted.{AreRising, IsSet}
+use Rattle.odd_text.proofs.SetOf.{first_below, none_rising, one_set, rest_rising, rising_more}
+use Rattle.odd_text.specs.Sorted.{AreRising, IsSet}
 use Rattle.odd_attributes.specs.declared.att_def.AttDef.{AttDef}
 use Rattle.odd_attributes.specs.declared.att_def.Datatype.{Datatype}
 use Rattle.odd_library.specs.declared.library.ElementPart.{ElementPart}
 use Rattle.odd_library.specs.declared.library.Library.{Library}
 use Rattle.odd_meaning.specs.Naming.{attribute_name, element_name}
 use Rattle.odd_meaning.specs.Values.{bounds_of}
-use Rattle.odd_tokens.specs.Same.{is_same}
+use Rattle.odd_text.specs.Same.{is_same}
 use Rattle.rng_grammar.specs.Denoting.{read_as}
 use Rattle.rng_types.specs.declared.data_type.DataType.{DataType}
 use Rattle.rng_types.specs.declared.data_type.DataType.TheVariants as datatypes
@@ -38,8 +38,8 @@ use Rattle.rng_types.specs.declared.val_list.ListKind.{ListKind}
 use Rattle.rng_types.specs.declared.val_list.ListKind.TheVariants as listing
 use Rattle.rng_types.specs.declared.val_list.ValList.{ValList}
 use Rattle.odd_meaning.specs.Classes.{Members}
-use Rattle.odd_tree.proofs.InList.{map_stands, stands_map}
-use Rattle.odd_tree.specs.Elements.{StandsIn}
+use Rattle.odd_text.proofs.InList.{map_stands, stands_map}
+use Rattle.odd_text.specs.Standing.{StandsIn}
 use Rattle.odd_tree.specs.Markup.{Markup, element, file_printed, line, none}
 use Rattle.rng_emit.proofs.Shapes.{choice_is, empty_is, group_is, list_is, same_is, typed_is, not_allowed_is, one_or_more_is, optional_is, ref_is, text_is, zero_or_more_is}
 use Rattle.rng_emit.specs.Grammar.{all_of, any_attributes, body_markup, param_markup, rule_markup, type_name, grammar_markup, grammar_text, named, part_markup, pattern_markup, plain}

@@ -6,12 +6,12 @@ use Rattle.std.specs.FinMap.{is_sorted}
 use Rattle.std.specs.Prelude.{Err, IsTrue, flat_map, sum_by}
 use Rattle.std.specs.Result.{IsErrAnd}
 use Rattle.std.specs.declared.result.Result.{Result}
-use Rattle.compile_contents.proofs.Elements.{among_sum, references_elements, sum_by-map}
-use Rattle.compile_contents.specs.Budget.{pattern_elements}
-use Rattle.compile_contents.specs.Conditions.{IsConditionOf}
-use Rattle.compile_contents.specs.declared.budget.MakeRefusal.{MakeRefusal}
-use Rattle.compile_contents.specs.declared.budget.MakeRefusal.TheVariants as refusal
-use Rattle.compile_contents.specs.Contents.{references_pattern}
+use Rattle.compile_defines.proofs.Elements.{among_sum, references_elements, sum_by-map}
+use Rattle.compile_defines.specs.Budget.{pattern_elements}
+use Rattle.compile_defines.specs.Conditions.{IsConditionOf}
+use Rattle.compile_defines.specs.declared.budget.MakeRefusal.{MakeRefusal}
+use Rattle.compile_defines.specs.declared.budget.MakeRefusal.TheVariants as refusal
+use Rattle.compile_defines.specs.Contents.{references_pattern}
 use Rattle.compile_defines.proofs.NamedDefines.{defines_exist}
 use Rattle.compile_defines.specs.Blocks.{IsConditionDefine, class_at, class_defines, component_defines, datatype_defines, element_defines, grammar_with, listed_defines, macro_defines}
 use Rattle.compile_defines.specs.Compiled.{AllOffers, AreAllOffers, HoldsStart, IsGrammarOf, define_cmp}
@@ -19,7 +19,7 @@ use Rattle.compile_defines.specs.Elements.{define_elements}
 use Rattle.compile_laws.proofs.MacroLaw.{BreaksNone}
 use Rattle.odd_content.specs.ConditionOrder.{condition_cmp}
 use Rattle.odd_content.specs.declared.content.Condition.{Condition}
-use Rattle.odd_forms.specs.Sorted.{IsSet}
+use Rattle.odd_text.specs.Sorted.{IsSet}
 use Rattle.odd_library.specs.declared.library.Component.{Component}
 use Rattle.odd_library.specs.declared.library.Library.{Library}
 use Rattle.odd_meaning.specs.Classes.{AreMembers, Members, class_count, count_at, listed_count, members_count}

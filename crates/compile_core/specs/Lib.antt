@@ -1,2 +1,3 @@
+pub mod Account
 pub mod Schema
 pub mod SchemaText

@@ -4,14 +4,14 @@ use Rattle.odd_text.specs.Text.{text_cmp}
 use Rattle.odd_text.specs.declared.offence.Offence.{Offence}
 use Rattle.odd_text.specs.declared.offence.Who.TheVariants as who
 use Rattle.odd_library.specs.declared.library.Library.{Library}
-use Rattle.odd_tree.specs.Elements.{StandsIn}
+use Rattle.odd_text.specs.Standing.{StandsIn}
 use Rattle.rng_grammar.specs.Nodes.{linked_nodes}
 use Rattle.rng_grammar.specs.declared.grammar.Grammar.{Grammar}
 use Rattle.rng_emit.specs.Nodes.{text_nodes}
 use Rattle.std.specs.declared.cmp.Ordering.TheVariants.{Less}
 use Rattle.compile_defines.specs.Compiled.{HoldsStart, IsGrammarOf, IsMissing}
-use Rattle.compile_contents.specs.declared.budget.MakeRefusal.{MakeRefusal}
-use Rattle.compile_contents.specs.declared.budget.MakeRefusal.TheVariants as made
+use Rattle.compile_defines.specs.declared.budget.MakeRefusal.{MakeRefusal}
+use Rattle.compile_defines.specs.declared.budget.MakeRefusal.TheVariants as made
 use Rattle.compile_core.specs.declared.compiling.CompileRefusal.{CompileRefusal}
 use Rattle.compile_core.specs.declared.compiling.CompileRefusal.TheVariants as refusal
 

@@ -5,12 +5,12 @@ use Rattle.std.specs.declared.cmp.Ordering.{Ordering}
 use Rattle.odd_text.specs.Key.{key_cmp}
 use Rattle.odd_text.specs.Text.{text_cmp}
 use Rattle.odd_text.specs.declared.name.Name.{Name}
-use Rattle.odd_tokens.specs.Same.{is_same}
-use Rattle.odd_tree.specs.Elements.{StandsIn}
+use Rattle.odd_text.specs.Same.{is_same}
+use Rattle.odd_text.specs.Standing.{StandsIn}
 use Rattle.odd_tree.specs.Markup.{Markup, element, file_printed, line, none}
 use Rattle.odd_attributes.specs.declared.att_def.AttDef.{AttDef}
 use Rattle.odd_attributes.specs.declared.att_def.Datatype.{Datatype}
-use Rattle.odd_forms.specs.Sorted.{IsSet}
+use Rattle.odd_text.specs.Sorted.{IsSet}
 use Rattle.odd_content.specs.ConditionOrder.{condition_cmp}
 use Rattle.odd_content.specs.Picking.{is_picked}
 use Rattle.odd_content.specs.declared.content.Condition.{Condition}
@@ -34,10 +34,10 @@ use Rattle.rng_types.specs.declared.item.Item.TheVariants as item
 use Rattle.rng_types.specs.declared.val_list.ListKind.{ListKind}
 use Rattle.rng_types.specs.declared.val_list.ListKind.TheVariants as listing
 use Rattle.rng_types.specs.declared.val_list.ValList.{ValList}
-use Rattle.compile_contents.specs.Conditions.{IsConditionOf}
-use Rattle.compile_contents.specs.Contents.{class_name, condition_name, define_name, holds_element, holds_macro, macro_name}
+use Rattle.compile_defines.specs.Conditions.{IsConditionOf}
+use Rattle.compile_defines.specs.Contents.{class_name, condition_name, define_name, holds_element, holds_macro, macro_name}
 use Rattle.compile_defines.specs.Compiled.{AllOffers, AreAllOffers, spaces_left}
-use Rattle.compile_contents.specs.Data.{datatype_name}
+use Rattle.compile_defines.specs.Data.{datatype_name}
 
 -- nothing, and what stands nowhere
 abbrev empty : Markup

@@ -10,15 +10,17 @@ ghost use Rattle.rng_grammar.specs.Acceptance.{Accepts};
 ghost use Rattle.rng_emit.specs.Grammar.{grammar_text};
 ghost use Rattle.rng_emit.specs.Nodes.{text_nodes};
 ghost use Rattle.rng_emit.specs.Plain.{IsPlain};
-ghost use Rattle.compile_contents.specs.Contents.{listed_in};
-ghost use Rattle.compile_contents.specs.declared.budget.MakeRefusal.TheVariants as refused;
+ghost use Rattle.compile_defines.specs.Contents.{listed_in};
+ghost use Rattle.compile_defines.specs.declared.budget.MakeRefusal.TheVariants as refused;
 ghost use Rattle.compile_defines.specs.Compiled.{HoldsStart, IsGrammarOf};
 ghost use Rattle.odd_library.specs.Formed.{IsFormedLibrary};
 ghost use Rattle.compile_core.specs.Schema.{HasLargeSchema, IsLeast, IsStartOffence, IsTooLarge};
 ghost use Rattle.compile_core.specs.SchemaText.{IsSchemaText};
 
-use compile_contents::{Budget, MakeRefusal, conditions_of, holds_element, references_pattern};
-use compile_defines::{condition_defines, library_defines};
+use compile_defines::{
+    Budget, MakeRefusal, condition_defines, conditions_of, holds_element, library_defines,
+    references_pattern,
+};
 use odd_classes::{MemberTable, TableRefusal, member_table, offer_table};
 use odd_library::Library;
 use odd_text::{NoMemory, Offence, Text, TryCopy, Who, Words, lesser};

@@ -2,6 +2,8 @@
 #![tactic(auto)]
 
 pub mod compiling;
+mod explaining;
+mod lines;
 
 pub use compiling::{CompileRefusal, compile};
-pub use odd_account::explain;
+pub use explaining::explain;

@@ -1,6 +1,11 @@
 pub mod BySpace
+pub mod Collected
+pub mod DataElements
+pub mod Elements
 pub mod NameElements
 pub mod NamedDefines
 pub mod OffersHeld
 pub mod PutDefines
 pub mod RuleElements
+pub mod Standing
+pub mod Taking

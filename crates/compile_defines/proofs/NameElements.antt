@@ -13,8 +13,8 @@ use Rattle.rng_grammar.specs.declared.grammar.Expr.TheVariants as expr
 use Rattle.rng_grammar.specs.declared.grammar.NameClass.{NameClass}
 use Rattle.rng_grammar.specs.declared.grammar.NameClass.TheVariants as class
 use Rattle.rng_grammar.specs.declared.grammar.NsPart.{NsPart}
-use Rattle.compile_contents.proofs.Elements.{among_sum, choice_of_all, one_each, ref_elements, some_elements, sum_by-map, text_elements, zero_or_more_elements}
-use Rattle.compile_contents.specs.Budget.{joint_elements, pattern_elements}
+use Rattle.compile_defines.proofs.Elements.{among_sum, choice_of_all, one_each, ref_elements, some_elements, sum_by-map, text_elements, zero_or_more_elements}
+use Rattle.compile_defines.specs.Budget.{joint_elements, pattern_elements}
 use Rattle.compile_defines.specs.Compiled.{body_requiring, body_within, condition_body, content_throughout, space_part, spaces_left}
 use Rattle.compile_defines.specs.Elements.{body_elements, class_elements, excepting_elements, part_elements, throughout_elements}
 

@@ -16,12 +16,12 @@ use Rattle.std.specs.Ordering.{eq_by_cmp, is_eq, is_lt, ordering_reverse, orderi
 use Rattle.std.specs.Prelude.{codes, sum_by}
 use Rattle.std.specs.declared.cmp.Ordering.{Ordering}
 use Rattle.std.specs.declared.cmp.Ordering.TheVariants.{Less, Equal, Greater}
-use Rattle.compile_contents.proofs.Standing.{HoldsElementAt, held_stands, is_less, stands_either, stands_left, stands_right}
+use Rattle.compile_defines.proofs.Standing.{HoldsElementAt, held_stands, is_less, stands_either, stands_left, stands_right}
 use Rattle.odd_content.specs.ConditionOrder.{condition_cmp, condition_exact, condition_total}
-use Rattle.compile_contents.specs.Contents.{condition_name, number_of}
+use Rattle.compile_defines.specs.Contents.{condition_name, number_of}
 use Rattle.odd_content.specs.declared.content.Condition.{Condition}
-use Rattle.odd_forms.proofs.SetOf.{first_below, none_rising, rest_rising, rising_more, set_of_is}
-use Rattle.odd_forms.specs.Sorted.{AreRising, IsSet, set_of}
+use Rattle.odd_text.proofs.SetOf.{first_below, none_rising, rest_rising, rising_more, set_of_is}
+use Rattle.odd_text.specs.Sorted.{AreRising, IsSet, set_of}
 use Rattle.odd_graph.proofs.Chains.{first_step}
 use Rattle.odd_library.specs.Formed.{IsFormedLibrary}
 use Rattle.odd_library.specs.Odd.{element_key}
@@ -33,8 +33,8 @@ use Rattle.odd_meaning.specs.Links.{IsLinked, class_key, classes_of}
 use Rattle.odd_text.specs.Key.{key_cmp}
 use Rattle.odd_text.specs.KeyOrder.{both_equal, key_total, key_exact}
 use Rattle.odd_text.specs.declared.key.Key.{Key}
-use Rattle.odd_tree.proofs.InList.{contained, first_or_later, map_stands, standing, stands_first, stands_later, stands_map}
-use Rattle.odd_tree.specs.Elements.{StandsIn}
+use Rattle.odd_text.proofs.InList.{contained, first_or_later, map_stands, standing, stands_first, stands_later, stands_map}
+use Rattle.odd_text.specs.Standing.{StandsIn}
 use Rattle.rng_grammar.specs.declared.grammar.Define.{Define}
 use Rattle.compile_defines.specs.Blocks.{IsConditionDefine}
 use Rattle.compile_defines.specs.Compiled.{condition_define, define_cmp}

@@ -6,13 +6,13 @@ use Rattle.std.proofs.lemmas.Result.{err_from_is_err_and}
 use Rattle.std.specs.Prelude.{flat_map, sum_by}
 use Rattle.std.specs.Result.{IsErrAnd}
 use Rattle.std.specs.declared.result.Result.{Result}
-use Rattle.odd_forms.specs.Sorted.{IsSet}
-use Rattle.odd_tree.proofs.InList.{ends}
-use Rattle.compile_contents.proofs.Taking.{Refuses, taking_refused}
-use Rattle.compile_contents.specs.Budget.{HasTaken}
-use Rattle.compile_contents.specs.declared.budget.Budget.{Budget}
-use Rattle.compile_contents.specs.declared.budget.MakeRefusal.{MakeRefusal}
-use Rattle.compile_contents.specs.declared.budget.MakeRefusal.TheVariants as refusal
+use Rattle.odd_text.specs.Sorted.{IsSet}
+use Rattle.odd_text.proofs.InList.{ends}
+use Rattle.compile_defines.proofs.Taking.{Refuses, taking_refused}
+use Rattle.compile_defines.specs.Budget.{HasTaken}
+use Rattle.compile_defines.specs.declared.budget.Budget.{Budget}
+use Rattle.compile_defines.specs.declared.budget.MakeRefusal.{MakeRefusal}
+use Rattle.compile_defines.specs.declared.budget.MakeRefusal.TheVariants as refusal
 use Rattle.compile_defines.specs.Compiled.{define_cmp}
 use Rattle.rng_grammar.specs.declared.grammar.Define.{Define}
 use Rattle.compile_defines.specs.Elements.{HasTakenSet, define_elements}

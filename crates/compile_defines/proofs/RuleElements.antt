@@ -11,8 +11,8 @@ use Rattle.rng_grammar.specs.declared.grammar.AttrRule.{AttrRule}
 use Rattle.rng_grammar.specs.declared.grammar.Body.TheVariants as body
 use Rattle.rng_grammar.specs.declared.grammar.Expr.{Expr}
 use Rattle.rng_grammar.specs.declared.grammar.NameClass.TheVariants as class
-use Rattle.compile_contents.proofs.Elements.{among_sum, sum_by-map}
-use Rattle.compile_contents.specs.Budget.{pattern_elements}
+use Rattle.compile_defines.proofs.Elements.{among_sum, sum_by-map}
+use Rattle.compile_defines.specs.Budget.{pattern_elements}
 use Rattle.compile_defines.specs.Compiled.{offers_of, rule_of}
 use Rattle.compile_defines.specs.Elements.{define_elements, rule_elements, rules_elements}
 

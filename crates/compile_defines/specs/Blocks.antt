@@ -3,7 +3,7 @@ use Rattle.std.specs.Prelude.{◌≡◌, ℕ, List, [], ◌∷◌, ◌++◌, Opt
 use Rattle.odd_text.specs.declared.key.Key.{Key}
 use Rattle.odd_text.specs.declared.key.Kind.{Kind}
 use Rattle.odd_text.specs.declared.key.Kind.TheVariants as kind
-use Rattle.odd_tree.specs.Elements.{StandsIn}
+use Rattle.odd_text.specs.Standing.{StandsIn}
 use Rattle.odd_content.specs.declared.content.Condition.{Condition}
 use Rattle.odd_library.specs.declared.library.Component.{Component}
 use Rattle.odd_library.specs.declared.library.Component.TheVariants as component
@@ -12,7 +12,7 @@ use Rattle.odd_meaning.specs.Classes.{Members}
 use Rattle.rng_grammar.specs.declared.grammar.Define.{Define}
 use Rattle.rng_grammar.specs.declared.grammar.Grammar.{Grammar}
 use Rattle.compile_defines.specs.Compiled.{AllOffers, class_define, condition_define, datatype_define, element_define, macro_define}
-use Rattle.compile_contents.specs.Contents.{references_pattern}
+use Rattle.compile_defines.specs.Contents.{references_pattern}
 
 -- the define of one of the conditions
 abbrev pub IsConditionDefine : List Condition → Define → Type 0

@@ -4,9 +4,9 @@ use Rattle.std.specs.FinMap.{find}
 use Rattle.std.specs.List.{list_any}
 use Rattle.odd_text.specs.Key.{key_cmp}
 use Rattle.odd_text.specs.Text.{text_cmp}
-use Rattle.odd_tokens.specs.Same.{is_same}
-use Rattle.odd_tree.specs.Elements.{StandsIn}
-use Rattle.odd_forms.specs.Sorted.{IsSet}
+use Rattle.odd_text.specs.Same.{is_same}
+use Rattle.odd_text.specs.Standing.{StandsIn}
+use Rattle.odd_text.specs.Sorted.{IsSet}
 use Rattle.odd_content.specs.declared.content.Condition.{Condition}
 use Rattle.odd_attributes.specs.declared.att_def.AttDef.{AttDef}
 use Rattle.odd_library.specs.Odd.{element_key}
@@ -31,9 +31,9 @@ use Rattle.rng_grammar.specs.declared.grammar.NameClass.TheVariants as class
 use Rattle.rng_grammar.specs.declared.grammar.NsPart.{NsPart}
 use Rattle.std.specs.declared.cmp.Ordering.{Ordering}
 use Rattle.odd_content.specs.ConditionOrder.{condition_cmp}
-use Rattle.compile_contents.specs.Conditions.{IsConditionOf}
-use Rattle.compile_contents.specs.Data.{data_pattern, datatype_name, value_pattern}
-use Rattle.compile_contents.specs.Contents.{class_name, condition_name, content_pattern, define_name, holds_element, macro_name, references_pattern}
+use Rattle.compile_defines.specs.Conditions.{IsConditionOf}
+use Rattle.compile_defines.specs.Data.{data_pattern, datatype_name, value_pattern}
+use Rattle.compile_defines.specs.Contents.{class_name, condition_name, content_pattern, define_name, holds_element, macro_name, references_pattern}
 
 -- the attributes that elements offer: by ident, each with its definition
 abbrev pub AllOffers : Type 0

@@ -1,6 +1,6 @@
 -- How many elements of the schema's text defines are, and what they take of a budget.
 use Rattle.std.specs.Prelude.{◌≡◌, ℕ, zero, suc, ◌+◌, ◌<◌, List, Result, Ok, Err, sum_by}
-use Rattle.odd_forms.specs.Sorted.{IsSet}
+use Rattle.odd_text.specs.Sorted.{IsSet}
 use Rattle.rng_emit.specs.Grammar.{body_markup, class_markup, define_markup, part_markup, rule_markup}
 use Rattle.rng_emit.specs.Nodes.{elements_in}
 use Rattle.rng_grammar.specs.declared.grammar.AttrRule.{AttrRule}
@@ -8,9 +8,9 @@ use Rattle.rng_grammar.specs.declared.grammar.Body.{Body}
 use Rattle.rng_grammar.specs.declared.grammar.Define.{Define}
 use Rattle.rng_grammar.specs.declared.grammar.NameClass.{NameClass}
 use Rattle.rng_grammar.specs.declared.grammar.NsPart.{NsPart}
-use Rattle.compile_contents.specs.declared.budget.Budget.{Budget}
-use Rattle.compile_contents.specs.declared.budget.MakeRefusal.{MakeRefusal}
-use Rattle.compile_contents.specs.declared.budget.MakeRefusal.TheVariants as refusal
+use Rattle.compile_defines.specs.declared.budget.Budget.{Budget}
+use Rattle.compile_defines.specs.declared.budget.MakeRefusal.{MakeRefusal}
+use Rattle.compile_defines.specs.declared.budget.MakeRefusal.TheVariants as refusal
 use Rattle.compile_defines.specs.Compiled.{define_cmp}
 
 abbrev pub define_elements : Define → ℕ

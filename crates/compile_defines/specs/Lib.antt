@@ -1,3 +1,10 @@
 pub mod Blocks
+pub mod Budget
 pub mod Compiled
+pub mod Conditions
+pub mod Contents
+pub mod Data
 pub mod Elements
+pub mod Parts
+pub mod Repeating
+pub mod Wanted

@@ -1,15 +1,15 @@
 ghost use Rattle.std.specs.Prelude.{◌≡◌, ◌++◌, flat_map, IfOk, OnOk, sum_by};
-ghost use Rattle.odd_forms.specs.Sorted.{AreRising};
+ghost use Rattle.odd_text.specs.Sorted.{AreRising};
 ghost use Rattle.odd_content.specs.ConditionOrder.{condition_cmp};
-ghost use Rattle.compile_contents.specs.Budget.{HasTaken, IsMadeWithin};
-ghost use Rattle.compile_contents.specs.Contents.{listed_in};
+ghost use Rattle.compile_defines.specs.Budget.{HasTaken, IsMadeWithin};
+ghost use Rattle.compile_defines.specs.Contents.{listed_in};
 ghost use Rattle.compile_defines.specs.Blocks.{class_defines, component_defines, datatype_defines, element_defines, macro_defines};
 ghost use Rattle.compile_defines.specs.Compiled.{class_define as the_class_define, datatype_define as the_datatype_define, element_define as the_element_define, macro_define as the_macro_define, offers_in, offers_of};
 ghost use Rattle.odd_classes.specs.Offered.{AreOffersIn};
 ghost use Rattle.compile_defines.specs.Elements.{define_elements};
 
 use crate::rules::rules_of;
-use compile_contents::{
+use crate::{
     Budget, Conditions, MakeRefusal, class_name, content_pattern, data_pattern, datatype_name,
     define_name, macro_name, references_pattern,
 };

@@ -1,9 +1,9 @@
 ghost use Rattle.std.specs.Prelude.{map};
-ghost use Rattle.compile_contents.specs.Budget.{IsMadeWithin};
+ghost use Rattle.compile_defines.specs.Budget.{IsMadeWithin};
 ghost use Rattle.compile_defines.specs.Compiled.{offers_of, rule_of as the_rule_of};
 ghost use Rattle.compile_defines.specs.Elements.{rule_elements, rules_elements};
 
-use compile_contents::{Budget, MakeRefusal, value_pattern};
+use crate::{Budget, MakeRefusal, value_pattern};
 use odd_attributes::AttDef;
 use odd_offers::{Givens, attribute_name};
 use odd_text::Text;

@@ -2,17 +2,17 @@
 use Rattle.std.proofs.Common.{◌↔◌, ℕ, List, map, sym, subst, ◌∙◌, ap}
 use Rattle.std.proofs.lemmas.List.Elements.{All-contains}
 use Rattle.std.specs.Prelude.{IsTrue}
-use Rattle.compile_contents.proofs.Standing.{each_stands}
-use Rattle.compile_contents.specs.Data.{value_pattern}
+use Rattle.compile_defines.proofs.Standing.{each_stands}
+use Rattle.compile_defines.specs.Data.{value_pattern}
 use Rattle.compile_defines.specs.Compiled.{rule_of}
 use Rattle.odd_meaning.specs.Offering.{OffersOne, offer_cmp}
 use Rattle.odd_attributes.specs.declared.att_def.AttDef.{AttDef}
-use Rattle.odd_forms.specs.Sorted.{IsSet}
+use Rattle.odd_text.specs.Sorted.{IsSet}
 use Rattle.odd_library.specs.declared.library.Library.{Library}
 use Rattle.odd_meaning.specs.Attributed.{AreAdmittedAttributes, IsAdmittedAttribute}
 use Rattle.odd_meaning.specs.Values.{IsAdmittedValue}
-use Rattle.odd_tree.proofs.InList.{contained, map_stands, stands_map}
-use Rattle.odd_tree.specs.Elements.{StandsIn}
+use Rattle.odd_text.proofs.InList.{contained, map_stands, stands_map}
+use Rattle.odd_text.specs.Standing.{StandsIn}
 use Rattle.odd_tree.specs.declared.tree.Attr.{Attr}
 use Rattle.rng_grammar.specs.Acceptance.{AreRuled, HasRule, IsThere, IsValueOf}
 use Rattle.rng_grammar.specs.declared.grammar.AttrRule.{AttrRule}

@@ -4,17 +4,17 @@ use Rattle.std.proofs.lemmas.List.Elements.{All-cons, All-contains, All-head, Al
 use Rattle.std.specs.Option.{IfSome}
 use Rattle.std.specs.Prelude.{All}
 use Rattle.std.specs.Str.{chars}
-use Rattle.compile_contents.proofs.Standing.{each_stands}
-use Rattle.compile_contents.specs.Data.{item_pattern, list_pattern, listed_pattern, piece_pattern, pieces_pattern, value_pattern, values_pattern}
-use Rattle.compile_contents.specs.Repeating.{repeated}
+use Rattle.compile_defines.proofs.Standing.{each_stands}
+use Rattle.compile_defines.specs.Data.{item_pattern, list_pattern, listed_pattern, piece_pattern, pieces_pattern, value_pattern, values_pattern}
+use Rattle.compile_defines.specs.Repeating.{repeated}
 use Rattle.odd_attributes.specs.declared.att_def.AttDef.{AttDef}
 use Rattle.odd_attributes.specs.declared.att_def.Datatype.{Datatype}
 use Rattle.odd_content.specs.Formed.{once}
-use Rattle.odd_data.specs.Formed.{IsFormedList}
+use Rattle.odd_content.specs.FormedData.{IsFormedList}
 use Rattle.odd_library.specs.declared.library.Library.{Library}
 use Rattle.odd_meaning.specs.Contents.{IsWithin}
-use Rattle.odd_tree.proofs.InList.{contained, stands_map}
-use Rattle.odd_tree.specs.Elements.{StandsIn}
+use Rattle.odd_text.proofs.InList.{contained, stands_map}
+use Rattle.odd_text.specs.Standing.{StandsIn}
 use Rattle.odd_tree.specs.Splits.{Counted, Pieces}
 use Rattle.rng_grammar.proofs.OnePattern.{choice_shown, list_shown, ref_shown, text_shown}
 use Rattle.rng_grammar.proofs.SortLaws.{DefinesOnce}

@@ -1,10 +1,10 @@
 -- The laws of groups, choices and repetitions, of children.
 use Rattle.std.proofs.Common.{◌↔◌, ℕ, List}
 use Rattle.std.specs.Prelude.{All}
-use Rattle.compile_contents.specs.Contents.{reference, references_pattern}
-use Rattle.compile_contents.specs.Repeating.{choice_pattern, group_pattern, repeated}
+use Rattle.compile_defines.specs.Contents.{reference, references_pattern}
+use Rattle.compile_defines.specs.Repeating.{choice_pattern, group_pattern, repeated}
 use Rattle.odd_meaning.specs.Contents.{IsWithin}
-use Rattle.odd_tree.specs.Elements.{StandsIn}
+use Rattle.odd_text.specs.Standing.{StandsIn}
 use Rattle.odd_tree.specs.Significant.{Marking}
 use Rattle.odd_tree.specs.Splits.{Counted}
 use Rattle.odd_tree.specs.declared.tree.Node.{Node}

@@ -2,14 +2,14 @@
 use Rattle.std.proofs.Common.{ℕ, zero, suc, ◌-◌, List, [], ◌∷◌, ◌++◌, Option, Some, None, map, replicate}
 use Rattle.std.proofs.lemmas.List.Elements.{All-nil, All-cons, All-head, All-append, All-map, All-replicate}
 use Rattle.std.specs.Prelude.{All}
-use Rattle.compile_contents.proofs.Standing.{each_stands}
-use Rattle.compile_contents.specs.Contents.{reference, references_pattern}
-use Rattle.compile_contents.specs.Repeating.{choice_pattern, further, group_pattern, repeated, repeated_within}
+use Rattle.compile_defines.proofs.Standing.{each_stands}
+use Rattle.compile_defines.specs.Contents.{reference, references_pattern}
+use Rattle.compile_defines.specs.Repeating.{choice_pattern, further, group_pattern, repeated, repeated_within}
 use Rattle.compile_defines.specs.Compiled.{content_throughout}
 use Rattle.rng_grammar.specs.declared.grammar.Expr.{Expr}
 use Rattle.rng_grammar.specs.declared.grammar.Expr.TheVariants as expr
 use Rattle.rng_types.specs.declared.bounds.Bounds.{Bounds}
-use Rattle.odd_tree.specs.Elements.{StandsIn}
+use Rattle.odd_text.specs.Standing.{StandsIn}
 
 -- it holds of what is made of patterns of which it holds; nothing is said of texts, references, lists and values
 pub record IsClosed (Good : Expr → Type 0) : Type 0 where

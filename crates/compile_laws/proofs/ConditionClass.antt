@@ -8,20 +8,22 @@ use Rattle.std.specs.Cmp.Lexicographic.{same_text}
 use Rattle.std.specs.List.{list_any}
 use Rattle.std.specs.declared.cmp.Ordering.{Ordering}
 use Rattle.std.specs.declared.cmp.Ordering.TheVariants.{Less, Equal}
-use Rattle.compile_contents.proofs.Standing.{filter_passed, stands_filter, filter_stands}
-use Rattle.compile_contents.specs.Contents.{condition_name}
+use Rattle.compile_defines.proofs.Standing.{filter_passed, stands_filter, filter_stands}
+use Rattle.compile_defines.specs.Contents.{condition_name}
 use Rattle.compile_defines.specs.Compiled.{condition_body, content_throughout, space_part, spaces_left, IsGrammarOf, condition_define, define_cmp}
 use Rattle.compile_defines.specs.Compiled as compiled
 use Rattle.odd_content.specs.declared.content.Condition.{Condition}
-use Rattle.odd_forms.proofs.SetOf.{first_below, rest_rising, turned}
-use Rattle.odd_forms.specs.Sorted.{AreRising}
+use Rattle.odd_text.proofs.SetOf.{first_below, rest_rising, turned}
+use Rattle.odd_text.specs.Sorted.{AreRising}
 use Rattle.odd_library.specs.declared.library.Library.{Library}
 use Rattle.odd_meaning.specs.Conditions.{IsMetBy}
 use Rattle.odd_text.specs.declared.name.Name.{Name}
-use Rattle.odd_tokens.specs.Same.{is_same}
-use Rattle.odd_tree.proofs.InList.{contained, map_stands, nothing_stands, stands_first, stands_later, stands_map, first_or_later, elements_append, with_element, with_text}
+use Rattle.odd_text.specs.Same.{is_same}
+use Rattle.odd_tree.proofs.InTree.{elements_append, with_element, with_text}
+use Rattle.odd_text.proofs.InList.{contained, map_stands, nothing_stands, stands_first, stands_later, stands_map, first_or_later}
 use Rattle.odd_tree.proofs.PrintedTrees.{same_from}
-use Rattle.odd_tree.specs.Elements.{StandsIn, elements_of}
+use Rattle.odd_text.specs.Standing.{StandsIn}
+use Rattle.odd_tree.specs.Elements.{elements_of}
 use Rattle.odd_tree.specs.Significant.{IsSignificant, beside_elements, blank, is_blank, is_element, whole}
 use Rattle.odd_tree.specs.declared.tree.Node.{Node, Element, Text, out-Node, roll-Node, roll-out-Node}
 use Rattle.odd_tree.specs.declared.tree.Node as N

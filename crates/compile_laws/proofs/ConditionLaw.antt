@@ -1,15 +1,17 @@
 -- The condition law: a tree meets a condition throughout where the define of that condition accepts it.
 use Rattle.std.proofs.Common.{◌≡◌, ℕ, List, [], ◌∷◌, length, inl, inr, refl, sym, subst, rules, ◌↔◌, ◌≤◌, ◌<◌, zero, suc, ⊎_elim, ◌∙◌, arith}
 use Rattle.std.proofs.lemmas.Bool.{or_from}
-use Rattle.compile_contents.proofs.Standing.{stands_either, stands_left}
-use Rattle.compile_contents.specs.Contents.{condition_name}
+use Rattle.compile_defines.proofs.Standing.{stands_either, stands_left}
+use Rattle.compile_defines.specs.Contents.{condition_name}
 use Rattle.compile_defines.specs.Compiled.{content_throughout, IsGrammarOf, condition_body}
 use Rattle.odd_content.specs.declared.content.Condition.{Condition}
 use Rattle.odd_library.specs.declared.library.Library.{Library}
 use Rattle.odd_meaning.specs.Conditions.{IsMetBy, IsMetThroughout}
 use Rattle.odd_text.specs.declared.name.Name.{Name}
-use Rattle.odd_tree.proofs.InList.{first_or_later, nothing_stands, stands_first, stands_later, with_element}
-use Rattle.odd_tree.specs.Elements.{StandsIn, StandsWithin, children_of, inside, itself}
+use Rattle.odd_tree.proofs.InTree.{with_element}
+use Rattle.odd_text.proofs.InList.{first_or_later, nothing_stands, stands_first, stands_later}
+use Rattle.odd_text.specs.Standing.{StandsIn}
+use Rattle.odd_tree.specs.Elements.{StandsWithin, children_of, inside, itself}
 use Rattle.odd_tree.specs.Significant.{Marking, depth}
 use Rattle.odd_tree.specs.declared.tree.Node.{Node, Element}
 use Rattle.odd_tree.specs.declared.tree.Tree.{Tree, out-Tree}

@@ -1,10 +1,10 @@
 -- The content law: a content admits the lists of children that its pattern matches, repetitions by their bounds.
 use Rattle.std.proofs.Common.{ℕ, ◌-◌, List, [], ◌++◌}
-use Rattle.compile_contents.proofs.Standing.{stands_left, stands_right}
-use Rattle.compile_contents.specs.Conditions.{conditions_in, conditions_in_parts}
-use Rattle.compile_contents.specs.Contents.{condition_pattern, content_pattern, element_pattern, macro_pattern, members_pattern, part_patterns}
-use Rattle.compile_contents.specs.Data.{datatype_name, list_pattern}
-use Rattle.compile_contents.specs.Repeating.{group_pattern, choice_pattern}
+use Rattle.compile_defines.proofs.Standing.{stands_left, stands_right}
+use Rattle.compile_defines.specs.Conditions.{conditions_in, conditions_in_parts}
+use Rattle.compile_defines.specs.Contents.{condition_pattern, content_pattern, element_pattern, macro_pattern, members_pattern, part_patterns}
+use Rattle.compile_defines.specs.Data.{datatype_name, list_pattern}
+use Rattle.compile_defines.specs.Repeating.{group_pattern, choice_pattern}
 use Rattle.odd_content.specs.Formed.{AreFormedWithin, IsFormedWithin}
 use Rattle.odd_content.specs.declared.content.Condition.{Condition}
 use Rattle.odd_content.specs.declared.content.Content.{Content, Empty, Text, Value, Vals, Element, Class, Macro, Any, Sequence', Alternate', Row_of-Content, end_of-Content, more_of-Content}
@@ -16,8 +16,8 @@ use Rattle.odd_meaning.specs.Labels.{Label, element, condition}
 use Rattle.odd_meaning.specs.Links.{class_key, datatype_key, macro_key, named_in, named_in_parts}
 use Rattle.odd_meaning.specs.Rules.{IsOfAttributes}
 use Rattle.odd_text.specs.declared.key.Key.{Key}
-use Rattle.odd_tree.proofs.InList.{stands_first}
-use Rattle.odd_tree.specs.Elements.{StandsIn}
+use Rattle.odd_text.proofs.InList.{stands_first}
+use Rattle.odd_text.specs.Standing.{StandsIn}
 use Rattle.odd_tree.specs.Significant.{Marking}
 use Rattle.odd_tree.specs.declared.tree.Node.{Node}
 use Rattle.rng_grammar.proofs.OnePattern.{told, text_shown}

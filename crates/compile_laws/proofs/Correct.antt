@@ -10,7 +10,7 @@ use Rattle.rng_grammar.specs.Acceptance.{Accepts, IsAcceptedWithin}
 use Rattle.rng_grammar.specs.Patterns.{IsMatched}
 use Rattle.rng_grammar.specs.declared.grammar.Grammar.{Grammar}
 use Rattle.compile_defines.specs.Compiled.{IsGrammarOf}
-use Rattle.compile_contents.specs.Contents.{define_name}
+use Rattle.compile_defines.specs.Contents.{define_name}
 use Rattle.compile_laws.proofs.HeldDefines.{hold_elements, start_law}
 use Rattle.compile_laws.proofs.Joining.{joined, accepted_defined}
 use Rattle.compile_laws.proofs.MacroLaw.{BreaksNone}

@@ -3,7 +3,7 @@ use Rattle.std.proofs.Common.{◌≡◌, ◌↔◌, ◌⊎◌, ℕ, zero, suc, t
 use Rattle.std.proofs.lemmas.Bool.{false≢true}
 use Rattle.std.specs.FinMap.{find}
 use Rattle.std.specs.Prelude.{IsSome}
-use Rattle.compile_contents.proofs.Standing.{IsMacroAt, stands_either, stands_filter, stands_left, stands_right}
+use Rattle.compile_defines.proofs.Standing.{IsMacroAt, stands_either, stands_filter, stands_left, stands_right}
 use Rattle.odd_classes.proofs.DataLaws.{macro_data, macro_reaches}
 use Rattle.odd_classes.proofs.Linked.{held}
 use Rattle.odd_content.specs.Formed.{once}
@@ -19,8 +19,8 @@ use Rattle.odd_meaning.specs.Rules.{Breaks, macro_not_held, mixes_data, reaches_
 use Rattle.odd_text.specs.Key.{key_cmp}
 use Rattle.odd_text.specs.declared.key.Key.{Key}
 use Rattle.odd_text.specs.declared.key.Kind.TheVariants as kind
-use Rattle.odd_tree.proofs.InList.{nothing_stands, only_item, stands_first}
-use Rattle.odd_tree.specs.Elements.{StandsIn}
+use Rattle.odd_text.proofs.InList.{nothing_stands, only_item, stands_first}
+use Rattle.odd_text.specs.Standing.{StandsIn}
 use Rattle.rng_types.specs.declared.bounds.Bounds.{Bounds}
 use Rattle.compile_laws.proofs.Ranked.{each_ranked, of_macros}
 

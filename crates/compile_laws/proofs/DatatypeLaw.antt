@@ -1,10 +1,10 @@
 -- The value law for datatypes: each held one admits the texts that its define allows, and its define is of one word.
 use Rattle.std.proofs.Common.{◌≡◌, ◌↔◌, ℕ, zero, suc, true, List, [], ◌∷◌, Some, ⊎_elim, refl, sym, ap, subst, ◌∙◌}
 use Rattle.std.specs.FinMap.{find}
-use Rattle.compile_contents.proofs.Standing.{filter_passed, stands_either, stands_filter, stands_left, stands_right}
-use Rattle.compile_contents.specs.Contents.{content_pattern, part_patterns}
-use Rattle.compile_contents.specs.Data.{data_pattern, data_patterns, datatype_name, item_pattern}
-use Rattle.compile_contents.specs.Repeating.{choice_pattern, repeated}
+use Rattle.compile_defines.proofs.Standing.{filter_passed, stands_either, stands_filter, stands_left, stands_right}
+use Rattle.compile_defines.specs.Contents.{content_pattern, part_patterns}
+use Rattle.compile_defines.specs.Data.{data_pattern, data_patterns, datatype_name, item_pattern}
+use Rattle.compile_defines.specs.Repeating.{choice_pattern, repeated}
 use Rattle.odd_classes.proofs.Linked.{held}
 use Rattle.compile_defines.specs.Compiled as compiled
 use Rattle.compile_defines.specs.Compiled.{IsGrammarOf, datatype_define}
@@ -23,8 +23,8 @@ use Rattle.odd_text.specs.Key.{key_cmp}
 use Rattle.odd_text.specs.declared.key.Key.{Key}
 use Rattle.odd_text.specs.declared.key.Kind.{Kind}
 use Rattle.odd_text.specs.declared.key.Kind.TheVariants as kind
-use Rattle.odd_tree.proofs.InList.{first_or_later, nothing_stands, only_item, stands_first}
-use Rattle.odd_tree.specs.Elements.{StandsIn}
+use Rattle.odd_text.proofs.InList.{first_or_later, nothing_stands, only_item, stands_first}
+use Rattle.odd_text.specs.Standing.{StandsIn}
 use Rattle.rng_grammar.proofs.OnePattern.{ref_shown}
 use Rattle.rng_grammar.proofs.SortLaws.{DefinesOnce}
 use Rattle.rng_grammar.specs.Patterns as patterns

@@ -2,10 +2,10 @@
 use Rattle.std.proofs.Common.{◌≡◌, ℕ, Bool, true, false, List, [], ◌++◌, Option, Some, None, filter, if◌then◌else◌, refl, ◌∷◌}
 use Rattle.std.proofs.lemmas.List.Elements.{All-nil, All-cons}
 use Rattle.std.specs.Prelude.{All}
-use Rattle.compile_contents.proofs.Standing.{filter_stands, stands_left, stands_right}
-use Rattle.compile_contents.specs.Conditions.{conditions_in, conditions_in_parts}
-use Rattle.compile_contents.specs.Contents.{class_name, condition_pattern, content_pattern, element_pattern, holds_element, holds_macro, macro_name, macro_pattern, members_pattern, part_patterns, reference}
-use Rattle.compile_contents.specs.Repeating.{choice_pattern, group_pattern}
+use Rattle.compile_defines.proofs.Standing.{filter_stands, stands_left, stands_right}
+use Rattle.compile_defines.specs.Conditions.{conditions_in, conditions_in_parts}
+use Rattle.compile_defines.specs.Contents.{class_name, condition_pattern, content_pattern, element_pattern, holds_element, holds_macro, macro_name, macro_pattern, members_pattern, part_patterns, reference}
+use Rattle.compile_defines.specs.Repeating.{choice_pattern, group_pattern}
 use Rattle.odd_content.specs.Picking.{is_picked}
 use Rattle.odd_content.specs.declared.content.Condition.{Condition}
 use Rattle.odd_content.specs.declared.content.Content.{Content, Empty, Text, Value, Vals, Element, Class, Macro, Any, Sequence', Alternate', Row_of-Content, end_of-Content, more_of-Content}
@@ -15,8 +15,8 @@ use Rattle.odd_library.specs.declared.library.Library.{Library}
 use Rattle.odd_meaning.specs.Classes.{Members}
 use Rattle.odd_meaning.specs.Links.{macro_key, named_in, named_in_parts}
 use Rattle.odd_text.specs.declared.key.Key.{Key}
-use Rattle.odd_tree.proofs.InList.{stands_first}
-use Rattle.odd_tree.specs.Elements.{StandsIn}
+use Rattle.odd_text.proofs.InList.{stands_first}
+use Rattle.odd_text.specs.Standing.{StandsIn}
 use Rattle.rng_grammar.specs.declared.grammar.Expr.{Expr}
 use Rattle.rng_grammar.specs.declared.grammar.Expr.TheVariants as expr
 use Rattle.compile_laws.proofs.Closed.{IsClosed, choice_good, group_good, references_good, repeated_good}

@@ -1,10 +1,10 @@
 -- So it holds of the data in a content, and of the values of attributes, where it holds of items, values and lists.
-use Rattle.compile_contents.specs.Contents.{content_pattern}
+use Rattle.compile_defines.specs.Contents.{content_pattern}
 use Rattle.odd_content.specs.declared.content.Condition.{Condition}
 use Rattle.odd_content.specs.declared.content.Content.{Content, Empty, Text, Value, Vals, Element, Class, Macro, Any, Sequence', Alternate', Row_of-Content, end_of-Content, more_of-Content}
 use Rattle.odd_library.specs.declared.library.Library.{Library}
 use Rattle.odd_meaning.specs.Classes.{Members}
-use Rattle.odd_tree.specs.Elements.{StandsIn}
+use Rattle.odd_text.specs.Standing.{StandsIn}
 use Rattle.rng_grammar.specs.declared.grammar.Expr.{Expr}
 use Rattle.rng_grammar.specs.declared.grammar.Expr.TheVariants as expr
 use Rattle.compile_laws.proofs.Closed.{IsClosed, choice_good, repeated_good}
@@ -12,13 +12,13 @@ use Rattle.std.specs.Option.{IfSome}
 use Rattle.odd_attributes.specs.Formed.{IsFormedDatatype, IsFormedDef}
 use Rattle.odd_attributes.specs.declared.att_def.AttDef.{AttDef}
 use Rattle.odd_attributes.specs.declared.att_def.Datatype.{Datatype}
-use Rattle.compile_contents.specs.Data.{item_pattern, list_pattern, listed_pattern, piece_pattern, value_pattern, values_pattern}
+use Rattle.compile_defines.specs.Data.{item_pattern, list_pattern, listed_pattern, piece_pattern, value_pattern, values_pattern}
 use Rattle.odd_content.specs.Formed.{AreFormedWithin, IsFormedWithin}
-use Rattle.odd_data.specs.Formed.{IsFormedData, IsFormedList, IsListed}
+use Rattle.odd_content.specs.FormedData.{IsFormedData, IsFormedList, IsListed}
 use Rattle.odd_meaning.specs.Links.{datatype_key, named_by_datatype, named_by_item, named_in, named_in_parts}
 use Rattle.odd_meaning.specs.Values.{bounds_of}
-use Rattle.odd_tree.proofs.InList.{contained, nothing_stands, only_item}
-use Rattle.compile_contents.proofs.Standing.{each_stands, stands_either, stands_left, stands_right}
+use Rattle.odd_text.proofs.InList.{contained, nothing_stands, only_item}
+use Rattle.compile_defines.proofs.Standing.{each_stands, stands_either, stands_left, stands_right}
 use Rattle.std.proofs.lemmas.List.Elements.{All-contains, All-map}
 use Rattle.rng_types.specs.declared.data_type.DataType.TheVariants as kind
 use Rattle.rng_types.specs.declared.item.Item.{Item}

@@ -1,7 +1,7 @@
 -- And of each pattern of a library's grammar, where it holds of references to its defines.
 use Rattle.std.specs.Prelude.{All}
-use Rattle.compile_contents.specs.Conditions.{conditions_in, conditions_of}
-use Rattle.compile_contents.specs.Contents.{content_pattern, holds_element, reference, condition_name, references_pattern}
+use Rattle.compile_defines.specs.Conditions.{conditions_in, conditions_of}
+use Rattle.compile_defines.specs.Contents.{content_pattern, holds_element, reference, condition_name, references_pattern}
 use Rattle.compile_defines.proofs.NamedDefines.{entry_stands, listed_is}
 use Rattle.compile_defines.specs.Compiled as compiled
 use Rattle.odd_content.specs.declared.content.Condition.{Condition}
@@ -13,7 +13,7 @@ use Rattle.odd_library.specs.declared.library.Component.{Component}
 use Rattle.odd_library.specs.declared.library.Component.TheVariants as component
 use Rattle.odd_library.specs.declared.library.Library.{Library}
 use Rattle.odd_text.specs.declared.key.Key.{Key}
-use Rattle.odd_tree.specs.Elements.{StandsIn}
+use Rattle.odd_text.specs.Standing.{StandsIn}
 use Rattle.rng_grammar.specs.declared.grammar.Define.{Define}
 use Rattle.rng_grammar.specs.declared.grammar.Expr.{Expr}
 use Rattle.rng_grammar.specs.declared.grammar.Expr.TheVariants as expr
@@ -21,8 +21,8 @@ use Rattle.compile_laws.proofs.Closed.{IsClosed, references_good, throughout_goo
 use Rattle.compile_laws.proofs.ConditionClass.{IsElementBody, IsEmptyBody, body_kind}
 use Rattle.odd_content.specs.Formed.{IsFormedContent}
 use Rattle.odd_meaning.specs.Links.{IsHeld, datatype_key, macro_key, named_by, named_by_edits, named_in}
-use Rattle.odd_tree.proofs.InList.{stands_map}
-use Rattle.compile_contents.proofs.Standing.{each_stands, stands_left, HoldsElementAt, element_found, macro_found}
+use Rattle.odd_text.proofs.InList.{stands_map}
+use Rattle.compile_defines.proofs.Standing.{each_stands, stands_left, HoldsElementAt, element_found, macro_found}
 use Rattle.std.proofs.lemmas.List.Elements.{All-nil, All-cons, All-map}
 use Rattle.rng_grammar.specs.declared.grammar.AttrPart.TheVariants as attributes
 use Rattle.rng_grammar.specs.declared.grammar.AttrRule.{AttrRule}

@@ -3,11 +3,11 @@ use Rattle.std.proofs.Common.{◌≡◌, ◌↔◌, ℕ, List, [], ◌∷◌, in
 use Rattle.std.proofs.lemmas.Bool.{false≢true}
 use Rattle.std.specs.FinMap.{find}
 use Rattle.std.specs.Prelude.{IsTrue}
-use Rattle.compile_contents.proofs.Standing.{IsElementAt, IsMacroAt, filter_passed, stands_filter, filter_stands}
-use Rattle.compile_contents.specs.Contents.{define_name, reference, references_pattern, class_name, condition_name, content_pattern, macro_name, members_pattern}
+use Rattle.compile_defines.proofs.Standing.{IsElementAt, IsMacroAt, filter_passed, stands_filter, filter_stands}
+use Rattle.compile_defines.specs.Contents.{define_name, reference, references_pattern, class_name, condition_name, content_pattern, macro_name, members_pattern}
 use Rattle.compile_defines.proofs.NamedDefines.{element_of}
 use Rattle.compile_defines.specs.Compiled as compiled
-use Rattle.compile_contents.specs.Data.{datatype_name}
+use Rattle.compile_defines.specs.Data.{datatype_name}
 use Rattle.compile_defines.specs.Compiled.{AllOffers, IsDefineOf, IsGrammarOf, class_define, element_body, element_define, macro_define}
 use Rattle.odd_classes.proofs.Linked.{held}
 use Rattle.odd_content.specs.Picking.{is_picked}
@@ -29,9 +29,9 @@ use Rattle.odd_meaning.specs.Labels.{Label, element}
 use Rattle.odd_meaning.specs.Links.{IsLinked, class_key, classes_of}
 use Rattle.odd_meaning.specs.Rules.{IsOfAttributes}
 use Rattle.odd_text.specs.Key.{key_cmp}
-use Rattle.odd_tokens.specs.Same.{is_same}
-use Rattle.odd_tree.proofs.InList.{element_shown}
-use Rattle.odd_tree.specs.Elements.{StandsIn}
+use Rattle.odd_text.specs.Same.{is_same}
+use Rattle.odd_tree.proofs.InTree.{element_shown}
+use Rattle.odd_text.specs.Standing.{StandsIn}
 use Rattle.odd_tree.specs.Significant.{Marking}
 use Rattle.odd_tree.specs.declared.tree.Node.{Node, Element}
 use Rattle.odd_tree.specs.declared.tree.Tree.{Tree}

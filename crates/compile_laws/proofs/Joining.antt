@@ -2,8 +2,8 @@
 use Rattle.std.proofs.Common.{◌≡◌, ◌↔◌, ℕ, List, [], ◌∷◌, refl, subst, sym, ◌≤◌, zero, suc, Bool, true, false, cond, inl, inr, ⊎_elim, map, ◌∙◌, ◌<◌, arith}
 use Rattle.std.proofs.lemmas.Bool.{false≢true}
 use Rattle.std.specs.Prelude.{All}
-use Rattle.compile_contents.proofs.Standing.{element_held, IsElementAt, stands_left}
-use Rattle.compile_contents.specs.Contents.{condition_name, condition_pattern, define_name, element_pattern, holds_element, reference, content_pattern}
+use Rattle.compile_defines.proofs.Standing.{element_held, IsElementAt, stands_left}
+use Rattle.compile_defines.specs.Contents.{condition_name, condition_pattern, define_name, element_pattern, holds_element, reference, content_pattern}
 use Rattle.compile_defines.specs.Compiled.{IsGrammarOf, element_body, rule_of}
 use Rattle.odd_content.specs.declared.content.Condition.{Condition}
 use Rattle.odd_library.specs.Formed.{IsFormedLibrary}
@@ -18,7 +18,7 @@ use Rattle.odd_meaning.specs.Values.{IsDataValue}
 use Rattle.odd_meaning.specs.Contents.{IsOne, Admits, IsOfMacro}
 use Rattle.odd_meaning.specs.Labels.{Label, condition, element}
 use Rattle.odd_meaning.specs.Links.{named_by_edits, named_in}
-use Rattle.odd_tree.specs.Elements.{StandsIn}
+use Rattle.odd_text.specs.Standing.{StandsIn}
 use Rattle.odd_tree.specs.Significant.{Marking, depth, IsSignificant}
 use Rattle.odd_tree.specs.declared.tree.Node.{Node, Element}
 use Rattle.odd_tree.specs.declared.tree.Tree.{Tree, out-Tree}

@@ -1,12 +1,12 @@
 -- What a macro admits by levels is the least relation, without levels, in which each held macro admits what its content does.
 use Rattle.std.proofs.Common.{◌↔◌, ℕ, zero, suc, List, length}
-use Rattle.compile_contents.proofs.Standing.{each_stands}
+use Rattle.compile_defines.proofs.Standing.{each_stands}
 use Rattle.odd_content.specs.declared.content.Content.{Content}
 use Rattle.odd_library.specs.declared.library.Library.{Library}
 use Rattle.odd_meaning.specs.Contents.{AdmitsBy, IsClosed, IsOfMacro, LeastMacros, MacroAdmits, Macros}
 use Rattle.odd_meaning.specs.Labels.{Label}
 use Rattle.odd_meaning.specs.Links.{macro_key, named_in}
-use Rattle.odd_tree.specs.Elements.{StandsIn}
+use Rattle.odd_text.specs.Standing.{StandsIn}
 use Rattle.odd_tree.specs.Significant.{Marking}
 use Rattle.odd_tree.specs.declared.tree.Node.{Node}
 use Rattle.compile_laws.proofs.MacroLaw.{BreaksNone, admits_content, by_levels, unheld_admits}

@@ -5,20 +5,20 @@ use Rattle.odd_tree.specs.declared.tree.Node.{Node, Element, fold-Node}
 use Rattle.odd_tree.specs.declared.tree.Node as N
 use Rattle.odd_tree.specs.declared.tree.Tree.{Tree, out-Tree}
 use Rattle.odd_tree.specs.declared.tree.Tree as T
-use Rattle.odd_tree.specs.Elements.{StandsIn}
+use Rattle.odd_text.specs.Standing.{StandsIn}
 use Rattle.odd_tree.specs.Significant.{IsSignificant, Marking, beside_elements, blank, depth, node_depth, tree_depth, whole}
 use Rattle.odd_content.specs.declared.content.Content.{Content}
 use Rattle.odd_library.specs.declared.library.Library.{Library}
 use Rattle.odd_meaning.specs.Admission as admission
 use Rattle.odd_meaning.specs.Admission.{AreAdmitted, IsValid, IsValidBy, IsValidWithin, counting}
 use Rattle.odd_meaning.specs.Labels.{Label, condition, element}
-use Rattle.odd_tree.proofs.InList.{first_or_later, map_stands, nothing_stands}
+use Rattle.odd_text.proofs.InList.{first_or_later, map_stands, nothing_stands}
 use Rattle.rng_grammar.specs.Acceptance as acceptance
 use Rattle.rng_grammar.specs.Acceptance.{HasContent, IsAcceptedWithin}
 use Rattle.rng_grammar.specs.declared.grammar.Expr.{Expr}
 use Rattle.rng_grammar.specs.declared.grammar.Grammar.{Grammar}
 use Rattle.compile_laws.proofs.SameMarkings.{admits_into, matched_on}
-use Rattle.compile_contents.proofs.Standing.{each_stands, filter_stands}
+use Rattle.compile_defines.proofs.Standing.{each_stands, filter_stands}
 
 -- the greatest of some numbers is none less
 from_start : (start : ℕ) (ns : List ℕ) → start ≤ fold max start ns

@@ -3,9 +3,9 @@ use Rattle.std.proofs.Common.{◌≡◌, ◌↔◌, ℕ, zero, suc, Bool, true, 
 use Rattle.std.proofs.lemmas.Bool.{false≢true}
 use Rattle.std.proofs.lemmas.Option.{same_Some}
 use Rattle.std.specs.FinMap.{find}
-use Rattle.compile_contents.proofs.Standing.{stands_filter, IsMacroAt, macro_found, macro_held, held_stands}
-use Rattle.compile_contents.specs.Conditions.{conditions_of}
-use Rattle.compile_contents.specs.Contents.{holds_macro, macro_name, macro_pattern}
+use Rattle.compile_defines.proofs.Standing.{stands_filter, IsMacroAt, macro_found, macro_held, held_stands}
+use Rattle.compile_defines.specs.Conditions.{conditions_of}
+use Rattle.compile_defines.specs.Contents.{holds_macro, macro_name, macro_pattern}
 use Rattle.compile_defines.specs.Compiled.{IsGrammarOf}
 use Rattle.odd_library.specs.Formed.{IsFormedLibrary}
 use Rattle.odd_library.specs.Library.{content_of}
@@ -20,7 +20,7 @@ use Rattle.odd_meaning.specs.Rules.{Breaks, of_attributes, reaches_itself}
 use Rattle.odd_text.specs.Key.{key_cmp}
 use Rattle.odd_text.specs.KeyOrder.{key_total, key_exact}
 use Rattle.odd_text.specs.declared.key.Key.{Key}
-use Rattle.odd_tree.specs.Elements.{StandsIn}
+use Rattle.odd_text.specs.Standing.{StandsIn}
 use Rattle.odd_tree.specs.Significant.{Marking}
 use Rattle.odd_tree.specs.declared.tree.Node.{Node}
 use Rattle.rng_grammar.specs.Patterns.{IsMatched}

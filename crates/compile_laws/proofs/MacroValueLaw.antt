@@ -1,8 +1,8 @@
 -- The value law for macros of data content, and for data content that names such.
 use Rattle.std.proofs.Common.{◌≡◌, ◌↔◌, ℕ, zero, suc, cond, List, [], ◌++◌, Some, ⊎_elim, refl, sym, ap, subst, ◌∙◌}
 use Rattle.std.specs.FinMap.{find}
-use Rattle.compile_contents.proofs.Standing.{IsMacroAt, macro_held, stands_either, stands_left, stands_right}
-use Rattle.compile_contents.specs.Contents.{content_pattern, macro_name, macro_pattern, part_patterns}
+use Rattle.compile_defines.proofs.Standing.{IsMacroAt, macro_held, stands_either, stands_left, stands_right}
+use Rattle.compile_defines.specs.Contents.{content_pattern, macro_name, macro_pattern, part_patterns}
 use Rattle.compile_defines.specs.Compiled as compiled
 use Rattle.compile_defines.specs.Compiled.{IsGrammarOf, macro_define}
 use Rattle.odd_content.specs.Formed.{IsFormedContent}
@@ -18,8 +18,8 @@ use Rattle.odd_meaning.specs.Rules.{Breaks}
 use Rattle.odd_text.specs.Key.{key_cmp}
 use Rattle.odd_text.specs.declared.key.Key.{Key}
 use Rattle.odd_text.specs.declared.key.Kind.TheVariants as kind
-use Rattle.odd_tree.proofs.InList.{first_or_later, nothing_stands, only_item, stands_first}
-use Rattle.odd_tree.specs.Elements.{StandsIn}
+use Rattle.odd_text.proofs.InList.{first_or_later, nothing_stands, only_item, stands_first}
+use Rattle.odd_text.specs.Standing.{StandsIn}
 use Rattle.rng_grammar.specs.Patterns.{IsAllowed}
 use Rattle.rng_grammar.specs.Sorts as sorts
 use Rattle.rng_grammar.specs.Sorts.{IsOfWord}

@@ -1,10 +1,10 @@
 -- What groups, choices and repetitions match, of any items of which patterns by themselves take some.
 use Rattle.std.proofs.Common.{◌≡◌, ◌↔◌, ◌⊎◌, inl, inr, ℕ, zero, suc, ◌+◌, ◌-◌, ◌≤◌, Option, Some, None, List, [], ◌∷◌, ◌++◌, map, replicate, refl, sym, subst, arith, rules}
 use Rattle.std.specs.Prelude.{All}
-use Rattle.compile_contents.specs.Repeating.{choice_pattern, further, group_pattern, repeated, repeated_within}
+use Rattle.compile_defines.specs.Repeating.{choice_pattern, further, group_pattern, repeated, repeated_within}
 use Rattle.odd_meaning.specs.Contents.{IsUpTo, IsWithin}
-use Rattle.odd_tree.proofs.InList.{first_or_later, map_stands, nothing_stands, stands_first, stands_later, stands_map}
-use Rattle.odd_tree.specs.Elements.{StandsIn}
+use Rattle.odd_text.proofs.InList.{first_or_later, map_stands, nothing_stands, stands_first, stands_later, stands_map}
+use Rattle.odd_text.specs.Standing.{StandsIn}
 use Rattle.odd_tree.specs.Splits.{Counted, Pieces, Then}
 use Rattle.rng_grammar.proofs.OnePattern.{ToldBy, choice_shown, empty_shown, group_shown, one_or_more_shown, optional_shown, zero_or_more_shown}
 use Rattle.compile_laws.proofs.Leaves.{IsLeaf, TakesLeaves, parts_told}

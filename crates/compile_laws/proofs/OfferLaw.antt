@@ -4,8 +4,8 @@ use Rattle.std.proofs.lemmas.Bool.{false≢true}
 use Rattle.std.proofs.lemmas.Cmp.{nat_list_cmp_total}
 use Rattle.std.specs.FinMap.{find, nat_cmp-IsAntisymmetric, slice_cmp-IsAntisymmetric}
 use Rattle.std.specs.Prelude.{IsSome}
-use Rattle.compile_contents.proofs.Collected.{stands_collected}
-use Rattle.compile_contents.proofs.Standing.{held_stands, stands_right}
+use Rattle.compile_defines.proofs.Collected.{stands_collected}
+use Rattle.compile_defines.proofs.Standing.{held_stands, stands_right}
 use Rattle.odd_attributes.proofs.Formed.{def_formed}
 use Rattle.odd_attributes.specs.Formed.{IsFormedDef, IsFormedEdit}
 use Rattle.odd_attributes.specs.declared.att_def.AttDef.{AttDef}
@@ -27,8 +27,8 @@ use Rattle.odd_text.specs.Text.{text_cmp}
 use Rattle.odd_text.specs.declared.key.Key.{Key}
 use Rattle.odd_text.specs.declared.key.Kind.{Kind}
 use Rattle.odd_text.specs.declared.key.Kind.TheVariants as kind
-use Rattle.odd_tree.proofs.InList.{nothing_stands}
-use Rattle.odd_tree.specs.Elements.{StandsIn}
+use Rattle.odd_text.proofs.InList.{nothing_stands}
+use Rattle.odd_text.specs.Standing.{StandsIn}
 
 -- the edits of a formed component are formed
 edit_formed : (k : Kind) (part : Component) → IsFormedPart k part → (ident : List ℕ) (made : AttEdit) → find text_cmp ident (edits_of part) ≡ Some made → IsAttributeName ident × IsFormedEdit made

@@ -2,8 +2,8 @@
 use Rattle.std.proofs.Common.{◌≡◌, ◌↔◌, ℕ, List, [], Option, Some, None, map, refl, sym, subst}
 use Rattle.std.specs.Option.{IfSome}
 use Rattle.std.specs.Prelude.{All}
-use Rattle.compile_contents.proofs.Standing.{each_stands}
-use Rattle.compile_contents.specs.Data.{item_pattern, value_pattern}
+use Rattle.compile_defines.proofs.Standing.{each_stands}
+use Rattle.compile_defines.specs.Data.{item_pattern, value_pattern}
 use Rattle.compile_defines.specs.Compiled.{IsGrammarOf, rule_of}
 use Rattle.odd_attributes.specs.Formed.{IsFormedDatatype}
 use Rattle.odd_attributes.specs.declared.att_def.AttDef.{AttDef}
@@ -17,8 +17,8 @@ use Rattle.odd_meaning.specs.Links.{datatype_key, named_by_datatype}
 use Rattle.odd_meaning.specs.Rules.{Breaks}
 use Rattle.odd_meaning.specs.Values.{IsAdmittedValue, IsItemBy, IsOfDatatype, bounds_of}
 use Rattle.odd_text.specs.declared.key.Key.{Key}
-use Rattle.odd_tree.proofs.InList.{stands_first, stands_map}
-use Rattle.odd_tree.specs.Elements.{StandsIn}
+use Rattle.odd_text.proofs.InList.{stands_first, stands_map}
+use Rattle.odd_text.specs.Standing.{StandsIn}
 use Rattle.odd_tree.specs.declared.tree.Attr.{Attr}
 use Rattle.rng_grammar.specs.Acceptance.{AreRuled, IsValueOf}
 use Rattle.rng_grammar.specs.Patterns.{IsAllowed}

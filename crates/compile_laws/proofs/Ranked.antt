@@ -2,7 +2,7 @@
 use Rattle.std.proofs.Common.{◌≡◌, ℕ, suc, List, ◌∷◌, ◌++◌, Some, length, map, refl, sym, ap, subst, ◌∙◌, arith}
 use Rattle.std.proofs.lemmas.List.{length-append, length-map}
 use Rattle.std.specs.FinMap.{find}
-use Rattle.compile_contents.proofs.Standing.{held_stands, stands_left, stands_right}
+use Rattle.compile_defines.proofs.Standing.{held_stands, stands_left, stands_right}
 use Rattle.odd_classes.proofs.Linked.{held}
 use Rattle.odd_classes.proofs.OnCycles.{macro_among}
 use Rattle.odd_graph.proofs.Chains.{by_rank, last_step}
@@ -13,9 +13,9 @@ use Rattle.odd_meaning.specs.Links.{IsHeld, IsLinked, macro_key, macros_of, name
 use Rattle.odd_text.specs.Key.{key_cmp}
 use Rattle.odd_text.specs.KeyOrder.{key_exact, key_total}
 use Rattle.odd_text.specs.declared.key.Key.{Key}
-use Rattle.odd_tree.proofs.InList.{map_stands, stands_around}
-use Rattle.odd_tree.proofs.InList as around
-use Rattle.odd_tree.specs.Elements.{StandsIn}
+use Rattle.odd_text.proofs.InList.{map_stands, stands_around}
+use Rattle.odd_text.proofs.InList as around
+use Rattle.odd_text.specs.Standing.{StandsIn}
 
 -- the macros that a component names are at the keys of macros
 pub of_macros : (part : Component) (other : Key) → StandsIn (macros_of part) other → other ≡ macro_key other.ident

@@ -2,8 +2,8 @@
 use Rattle.std.proofs.Common.{◌≡◌, ℕ, zero, suc, List, [], ◌∷◌, ◌++◌, length, sym, subst}
 use Rattle.std.specs.Prelude.{All}
 use Rattle.std.proofs.lemmas.List.Elements.{All-head}
-use Rattle.odd_tree.proofs.InList.{stands_first}
-use Rattle.odd_tree.specs.Elements.{StandsIn}
+use Rattle.odd_text.proofs.InList.{stands_first}
+use Rattle.odd_text.specs.Standing.{StandsIn}
 use Rattle.odd_tree.specs.Significant.{Marking}
 use Rattle.odd_tree.specs.declared.tree.Node.{Node, Element as AnElement}
 use Rattle.odd_tree.specs.declared.tree.Tree.{Tree}
@@ -19,7 +19,7 @@ use Rattle.rng_grammar.specs.Patterns.{AreMatched, IsMatched, IsRepeated, TakesC
 use Rattle.rng_grammar.specs.declared.grammar.Expr.{Expr}
 use Rattle.rng_grammar.specs.declared.grammar.Grammar.{Grammar}
 use Rattle.compile_laws.proofs.Pieces.{Into, counted_into, or_into, then_into}
-use Rattle.compile_contents.proofs.Standing.{stands_left, stands_right}
+use Rattle.compile_defines.proofs.Standing.{stands_left, stands_right}
 
 -- what holds of each of a list of one element holds of that
 pub alone_is : (Q : Node → Type 0) (t : Tree) (children : List Node) → children ≡ AnElement t ∷ [] → All Q children → Q (AnElement t)

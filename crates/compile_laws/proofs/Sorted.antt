@@ -3,9 +3,9 @@ use Rattle.std.proofs.Common.{◌≡◌, ℕ, Bool, true, false, cond, List, ◌
 use Rattle.std.specs.FinMap.{find}
 use Rattle.std.proofs.lemmas.List.Elements.{All-contains}
 use Rattle.std.specs.Prelude.{All}
-use Rattle.compile_contents.proofs.Standing.{IsElementAt, IsMacroAt, element_found, macro_held, stands_either, stands_left}
-use Rattle.compile_contents.specs.Contents.{holds_element, class_name, condition_name, condition_pattern, content_pattern, macro_name, macro_pattern, reference, references_pattern}
-use Rattle.compile_contents.specs.Conditions.{conditions_in, conditions_of}
+use Rattle.compile_defines.proofs.Standing.{IsElementAt, IsMacroAt, element_found, macro_held, stands_either, stands_left}
+use Rattle.compile_defines.specs.Contents.{holds_element, class_name, condition_name, condition_pattern, content_pattern, macro_name, macro_pattern, reference, references_pattern}
+use Rattle.compile_defines.specs.Conditions.{conditions_in, conditions_of}
 use Rattle.compile_defines.proofs.NamedDefines.{entry_stands, listed_is}
 use Rattle.compile_defines.specs.Compiled as compiled
 use Rattle.compile_defines.specs.Compiled.{HoldsStart, IsDefineOf, IsGrammarOf, class_define, condition_body, macro_define}
@@ -23,8 +23,8 @@ use Rattle.odd_library.specs.declared.library.Library.{Library}
 use Rattle.odd_library.specs.declared.library.OtherPart.{OtherPart}
 use Rattle.odd_meaning.specs.Links.{macro_key, named_by, named_by_edits, named_in}
 use Rattle.odd_text.specs.declared.key.Key.{Key}
-use Rattle.odd_tree.proofs.InList.{contained, nothing_stands}
-use Rattle.odd_tree.specs.Elements.{StandsIn}
+use Rattle.odd_text.proofs.InList.{contained, nothing_stands}
+use Rattle.odd_text.specs.Standing.{StandsIn}
 use Rattle.rng_grammar.specs.Patterns.{IsDefined}
 use Rattle.rng_grammar.specs.Sorts as sorts
 use Rattle.rng_grammar.specs.Sorts.{IsOfBody, IsOfChildren, IsOfContent, IsSorted}

@@ -3,20 +3,20 @@ use Rattle.std.proofs.Common.{◌≡◌, ◌≢◌, ◌↔◌, ◌⊎◌, ℕ, L
 use Rattle.std.proofs.lemmas.List.Elements.{All-cons, All-contains, All-nil}
 use Rattle.std.specs.Prelude.{All}
 use Rattle.std.specs.Str.{chars}
-use Rattle.compile_contents.proofs.Standing.{stands_left, stands_right}
-use Rattle.compile_contents.specs.Contents.{content_pattern, macro_pattern, part_patterns}
-use Rattle.compile_contents.specs.Data.{datatype_name, item_pattern, list_pattern, listed_pattern, values_pattern}
+use Rattle.compile_defines.proofs.Standing.{stands_left, stands_right}
+use Rattle.compile_defines.specs.Contents.{content_pattern, macro_pattern, part_patterns}
+use Rattle.compile_defines.specs.Data.{datatype_name, item_pattern, list_pattern, listed_pattern, values_pattern}
 use Rattle.odd_content.specs.Formed.{AreFormedWithin, IsFormedWithin, once}
 use Rattle.odd_content.specs.declared.content.Condition.{Condition}
 use Rattle.odd_content.specs.declared.content.Content.{Content, Empty, Text, Value, Vals, Element, Class, Macro, Any, Sequence', Alternate', Row_of-Content, end_of-Content, more_of-Content}
-use Rattle.odd_data.proofs.Collapsed.{listed_collapsed}
-use Rattle.odd_data.specs.Formed.{IsFormedList, IsListed as IsValueListed}
+use Rattle.odd_content.proofs.Collapsed.{listed_collapsed}
+use Rattle.odd_content.specs.FormedData.{IsFormedList, IsListed as IsValueListed}
 use Rattle.odd_library.specs.declared.library.Library.{Library}
 use Rattle.odd_meaning.specs.Classes.{Members}
 use Rattle.odd_meaning.specs.Links.{datatype_key, macro_key, named_in, named_in_parts}
 use Rattle.odd_text.specs.declared.key.Key.{Key}
-use Rattle.odd_tree.proofs.InList.{contained, nothing_stands, stands_first}
-use Rattle.odd_tree.specs.Elements.{StandsIn}
+use Rattle.odd_text.proofs.InList.{contained, nothing_stands, stands_first}
+use Rattle.odd_text.specs.Standing.{StandsIn}
 use Rattle.rng_grammar.proofs.OnePattern.{ToldBy, told_by}
 use Rattle.rng_grammar.proofs.Values.{IsTyped, ValueTold, same_shown, typed_shown, value_told}
 use Rattle.rng_grammar.specs.Denoting.{read_as}

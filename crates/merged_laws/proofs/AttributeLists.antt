@@ -7,18 +7,19 @@ use Rattle.std.proofs.lemmas.Bool.{and_from}
 use Rattle.std.proofs.lemmas.Cmp.{nat_list_cmp_total}
 use Rattle.odd_text.specs.Text.{text_cmp}
 use Rattle.odd_text.specs.declared.name.Name.{Name}
-use Rattle.odd_tokens.specs.Same.{is_same}
-use Rattle.odd_tree.specs.Elements.{StandsIn, children_of}
+use Rattle.odd_text.specs.Same.{is_same}
+use Rattle.odd_text.specs.Standing.{StandsIn}
+use Rattle.odd_tree.specs.Elements.{children_of}
 use Rattle.odd_tree.specs.Markup.{Markup}
 use Rattle.odd_tree.specs.declared.tree.Tree.{Tree}
-use Rattle.odd_tree.proofs.InList.{stands_first, stands_later}
+use Rattle.odd_text.proofs.InList.{stands_first, stands_later}
 use Rattle.odd_tree.proofs.PrintedTrees.{IsPlain, Shows}
 use Rattle.odd_forms.specs.Form.{IsAttributeName}
 use Rattle.odd_forms.specs.Listing.{ListsAmong, is_definition}
 use Rattle.odd_forms.specs.Listing as listing
 use Rattle.odd_forms.specs.Names.{first_named, tei, tei_namespace}
 use Rattle.odd_forms.specs.Tags.{is_tagged}
-use Rattle.odd_forms.specs.Words.{is_among}
+use Rattle.odd_text.specs.Same.{is_among}
 use Rattle.odd_forms.specs.declared.element.Element.{Element}
 use Rattle.odd_forms.specs.declared.element.Element.TheVariants as kind
 use Rattle.odd_overlay.specs.Tabled.{keys_of}

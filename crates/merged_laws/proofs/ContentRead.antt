@@ -20,7 +20,7 @@ use Rattle.odd_forms.specs.Words.{words_of}
 use Rattle.odd_forms.specs.declared.element.Element.{Element as Kind}
 use Rattle.odd_forms.specs.declared.element.Element.TheVariants as kind
 use Rattle.odd_forms.specs.declared.form.Level.TheVariants as level
-use Rattle.odd_data.specs.Formed.{IsFormedData, IsFormedList}
+use Rattle.odd_content.specs.FormedData.{IsFormedData, IsFormedList}
 use Rattle.odd_content.proofs.EachPart.{AreParts, IsPart, parts_given}
 use Rattle.odd_content.specs.Formed.{AreFormedWithin, IsFormedCondition, IsFormedContent, IsFormedWithin}
 use Rattle.odd_content.specs.Giving.{content_of, joined_parts, part_content, part_named, parts_in, value_content}

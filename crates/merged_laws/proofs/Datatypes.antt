@@ -12,7 +12,7 @@ use Rattle.odd_forms.specs.Names.{first_named, tei, tei_namespace}
 use Rattle.odd_forms.specs.Table.{form_at}
 use Rattle.odd_forms.specs.Words.{is_given_among}
 use Rattle.odd_forms.specs.declared.element.Element.TheVariants as kind
-use Rattle.odd_data.specs.Occurrence.{bounds_in}
+use Rattle.odd_content.specs.Occurrence.{bounds_in}
 use Rattle.odd_attributes.specs.declared.att_def.Datatype.{Datatype}
 use Rattle.odd_attributes.specs.Formed.{IsFormedDatatype}
 use Rattle.odd_attributes.specs.Giving.{datatype_by}

@@ -4,20 +4,20 @@ use Rattle.std.specs.Prelude.{IsTrue, codes}
 use Rattle.std.specs.Option.{IfSome}
 use Rattle.odd_tokens.proofs.Ascii.{is_printable, ncname_legal}
 use Rattle.odd_tokens.specs.Characters.{IsLegal, IsNCName}
-use Rattle.odd_tokens.specs.Same.{is_same}
+use Rattle.odd_text.specs.Same.{is_same}
 use Rattle.odd_tree.specs.Markup.{Markup}
 use Rattle.odd_tree.proofs.PrintedTrees.{IsPlain}
 use Rattle.odd_forms.specs.Form as kinds
 use Rattle.odd_forms.specs.Names.{tei, tei_namespace}
 use Rattle.odd_forms.specs.Table.{form_at}
-use Rattle.odd_forms.specs.Words.{is_among}
+use Rattle.odd_text.specs.Same.{is_among}
 use Rattle.odd_forms.specs.declared.element.Element.{Element}
 use Rattle.odd_forms.specs.declared.element.Element.TheVariants as kind
 use Rattle.odd_library.specs.Formed.{IsFormedClass, IsFormedElement, IsFormedOther, IsModule}
 use Rattle.odd_library.specs.declared.library.ClassPart.{ClassPart}
 use Rattle.odd_library.specs.declared.library.ElementPart.{ElementPart}
 use Rattle.odd_library.specs.declared.library.OtherPart.{OtherPart}
-use Rattle.odd_members.specs.Formed.{AreClasses}
+use Rattle.odd_library.specs.FormedMembers.{AreClasses}
 use Rattle.odd_text.specs.declared.key.Kind.TheVariants as of
 use Rattle.odd_emit.specs.Attributes.{alt_markup, edits_markup, ident_said}
 use Rattle.odd_emit.specs.Components.{class_markup, classes_markup, element_markup, module_said, module_value, ns_value, other_markup, type_word}

@@ -10,7 +10,7 @@ use Rattle.odd_text.specs.declared.key.Kind.{Kind}
 use Rattle.odd_text.specs.declared.key.Kind.TheVariants as of
 use Rattle.odd_text.specs.declared.name.Bind.{Bind}
 use Rattle.odd_tokens.specs.Characters.{IsNCName}
-use Rattle.odd_tokens.specs.Same.{is_same}
+use Rattle.odd_text.specs.Same.{is_same}
 use Rattle.odd_tree.specs.Elements.{children_of, given, within}
 use Rattle.odd_tree.specs.Markup.{Markup}
 use Rattle.odd_tree.specs.declared.tree.Tree.{Tree, out-Tree}
@@ -21,7 +21,7 @@ use Rattle.odd_decls.specs.Offences.{ItemFault}
 use Rattle.odd_forms.proofs.Forms.{named_placed}
 use Rattle.odd_forms.specs.Deep.{DeepFault}
 use Rattle.odd_forms.specs.Names.{is_one_of, tei, tei_namespace}
-use Rattle.odd_forms.specs.Words.{is_among}
+use Rattle.odd_text.specs.Same.{is_among}
 use Rattle.odd_forms.specs.declared.element.Element.{Element}
 use Rattle.odd_forms.specs.declared.element.Element.TheVariants as kind
 use Rattle.odd_items.specs.Groups.{group_names}

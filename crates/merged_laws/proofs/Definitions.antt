@@ -4,7 +4,7 @@ use Rattle.std.specs.Prelude.{IsTrue, codes, unwrap_or}
 use Rattle.std.specs.Option.{IfSome, option_map}
 use Rattle.odd_tokens.proofs.Ascii.{is_printable}
 use Rattle.odd_tokens.specs.Characters.{IsLegal}
-use Rattle.odd_tokens.specs.Same.{is_same}
+use Rattle.odd_text.specs.Same.{is_same}
 use Rattle.odd_tree.specs.Elements.{children_of, given}
 use Rattle.odd_tree.specs.Markup.{Markup}
 use Rattle.odd_tree.specs.declared.tree.Tree.{Tree}
@@ -16,9 +16,9 @@ use Rattle.odd_forms.specs.Form as kinds
 use Rattle.odd_forms.specs.Names.{first_named, tei, tei_namespace}
 use Rattle.odd_forms.specs.Table.{form_at}
 use Rattle.odd_forms.specs.Texts.{collapsed_in}
-use Rattle.odd_forms.specs.Words.{is_among}
+use Rattle.odd_text.specs.Same.{is_among}
 use Rattle.odd_forms.specs.declared.element.Element.TheVariants as kind
-use Rattle.odd_data.specs.Formed.{IsFormedList}
+use Rattle.odd_content.specs.FormedData.{IsFormedList}
 use Rattle.odd_overlay.specs.Overlaid.{laid_at}
 use Rattle.odd_attributes.specs.declared.att_def.AttDef.{AttDef}
 use Rattle.odd_attributes.specs.declared.att_def.Datatype.{Datatype}

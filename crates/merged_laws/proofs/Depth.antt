@@ -13,8 +13,8 @@ use Rattle.odd_tree.specs.Trees.{IsContent, IsElement, token_read, with_text}
 use Rattle.odd_tree.specs.Trees as trees
 use Rattle.odd_tree.specs.declared.tree.Node.{Node, Text}
 use Rattle.odd_tree.specs.declared.tree.Tree.{Tree, out-Tree}
-use Rattle.odd_tree.proofs.InList as lists
-use Rattle.odd_tree.proofs.InList.{with_element}
+use Rattle.odd_tree.proofs.InTree as lists
+use Rattle.odd_tree.proofs.InTree.{with_element}
 use Rattle.odd_tree.proofs.PrintedTrees.{Shows}
 use Rattle.odd_forms.specs.Names.{tei_namespace}
 use Rattle.merged_laws.proofs.Sought.{AllShown, AreOther, IsOther, inside_of, none_shown, shown_inside}

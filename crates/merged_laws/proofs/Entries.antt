@@ -4,9 +4,9 @@ use Rattle.odd_text.specs.Key.{key_cmp}
 use Rattle.odd_text.specs.KeyOrder.{key_total}
 use Rattle.odd_text.specs.declared.key.Key.{Key}
 use Rattle.odd_tokens.specs.Characters.{IsNCName}
-use Rattle.odd_tree.proofs.InList.{stands_first, stands_later}
-use Rattle.odd_tree.specs.Elements.{StandsIn}
-use Rattle.odd_forms.specs.Sorted.{AreRising}
+use Rattle.odd_text.proofs.InList.{stands_first, stands_later}
+use Rattle.odd_text.specs.Standing.{StandsIn}
+use Rattle.odd_text.specs.Sorted.{AreRising}
 use Rattle.odd_overlay.specs.Tabled.{keys_of}
 use Rattle.odd_library.specs.Formed.{IsFormedLibrary, IsFormedPart}
 use Rattle.odd_library.specs.declared.library.Component.{Component}

@@ -22,7 +22,7 @@ use Rattle.rng_values.specs.Making.{in_order, item_of}
 use Rattle.rng_values.specs.Names.{facet_names, named, type_names}
 use Rattle.rng_grammar.proofs.OneData.{AreApart, RisesFrom, one_item, rises}
 use Rattle.rng_emit.specs.Grammar.{facet_name}
-use Rattle.odd_data.specs.Formed.{IsMadeItem}
+use Rattle.odd_content.specs.FormedData.{IsMadeItem}
 use Rattle.odd_emit.specs.Contents.{type_name}
 
 pub type_named : (k : DataType) → named type_names (type_name k) ≡ Some k

@@ -9,11 +9,12 @@ use Rattle.std.proofs.lemmas.Option.{same_Some}
 use Rattle.std.specs.Cmp.Lexicographic.{same_text}
 use Rattle.odd_text.specs.declared.name.Bind.{Bind}
 use Rattle.odd_text.specs.declared.name.Name.{Name}
-use Rattle.odd_tokens.specs.Same.{is_same}
-use Rattle.odd_tree.specs.Elements.{StandsIn, attribute_value, children_of, given}
+use Rattle.odd_text.specs.Same.{is_same}
+use Rattle.odd_text.specs.Standing.{StandsIn}
+use Rattle.odd_tree.specs.Elements.{attribute_value, children_of, given}
 use Rattle.odd_tree.specs.Markup.{Markup}
 use Rattle.odd_tree.specs.declared.tree.Tree.{Tree, out-Tree}
-use Rattle.odd_tree.proofs.InList.{first_or_later, nothing_stands}
+use Rattle.odd_text.proofs.InList.{first_or_later, nothing_stands}
 use Rattle.odd_tree.proofs.PrintedTrees.{same_from}
 use Rattle.rng_types.specs.declared.facet.FacetText.{FacetText}
 use Rattle.rng_values.specs.Items.{ItemFault}
@@ -24,10 +25,11 @@ use Rattle.odd_forms.specs.Form.{AttributeForm, Demand, Form, Kind, Suits, in_or
 use Rattle.odd_forms.specs.Listing.{Lists, ListsAmong, is_definition}
 use Rattle.odd_forms.specs.Listing as listing
 use Rattle.odd_forms.specs.Names.{tei, tei_namespace}
-use Rattle.odd_forms.specs.Standing.{StandsTwice}
+use Rattle.odd_text.specs.Standing.{StandsTwice}
 use Rattle.odd_forms.specs.Table.{form_at}
 use Rattle.odd_forms.specs.Tags.{Tag, facet_tagged, facets_given, is_tagged, tag_of, tags_in}
-use Rattle.odd_forms.specs.Words.{is_among, is_given_among, words_of}
+use Rattle.odd_text.specs.Same.{is_among}
+use Rattle.odd_forms.specs.Words.{is_given_among, words_of}
 use Rattle.odd_forms.specs.declared.element.Element.{Element}
 use Rattle.odd_forms.specs.declared.element.Element.TheVariants as elements
 use Rattle.odd_forms.proofs.Forms.{named_placed}

@@ -14,18 +14,18 @@ use Rattle.odd_content.specs.Formed.{IsFormedContent}
 use Rattle.odd_content.specs.Giving.{IsContentOf}
 use Rattle.odd_content.specs.declared.content.Content.{Content}
 use Rattle.odd_forms.proofs.Children.{found_among}
-use Rattle.odd_forms.proofs.Least.{any_stands}
+use Rattle.odd_text.proofs.Least.{any_stands}
 use Rattle.odd_forms.specs.Children.{GivesOne, IsChild}
 use Rattle.odd_forms.specs.Names.{tei}
 use Rattle.odd_forms.specs.Table.{form_at}
 use Rattle.odd_forms.specs.Texts.{collapsed_in}
 use Rattle.odd_forms.specs.declared.element.Element.{Element}
 use Rattle.odd_forms.specs.declared.element.Element.TheVariants as kind
-use Rattle.odd_members.specs.Formed.{AreClasses}
-use Rattle.odd_members.specs.Members.{IsMembershipOf}
-use Rattle.odd_members.specs.Membership.{classes_over}
-use Rattle.odd_members.specs.declared.membership.Membership.{Membership}
-use Rattle.odd_members.specs.declared.membership.Membership.TheVariants as membership
+use Rattle.odd_library.specs.FormedMembers.{AreClasses}
+use Rattle.odd_library.specs.Members.{IsMembershipOf}
+use Rattle.odd_library.specs.Membership.{classes_over}
+use Rattle.odd_library.specs.declared.membership.Membership.{Membership}
+use Rattle.odd_library.specs.declared.membership.Membership.TheVariants as membership
 use Rattle.rng_values.specs.Treated.{collapsed_text}
 use Rattle.odd_emit.specs.Attributes.{alt_markup}
 use Rattle.odd_emit.specs.Components.{classes_markup}

@@ -6,10 +6,10 @@ use Rattle.std.specs.Ordering.{eq_by_cmp, is_eq}
 use Rattle.odd_text.specs.Key.{key_cmp}
 use Rattle.odd_text.specs.KeyOrder.{key_total, tied_is_same}
 use Rattle.odd_text.specs.declared.key.Key.{Key}
-use Rattle.odd_tree.specs.Elements.{StandsIn}
-use Rattle.odd_tree.proofs.InList.{stands_first, stands_later}
-use Rattle.odd_forms.proofs.SetOf.{first_below, rest_rising}
-use Rattle.odd_forms.specs.Sorted.{AreRising}
+use Rattle.odd_text.specs.Standing.{StandsIn}
+use Rattle.odd_text.proofs.InList.{stands_first, stands_later}
+use Rattle.odd_text.proofs.SetOf.{first_below, rest_rising}
+use Rattle.odd_text.specs.Sorted.{AreRising}
 use Rattle.odd_library.specs.Formed.{IsFormedLibrary}
 use Rattle.odd_library.specs.Library.{component_of}
 use Rattle.odd_library.specs.Over.{declared}

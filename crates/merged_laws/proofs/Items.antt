@@ -5,9 +5,10 @@ use Rattle.std.proofs.lemmas.List.Elements.{All-contains}
 use Rattle.std.proofs.lemmas.Option.{same_Some}
 use Rattle.odd_tokens.proofs.Ascii.{ascii_legal, is_printable}
 use Rattle.odd_tokens.specs.Characters.{IsLegal, IsNCName}
-use Rattle.odd_tree.specs.Elements.{StandsIn, given}
+use Rattle.odd_text.specs.Standing.{StandsIn}
+use Rattle.odd_tree.specs.Elements.{given}
 use Rattle.odd_tree.specs.declared.tree.Tree.{Tree}
-use Rattle.odd_tree.proofs.InList.{contained}
+use Rattle.odd_text.proofs.InList.{contained}
 use Rattle.odd_tree.proofs.PrintedTrees.{IsPlain, Shows}
 use Rattle.rng_types.specs.declared.data_type.DataType.{DataType}
 use Rattle.rng_types.specs.declared.data_type.DataType.TheVariants as types
@@ -21,8 +22,8 @@ use Rattle.rng_emit.specs.Grammar.{facet_name}
 use Rattle.odd_forms.specs.Names.{tei_namespace}
 use Rattle.odd_forms.specs.Tags.{facet_tagged, facets_given}
 use Rattle.odd_forms.specs.declared.element.Element.TheVariants as kind
-use Rattle.odd_data.specs.Formed.{IsFormedData, IsMadeItem}
-use Rattle.odd_data.specs.Items.{item_by, item_given}
+use Rattle.odd_content.specs.FormedData.{IsFormedData, IsMadeItem}
+use Rattle.odd_content.specs.Items.{item_by, item_given}
 use Rattle.odd_emit.specs.Contents.{facet_markup, item_markup, key_said, type_name}
 use Rattle.odd_emit.specs.Saying.{Said, a_text, says}
 use Rattle.merged_laws.proofs.FacetTexts.{item_again, text_of, texts_of, texts_sound}

@@ -8,10 +8,10 @@ use Rattle.std.specs.Ordering.{is_eq, ordering_reverse}
 use Rattle.std.specs.declared.cmp.Ordering.{Ordering}
 use Rattle.std.specs.declared.cmp.Ordering.TheVariants.{Less}
 use Rattle.odd_text.proofs.Entries.{as_T, first, is_less, second}
-use Rattle.odd_tree.specs.Elements.{StandsIn}
-use Rattle.odd_tree.proofs.InList.{first_or_later, nothing_stands}
-use Rattle.odd_forms.specs.Sorted.{AreRising}
-use Rattle.odd_forms.proofs.SetOf.{none_rising, rising_more}
+use Rattle.odd_text.specs.Standing.{StandsIn}
+use Rattle.odd_text.proofs.InList.{first_or_later, nothing_stands}
+use Rattle.odd_text.specs.Sorted.{AreRising}
+use Rattle.odd_text.proofs.SetOf.{none_rising, rising_more}
 use Rattle.odd_overlay.specs.Tabled.{keys_of}
 
 module _ {K V : Type 0} (order : K → K → Ordering) where

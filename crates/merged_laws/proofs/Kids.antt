@@ -3,16 +3,16 @@ use Rattle.std.proofs.Common.{◌≡◌, List, [], ◌∷◌, ◌++◌, map, Opt
 use Rattle.std.specs.List.{cons_option, filter_map}
 use Rattle.std.specs.Cmp.{IsTotalOrder}
 use Rattle.std.specs.declared.cmp.Ordering.{Ordering}
-use Rattle.odd_tree.specs.Elements.{StandsIn}
+use Rattle.odd_text.specs.Standing.{StandsIn}
 use Rattle.odd_tree.specs.Markup.{Markup}
 use Rattle.odd_tree.specs.declared.tree.Tree.{Tree}
-use Rattle.odd_tree.proofs.InList.{first_or_later, nothing_stands, stands_first, stands_later}
+use Rattle.odd_text.proofs.InList.{first_or_later, nothing_stands, stands_first, stands_later}
 use Rattle.odd_tree.proofs.PrintedTrees.{Shows}
 use Rattle.odd_forms.specs.Names.{tei_namespace}
-use Rattle.odd_forms.specs.Sorted.{AreRising}
-use Rattle.odd_forms.specs.Standing.{StandsTwice}
+use Rattle.odd_text.specs.Sorted.{AreRising}
+use Rattle.odd_text.specs.Standing.{StandsTwice}
 use Rattle.odd_forms.specs.Tags.{Tag}
-use Rattle.odd_forms.proofs.SetOf.{first_below, not_below, rest_rising}
+use Rattle.odd_text.proofs.SetOf.{first_below, not_below, rest_rising}
 use Rattle.merged_laws.proofs.Told.{AreShown, tag_said}
 
 module _ {A : Type 0} (f : A → Markup) where

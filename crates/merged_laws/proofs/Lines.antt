@@ -12,12 +12,14 @@ use Rattle.odd_text.specs.declared.name.Bind.{Bind}
 use Rattle.odd_tokens.proofs.Ascii.{is_name}
 use Rattle.odd_tokens.proofs.Characters.{char_scalar, none_twice}
 use Rattle.odd_tokens.specs.Characters.{IsLegal, is_char, is_space}
-use Rattle.odd_tree.specs.Elements.{StandsIn, attribute_value, children_of, elements_of, given, shown_text, text_of, texts_in, within}
+use Rattle.odd_text.specs.Standing.{StandsIn}
+use Rattle.odd_tree.specs.Elements.{attribute_value, children_of, elements_of, given, shown_text, text_of, texts_in, within}
 use Rattle.odd_tree.specs.Markup.{line}
 use Rattle.odd_tree.specs.declared.tree.Node as N
 use Rattle.odd_tree.specs.declared.tree.Node.{Text, out-Node}
 use Rattle.odd_tree.specs.declared.tree.Tree.{Tree, out-Tree}
-use Rattle.odd_tree.proofs.InList.{nothing_stands, only_item, with_text}
+use Rattle.odd_tree.proofs.InTree.{with_text}
+use Rattle.odd_text.proofs.InList.{nothing_stands, only_item}
 use Rattle.odd_tree.proofs.PrintedTrees.{IsPlain, IsPlainAttribute, Shows, text_nodes}
 use Rattle.rng_types.proofs.Spaced.{all_words, words_after}
 use Rattle.rng_types.specs.Words.{words_of}

@@ -6,20 +6,21 @@ use Rattle.std.proofs.lemmas.List.Elements.{All-contains, All-head, All-tail}
 use Rattle.std.specs.FinMap.{put}
 use Rattle.odd_text.specs.Text.{text_cmp}
 use Rattle.odd_tokens.specs.Characters.{IsNCName}
-use Rattle.odd_tokens.specs.Same.{is_same}
-use Rattle.odd_tree.specs.Elements.{StandsIn, children_of, given}
+use Rattle.odd_text.specs.Same.{is_same}
+use Rattle.odd_text.specs.Standing.{StandsIn}
+use Rattle.odd_tree.specs.Elements.{children_of, given}
 use Rattle.odd_tree.specs.declared.tree.Tree.{Tree}
-use Rattle.odd_tree.proofs.InList.{contained}
+use Rattle.odd_text.proofs.InList.{contained}
 use Rattle.odd_tree.proofs.PrintedTrees.{IsPlain, Shows}
 use Rattle.odd_forms.specs.Names.{is_one_of, tei_namespace}
-use Rattle.odd_forms.specs.Sorted.{IsSet}
-use Rattle.odd_forms.specs.Words.{is_among}
+use Rattle.odd_text.specs.Sorted.{IsSet}
+use Rattle.odd_text.specs.Same.{is_among}
 use Rattle.odd_forms.specs.declared.element.Element.TheVariants as kind
 use Rattle.odd_overlay.proofs.Laid.{laid_set}
 use Rattle.odd_overlay.specs.Marks.{IsWordAfter, words_laid}
-use Rattle.odd_members.specs.Formed.{AreClasses}
-use Rattle.odd_members.specs.Members.{IsMembershipOf, adds, is_change, marks_of, membership_of, with_child, with_mark}
-use Rattle.odd_members.specs.declared.membership.Membership.TheVariants as membership
+use Rattle.odd_library.specs.FormedMembers.{AreClasses}
+use Rattle.odd_library.specs.Members.{IsMembershipOf, adds, is_change, marks_of, membership_of, with_child, with_mark}
+use Rattle.odd_library.specs.declared.membership.Membership.TheVariants as membership
 use Rattle.odd_emit.specs.Components.{member_markup}
 use Rattle.odd_emit.specs.Contents.{key_said, mode_said}
 use Rattle.odd_emit.specs.Saying.{Said, spoken}

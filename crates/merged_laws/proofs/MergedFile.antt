@@ -1,16 +1,17 @@
 -- A tree that shows what is printed of a formed library declares it: one doc, with one declaration for each component, and the library after it is the library.
-use Rattle.std.proofs.Common.{◌≡◌, ℕ, suc, Bool, true, false, ◌&&◌, if◌then◌else◌, List, [], ◌∷◌, ◌++◌, map, refl, sym, ap, subst, ◌∙◌, arith}
+use Rattle.std.proofs.Common.{◌≡◌, ℕ, suc, Bool, true, false, ◌&&◌, not, if◌then◌else◌, List, [], ◌∷◌, ◌++◌, map, refl, sym, ap, subst, ◌∙◌, arith}
 use Rattle.std.specs.Prelude.{codes, unwrap_or}
 use Rattle.std.proofs.lemmas.Bool.{both_ways}
 use Rattle.odd_text.specs.declared.key.Key.{Key}
 use Rattle.odd_text.specs.declared.key.Kind.{Kind}
 use Rattle.odd_text.specs.declared.key.Kind.TheVariants as of
-use Rattle.odd_tokens.specs.Same.{is_same}
-use Rattle.odd_tree.specs.Elements.{StandsIn, StandsWithin, children_of, within}
+use Rattle.odd_text.specs.Same.{is_same}
+use Rattle.odd_text.specs.Standing.{StandsIn}
+use Rattle.odd_tree.specs.Elements.{StandsWithin, children_of, within}
 use Rattle.odd_tree.specs.Formed.{IsFormed}
 use Rattle.odd_tree.specs.Markup.{Markup, all_of}
-use Rattle.odd_tree.specs.declared.tree.Tree.{Tree, out-Tree}
-use Rattle.odd_tree.proofs.InList.{map_stands, nothing_stands, stands_map}
+use Rattle.odd_tree.specs.declared.tree.Tree.{Tree}
+use Rattle.odd_text.proofs.InList.{map_stands, nothing_stands, stands_map}
 use Rattle.odd_tree.proofs.PrintedTrees.{Shows, binds_to}
 use Rattle.odd_decls.proofs.OneDoc.{HasNone, one_read}
 use Rattle.odd_decls.specs.Aside.{IsConstraintOf, IsLeftOut, IsReadOf}
@@ -20,13 +21,14 @@ use Rattle.odd_decls.specs.Offences.{HasIdAgain, ItemFault, ItemsOffend, Offends
 use Rattle.odd_forms.specs.Faults.{FormFault, OwnFault}
 use Rattle.odd_forms.specs.Names.{is_one_of, tei_namespace}
 use Rattle.odd_forms.specs.Table.{form_at}
-use Rattle.odd_forms.specs.Words.{is_among, words_of}
+use Rattle.odd_text.specs.Same.{is_among}
+use Rattle.odd_forms.specs.Words.{words_of}
 use Rattle.odd_forms.specs.declared.element.Element.{Element}
 use Rattle.odd_forms.specs.declared.element.Element.TheVariants as kind
 use Rattle.odd_items.proofs.Standing.{one_search}
 use Rattle.odd_items.specs.Constraints.{IsConstraint, IsConstraintIn, IsReadIn}
 use Rattle.odd_items.specs.Groups.{HoldsItems, IsItemIn, group_names, reference_names, schema_names}
-use Rattle.odd_items.specs.Search.{Finds, FindsAmong, Found, children_found, own}
+use Rattle.odd_items.specs.Search.{Finds, FindsAmong, Found, children_found, is_searched, own}
 use Rattle.odd_library.specs.Formed.{IsFormedLibrary, IsFormedPart}
 use Rattle.odd_library.specs.Odd.{place_of}
 use Rattle.odd_library.specs.declared.library.Component.{Component}
@@ -139,17 +141,17 @@ module _ (library : Library) (t : Tree) (f : IsFormedLibrary library) (s : Shows
   root_own : (names : List (List ℕ)) (b : Bool) → is_among names (codes "schemaSpec") ≡ b → own names [] t ≡ (if b then the_root t ∷ [] else [])
   root_own names b is = ap (λ x. if x then the_root t ∷ [] else []) (ap (λ n. is_same n.ns tei_namespace && is_among names n.local) h.told.named ∙ is)
 
-  root_tei : is_same (out-Tree t).name.ns tei_namespace ≡ true
-  root_tei = ap (λ n. is_same n.ns tei_namespace) h.told.named
+  root_searched : is_searched t ≡ true
+  root_searched = ap (λ n. is_same n.ns tei_namespace && not (is_same n.ns tei_namespace && is_among (codes "constraintSpec" ∷ []) n.local)) h.told.named
 
   inside_finds : (names : List (List ℕ)) → Fewer names → FindsAmong names false (within [] t) (children_of t) []
   inside_finds names fewer = finds_nothing names fewer 64 (all_of (map entry_markup library.parts)) (children_of t) (within [] t) others shown
 
   pub finds_root : Finds schema_names false [] t (the_root t ∷ [])
-  finds_root = Finds.through [] root_tei refl (inside_finds schema_names schemas_fewer) (sym (ap (λ fs. fs ++ []) (root_own schema_names true refl)))
+  finds_root = Finds.through [] root_searched refl (inside_finds schema_names schemas_fewer) (sym (ap (λ fs. fs ++ []) (root_own schema_names true refl)))
 
   pub finds_no_group : Finds group_names false [] t []
-  finds_no_group = Finds.through [] root_tei refl (inside_finds group_names groups_fewer) (sym (ap (λ fs. fs ++ []) (root_own group_names false refl)))
+  finds_no_group = Finds.through [] root_searched refl (inside_finds group_names groups_fewer) (sym (ap (λ fs. fs ++ []) (root_own group_names false refl)))
 
   -- an item of the file is a child of the root
   pub item_child : (item : Found) → IsItemIn t (the_root t ∷ []) item → (child : Tree) × StandsIn (children_of t) child × (item ≡ child_found t child)

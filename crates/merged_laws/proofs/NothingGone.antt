@@ -2,11 +2,13 @@
 use Rattle.std.proofs.Common.{◌≡◌, ◌⊎◌, inl, inr, ⊎_elim, ℕ, List, [], ◌∷◌, refl, sym, ap, subst, ◌∙◌}
 use Rattle.std.specs.Prelude.{codes}
 use Rattle.odd_text.specs.declared.name.Bind.{Bind}
-use Rattle.odd_tree.specs.Elements.{StandsIn, StandsWithin, elements_of}
+use Rattle.odd_text.specs.Standing.{StandsIn}
+use Rattle.odd_tree.specs.Elements.{StandsWithin, elements_of}
 use Rattle.odd_tree.specs.Markup.{Markup, Markups, Pair, declaring, element, line, more, none}
 use Rattle.odd_tree.specs.declared.tree.Node.{Node}
 use Rattle.odd_tree.specs.declared.tree.Tree.{Tree, out-Tree}
-use Rattle.odd_tree.proofs.InList.{stands_first, stands_later, with_element, with_text}
+use Rattle.odd_tree.proofs.InTree.{with_element, with_text}
+use Rattle.odd_text.proofs.InList.{stands_first, stands_later}
 use Rattle.odd_tree.proofs.PrintedTrees.{AreLines, Shows, line_break, text_nodes}
 use Rattle.odd_forms.specs.Names.{tei_namespace}
 use Rattle.odd_items.specs.Without.{AreWithout, IsWithout}

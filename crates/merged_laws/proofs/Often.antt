@@ -3,14 +3,14 @@ use Rattle.std.proofs.Common.{◌≡◌, ◌≤◌, ℕ, if◌then◌else◌, Op
 use Rattle.std.specs.Prelude.{codes, decimal, unwrap_or}
 use Rattle.std.proofs.lemmas.Bool.{false_from_ne_true}
 use Rattle.std.proofs.lemmas.Option.{same_Some}
-use Rattle.odd_tokens.specs.Same.{is_same}
+use Rattle.odd_text.specs.Same.{is_same}
 use Rattle.odd_tree.specs.Elements.{given}
 use Rattle.odd_tree.specs.declared.tree.Tree.{Tree, out-Tree}
 use Rattle.rng_types.specs.Bounds.{IsFormedBounds}
 use Rattle.rng_types.specs.declared.bounds.Bounds.{Bounds}
 use Rattle.odd_forms.specs.Form.{number_told}
 use Rattle.odd_forms.specs.Form as kinds
-use Rattle.odd_data.specs.Occurrence.{bounds_in, maximum_told}
+use Rattle.odd_content.specs.Occurrence.{bounds_in, maximum_told}
 use Rattle.odd_emit.specs.Saying.{a_greatest, greatest_written}
 use Rattle.merged_laws.proofs.Values.{IsFormedFor, IsSmall, no_word, number_back}
 

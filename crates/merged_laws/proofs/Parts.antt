@@ -26,11 +26,11 @@ use Rattle.odd_forms.proofs.Colon.{and_no, name_decides}
 use Rattle.odd_forms.specs.Excepting.{IsPrefixed, excepted_of, has_unbound, is_colon, is_name, is_unbound, named_in}
 use Rattle.odd_forms.specs.Form.{number_told}
 use Rattle.odd_forms.specs.Form as kinds
-use Rattle.odd_forms.specs.Sorted.{set_of}
+use Rattle.odd_text.specs.Sorted.{set_of}
 use Rattle.odd_forms.specs.Words.{words_of}
 use Rattle.odd_forms.specs.declared.element.Element.TheVariants as kind
 use Rattle.odd_forms.specs.declared.excepted.Excepted.TheVariants as excepted
-use Rattle.odd_data.specs.Occurrence.{bounds_in, maximum_told}
+use Rattle.odd_content.specs.Occurrence.{bounds_in, maximum_told}
 use Rattle.odd_content.proofs.Conditions.{names_sorted, texts_sorted}
 use Rattle.odd_content.specs.Condition.{condition_of, name_of, names_among, space_of, spaces_among}
 use Rattle.odd_content.specs.Formed.{IsExceptedNamespace, IsFormedCondition, IsFormedPick, IsNamespace}

@@ -4,7 +4,7 @@ use Rattle.odd_tree.specs.Elements.{children_of, elements_of}
 use Rattle.odd_tree.specs.Formed.{AreFormed, IsFormed}
 use Rattle.odd_tree.specs.declared.tree.Node.{Node}
 use Rattle.odd_tree.specs.declared.tree.Tree.{Tree, out-Tree}
-use Rattle.odd_tree.proofs.InList.{with_element, with_text}
+use Rattle.odd_tree.proofs.InTree.{with_element, with_text}
 
 abbrev pub RiseFrom : ℕ → List ℕ → Type 0
 RiseFrom first [] = Unit {0}

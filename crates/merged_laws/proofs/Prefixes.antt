@@ -12,7 +12,7 @@ use Rattle.odd_text.specs.declared.name.Name.{Name}
 use Rattle.odd_tokens.proofs.Ascii.{ascii_legal, is_name}
 use Rattle.odd_tokens.proofs.Characters.{Distinct, Lacks, all_weaker, none_twice}
 use Rattle.odd_tokens.specs.Characters.{IsNCName, is_space, is_within}
-use Rattle.odd_tokens.specs.Same.{is_same}
+use Rattle.odd_text.specs.Same.{is_same}
 use Rattle.odd_tree.proofs.LastBound.{last_bound_none, last_bound_some, not_same}
 use Rattle.odd_tree.proofs.PrintedTrees.{ArePlainPrefixes, IsPlainPrefix, apart, bind_of, same_from}
 use Rattle.odd_tree.specs.Markup.{Pair}

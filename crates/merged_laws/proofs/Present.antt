@@ -6,17 +6,18 @@ use Rattle.std.specs.Option.{IfSome, option_map}
 use Rattle.std.specs.Cmp.Lexicographic.{same_text}
 use Rattle.std.proofs.lemmas.Bool.{and_parts, both_ways, cases_Bool, leb-true, or_parts}
 use Rattle.std.proofs.lemmas.List.Sums.{sum_by-cons}
-use Rattle.odd_tokens.specs.Same.{is_same}
-use Rattle.odd_tree.specs.Elements.{StandsIn, children_of}
+use Rattle.odd_text.specs.Same.{is_same}
+use Rattle.odd_text.specs.Standing.{StandsIn}
+use Rattle.odd_tree.specs.Elements.{children_of}
 use Rattle.odd_tree.specs.Markup.{Markup}
 use Rattle.odd_tree.specs.declared.tree.Tree.{Tree}
-use Rattle.odd_tree.proofs.InList.{first_or_later, nothing_stands, stands_first, stands_later}
+use Rattle.odd_text.proofs.InList.{first_or_later, nothing_stands, stands_first, stands_later}
 use Rattle.odd_tree.proofs.PrintedTrees.{Shows}
 use Rattle.odd_forms.specs.Children.{GivesOne}
 use Rattle.odd_forms.specs.Names.{first_named, is_one_of, tei, tei_namespace}
 use Rattle.odd_forms.specs.Table.{form_at}
 use Rattle.odd_forms.specs.Tags.{Tag, is_tagged}
-use Rattle.odd_forms.specs.Words.{is_among}
+use Rattle.odd_text.specs.Same.{is_among}
 use Rattle.odd_forms.specs.declared.element.Element.{Element}
 use Rattle.odd_forms.proofs.Children.{child_named, named_one, one_named}
 use Rattle.odd_emit.specs.Saying.{if_any, present}

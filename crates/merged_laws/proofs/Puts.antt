@@ -8,10 +8,10 @@ use Rattle.std.specs.FinMap.Entries.{below_all}
 use Rattle.std.specs.Ordering.{eq_by_cmp, is_lt}
 use Rattle.odd_text.proofs.Entries.{as_T}
 use Rattle.odd_text.specs.Text.{text_cmp}
-use Rattle.odd_tree.specs.Elements.{StandsIn}
-use Rattle.odd_tree.proofs.InList.{stands_first, stands_later}
-use Rattle.odd_forms.specs.Sorted.{AreRising}
-use Rattle.odd_forms.proofs.SetOf.{first_below, rest_rising}
+use Rattle.odd_text.specs.Standing.{StandsIn}
+use Rattle.odd_text.proofs.InList.{stands_first, stands_later}
+use Rattle.odd_text.specs.Sorted.{AreRising}
+use Rattle.odd_text.proofs.SetOf.{first_below, rest_rising}
 use Rattle.odd_overlay.proofs.Ordered.{put_last}
 use Rattle.odd_overlay.specs.Marks.{mark_laid, words_laid}
 use Rattle.odd_overlay.specs.Overlaid.{is_zipped, laid_at}

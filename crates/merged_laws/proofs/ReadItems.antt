@@ -5,16 +5,16 @@ use Rattle.odd_text.specs.Key.{key_cmp}
 use Rattle.odd_text.specs.KeyOrder.{key_total}
 use Rattle.odd_text.specs.declared.key.Key.{Key}
 use Rattle.odd_text.specs.declared.name.Bind.{Bind}
-use Rattle.odd_tree.specs.Elements.{StandsIn}
+use Rattle.odd_text.specs.Standing.{StandsIn}
 use Rattle.odd_tree.specs.declared.tree.Tree.{Tree}
-use Rattle.odd_tree.proofs.InList.{first_or_later, nothing_stands, stands_first, stands_later}
+use Rattle.odd_text.proofs.InList.{first_or_later, nothing_stands, stands_first, stands_later}
 use Rattle.odd_decls.proofs.Rising.{one_key}
 use Rattle.odd_decls.specs.Declares.{IsEntryOf}
 use Rattle.odd_decls.specs.Items.{IsSpecOf}
 use Rattle.odd_decls.specs.Offences.{ItemFault}
-use Rattle.odd_forms.proofs.SetOf.{first_below, not_below, rest_rising}
+use Rattle.odd_text.proofs.SetOf.{first_below, not_below, rest_rising}
 use Rattle.odd_forms.specs.Names.{tei_namespace}
-use Rattle.odd_forms.specs.Sorted.{AreRising}
+use Rattle.odd_text.specs.Sorted.{AreRising}
 use Rattle.odd_library.specs.Odd.{place_of}
 use Rattle.odd_library.specs.declared.library.Component.{Component}
 use Rattle.odd_library.specs.declared.odd.Entry.{Entry}

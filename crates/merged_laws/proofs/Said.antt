@@ -9,7 +9,7 @@ use Rattle.std.proofs.lemmas.List.Elements.{All-nil, All-cons}
 use Rattle.odd_tokens.proofs.Ascii.{is_ascii_name, is_name}
 use Rattle.odd_tokens.proofs.Characters.{Distinct, Lacks, none_twice}
 use Rattle.odd_tokens.specs.Characters.{IsLegal}
-use Rattle.odd_tokens.specs.Same.{is_same}
+use Rattle.odd_text.specs.Same.{is_same}
 use Rattle.odd_tree.specs.Elements.{attribute_value}
 use Rattle.odd_tree.specs.Markup.{Pair}
 use Rattle.odd_tree.proofs.PrintedTrees.{IsPlainAttribute, IsPlainTag, attr_of}

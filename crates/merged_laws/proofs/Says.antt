@@ -6,10 +6,11 @@ use Rattle.std.proofs.lemmas.Bool.{and_parts, both_ways}
 use Rattle.std.proofs.lemmas.Option.{same_Some}
 use Rattle.odd_text.specs.declared.name.Bind.{Bind}
 use Rattle.odd_tokens.proofs.Ascii.{is_ascii_name}
-use Rattle.odd_tree.specs.Elements.{StandsIn, children_of, within}
+use Rattle.odd_text.specs.Standing.{StandsIn}
+use Rattle.odd_tree.specs.Elements.{children_of, within}
 use Rattle.odd_tree.specs.Markup.{Markup, Pair, all_of}
 use Rattle.odd_tree.specs.declared.tree.Tree.{Tree}
-use Rattle.odd_tree.proofs.InList.{nothing_stands}
+use Rattle.odd_text.proofs.InList.{nothing_stands}
 use Rattle.odd_tree.proofs.PrintedTrees.{ArePlain, ArePlainPrefixes, IsPlain, IsPlainTag, Shows, bind_of}
 use Rattle.odd_forms.specs.Children.{IsChild}
 use Rattle.odd_forms.specs.Deep.{DeepFault, left_inside, level_by}

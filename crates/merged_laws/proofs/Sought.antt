@@ -1,19 +1,21 @@
 -- A search in a printed tree for names that none of its elements has finds nothing.
-use Rattle.std.proofs.Common.{◌≡◌, ◌<◌, ◌-◌, ℕ, false, ◌&&◌, ◌||◌, if◌then◌else◌, List, [], ◌∷◌, ◌++◌, refl, sym, ap, subst, ◌∙◌, ⊎_elim}
+use Rattle.std.proofs.Common.{◌≡◌, ◌<◌, ◌-◌, ℕ, true, false, ◌&&◌, ◌||◌, not, if◌then◌else◌, List, [], ◌∷◌, ◌++◌, refl, sym, ap, subst, ◌∙◌, ⊎_elim}
 use Rattle.std.specs.Prelude.{codes}
-use Rattle.std.proofs.lemmas.Bool.{or_parts}
+use Rattle.std.proofs.lemmas.Bool.{and_from, or_parts}
 use Rattle.odd_text.specs.declared.name.Bind.{Bind}
-use Rattle.odd_tokens.specs.Same.{is_same}
-use Rattle.odd_tree.specs.Elements.{StandsIn, StandsWithin, children_of, elements_of, within}
+use Rattle.odd_text.specs.Same.{is_same}
+use Rattle.odd_text.specs.Standing.{StandsIn}
+use Rattle.odd_tree.specs.Elements.{StandsWithin, children_of, elements_of, within}
 use Rattle.odd_tree.specs.Markup.{Markup, Markups, declaring, element, line, more, none}
 use Rattle.odd_tree.specs.declared.tree.Node.{Node}
 use Rattle.odd_tree.specs.declared.tree.Tree.{Tree, out-Tree}
-use Rattle.odd_tree.proofs.InList.{first_or_later, nothing_stands, with_element, with_text}
+use Rattle.odd_tree.proofs.InTree.{with_element, with_text}
+use Rattle.odd_text.proofs.InList.{first_or_later, nothing_stands}
 use Rattle.odd_tree.proofs.PrintedTrees.{AreLines, Shows, line_break, text_nodes}
 use Rattle.odd_forms.specs.Names.{is_one_of, tei, tei_namespace}
-use Rattle.odd_forms.specs.Words.{is_among}
+use Rattle.odd_text.specs.Same.{is_among}
 use Rattle.odd_items.specs.Groups.{group_names, reference_names, schema_names}
-use Rattle.odd_items.specs.Search.{Finds, FindsAmong, own}
+use Rattle.odd_items.specs.Search.{Finds, FindsAmong, is_searched, own}
 use Rattle.merged_laws.proofs.Told.{name_of, shown_name}
 
 -- What stands in a tree that shows an element
@@ -93,6 +95,12 @@ pub constraints_fewer : Fewer (codes "constraintSpec" ∷ [])
 constraints_fewer local h =
     (or_parts (is_same local (codes "specGrpRef")) _ (or_parts (is_same local (codes "specGrp")) _ (or_parts (is_same local (codes "schemaSpec")) _ h).1).1).1
 
+-- an element that is shown and has another name is searched
+shown_searched : (n : ℕ) (m : Markup) (t : Tree) → IsOther n m → Shows tei_namespace [] m t → is_searched t ≡ true
+shown_searched n m t o s =
+    and_from (is_same (out-Tree t).name.ns tei_namespace) (not (is_one_of (codes "constraintSpec" ∷ []) t)) (ap (λ n. is_same n.ns tei_namespace) (shown_name m t s))
+    (ap not (ap (λ n. is_same n.ns tei_namespace && is_among (codes "constraintSpec" ∷ []) n.local) (shown_name m t s) ∙ constraints_fewer (name_of m) (name_other n m o)))
+
 module _ (names : List (List ℕ)) (fewer : Fewer names) where
   -- an element of another name is none of these
   pub not_named : (local : List ℕ) (t : Tree) → (out-Tree t).name ≡ tei local → is_among sought_names local ≡ false → is_one_of names t ≡ false
@@ -108,7 +116,7 @@ module _ (names : List (List ℕ)) (fewer : Fewer names) where
   none_in : (n : ℕ) (m : Markup) (t : Tree) (around : List Bind) → inside_of m ≡ none → IsOther n m → Shows tei_namespace [] m t → Finds names false around t []
   none_in n m t around is o s =
       let bare = none_shown (children_of t) (subst (λ ms. AllShown ms (children_of t)) is (shown_inside [] m t s)) in
-      Finds.through [] (ap (λ n. is_same n.ns tei_namespace) (shown_name m t s)) refl (subst (λ ts. FindsAmong names false (within around t) ts []) (sym bare) FindsAmong.nothing)
+      Finds.through [] (shown_searched n m t o s) refl (subst (λ ts. FindsAmong names false (within around t) ts []) (sym bare) FindsAmong.nothing)
       (sym (ap (λ fs. fs ++ []) (own_none n m t around o s)))
 
   -- at no depth is there one
@@ -131,7 +139,7 @@ module _ (names : List (List ℕ)) (fewer : Fewer names) where
   mutual
     pub finds_none : (n : ℕ) (m : Markup) (t : Tree) (around : List Bind) → IsOther n m → Shows tei_namespace [] m t → Finds names false around t []
     finds_none n (element name attributes inside) t around o s =
-        Finds.through [] (ap (λ n. is_same n.ns tei_namespace) (shown_name (element name attributes inside) t s)) refl
+        Finds.through [] (shown_searched n (element name attributes inside) t o s) refl
         (finds_nothing (n - 1) inside (children_of t) (within around t) o.2 (shown_inside [] (element name attributes inside) t s))
         (sym (ap (λ fs. fs ++ []) (own_none n (element name attributes inside) t around o s)))
     finds_none n (line name attributes text) t around o s = none_in n (line name attributes text) t around refl o s

@@ -3,12 +3,14 @@ use Rattle.std.proofs.Common.{◌≡◌, ℕ, true, List, [], ◌∷◌, map, re
 use Rattle.std.specs.Prelude.{codes}
 use Rattle.odd_text.specs.declared.name.Bind.{Bind}
 use Rattle.odd_text.specs.declared.name.Name.{Name}
-use Rattle.odd_tree.specs.Elements.{StandsIn, attribute_value, children_of, elements_of, given}
+use Rattle.odd_text.specs.Standing.{StandsIn}
+use Rattle.odd_tree.specs.Elements.{attribute_value, children_of, elements_of, given}
 use Rattle.odd_tree.specs.Markup.{Pair, Markup, declaring, element, line, none, more, all_of}
 use Rattle.odd_tree.specs.declared.tree.Attr.{Attr}
 use Rattle.odd_tree.specs.declared.tree.Node.{Node}
 use Rattle.odd_tree.specs.declared.tree.Tree.{Tree, out-Tree}
-use Rattle.odd_tree.proofs.InList.{first_or_later, nothing_stands, with_element, with_text}
+use Rattle.odd_tree.proofs.InTree.{with_element, with_text}
+use Rattle.odd_text.proofs.InList.{first_or_later, nothing_stands}
 use Rattle.odd_tree.proofs.PrintedTrees.{AreLines, HasHead, Shows, attr_of, line_break}
 use Rattle.odd_forms.specs.Names.{tei, tei_namespace}
 use Rattle.odd_forms.specs.Tags.{Tag, tag_of, tags_in}

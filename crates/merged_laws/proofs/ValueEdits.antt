@@ -7,10 +7,11 @@ use Rattle.std.proofs.lemmas.Cmp.{nat_list_cmp_total}
 use Rattle.std.proofs.lemmas.List.Elements.{All-contains}
 use Rattle.odd_text.specs.Text.{text_cmp}
 use Rattle.odd_tokens.proofs.Ascii.{is_printable}
-use Rattle.odd_tokens.specs.Same.{is_same}
-use Rattle.odd_tree.specs.Elements.{StandsIn, given}
+use Rattle.odd_text.specs.Same.{is_same}
+use Rattle.odd_text.specs.Standing.{StandsIn}
+use Rattle.odd_tree.specs.Elements.{given}
 use Rattle.odd_tree.specs.declared.tree.Tree.{Tree, out-Tree}
-use Rattle.odd_tree.proofs.InList.{contained, stands_first, stands_later, stands_map}
+use Rattle.odd_text.proofs.InList.{contained, stands_first, stands_later, stands_map}
 use Rattle.odd_tree.proofs.PrintedTrees.{IsPlain, Shows}
 use Rattle.rng_types.specs.declared.val_list.ListKind.{ListKind}
 use Rattle.rng_values.specs.Treated.{collapsed_text}
@@ -18,11 +19,11 @@ use Rattle.odd_forms.specs.Form as kinds
 use Rattle.odd_forms.specs.Names.{tei_namespace}
 use Rattle.odd_forms.specs.Table.{form_at}
 use Rattle.odd_forms.specs.Tags.{tags_in}
-use Rattle.odd_forms.specs.Words.{is_among}
+use Rattle.odd_text.specs.Same.{is_among}
 use Rattle.odd_forms.specs.declared.element.Element.TheVariants as kind
-use Rattle.odd_forms.proofs.SetOf.{none_rising}
-use Rattle.odd_data.specs.Formed.{AreValueMarks, IsListed}
-use Rattle.odd_data.specs.Values.{kind_in, kind_named, list_given, marks_in, with_value}
+use Rattle.odd_text.proofs.SetOf.{none_rising}
+use Rattle.odd_content.specs.FormedData.{AreValueMarks, IsListed}
+use Rattle.odd_content.specs.Values.{kind_in, kind_named, list_given, marks_in, with_value}
 use Rattle.odd_overlay.specs.Tabled.{keys_of}
 use Rattle.odd_attributes.specs.declared.val_edit.ValEdit.{ValEdit}
 use Rattle.odd_attributes.specs.declared.val_edit.ValEdit.TheVariants as vals

@@ -11,9 +11,9 @@ use Rattle.std.specs.FinMap.{put}
 use Rattle.odd_text.specs.Text.{text_cmp}
 use Rattle.odd_tokens.proofs.Ascii.{is_printable}
 use Rattle.odd_tokens.specs.Characters.{is_space}
-use Rattle.odd_tree.specs.Elements.{StandsIn}
+use Rattle.odd_text.specs.Standing.{StandsIn}
 use Rattle.odd_tree.specs.declared.tree.Tree.{Tree}
-use Rattle.odd_tree.proofs.InList.{contained, stands_first, stands_later}
+use Rattle.odd_text.proofs.InList.{contained, stands_first, stands_later}
 use Rattle.odd_tree.proofs.PrintedTrees.{IsPlain, Shows}
 use Rattle.rng_types.proofs.Spaced.{all_words, any_word, no_space, words_after}
 use Rattle.rng_types.specs.Words.{ended, words_of}
@@ -23,11 +23,11 @@ use Rattle.rng_types.specs.declared.val_list.ValList.{ValList}
 use Rattle.rng_values.specs.Treated.{collapsed_text, spaced}
 use Rattle.odd_forms.specs.Names.{tei_namespace}
 use Rattle.odd_forms.specs.Tags.{tags_in}
-use Rattle.odd_forms.specs.Words.{is_among}
+use Rattle.odd_text.specs.Same.{is_among}
 use Rattle.odd_forms.specs.declared.element.Element.{Element}
 use Rattle.odd_forms.specs.declared.element.Element.TheVariants as kind
-use Rattle.odd_data.specs.Formed.{IsFormedList, IsListed}
-use Rattle.odd_data.specs.Values.{kind_named, list_given, marks_in, with_value}
+use Rattle.odd_content.specs.FormedData.{IsFormedList, IsListed}
+use Rattle.odd_content.specs.Values.{kind_named, list_given, marks_in, with_value}
 use Rattle.odd_overlay.specs.Marks.{words_laid}
 use Rattle.odd_emit.specs.Contents.{list_markup, list_word, mode_said, type_said, value_markup}
 use Rattle.odd_emit.specs.Saying.{Said, a_text, says}

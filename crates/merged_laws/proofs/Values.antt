@@ -19,12 +19,12 @@ use Rattle.odd_tokens.proofs.AttributesLexed.{ncname_chars, start_not_space}
 use Rattle.odd_tokens.proofs.Characters.{all_weaker, some_encoded}
 use Rattle.odd_tokens.specs.Characters.{IsLegal, IsNCName, is_char, is_name_char, is_ncname, is_space, is_within}
 use Rattle.odd_tokens.specs.Lexing.{is_empty}
-use Rattle.odd_tokens.specs.Same.{is_same}
+use Rattle.odd_text.specs.Same.{is_same}
 use Rattle.rng_types.proofs.Spaced.{all_words, words_after}
 use Rattle.rng_types.specs.Words.{ended, words_of}
 use Rattle.odd_forms.specs.Form.{AreNames, IsAttributeName, Kind, Suits, are_digits, number_told}
 use Rattle.odd_forms.specs.Form as kinds
-use Rattle.odd_forms.specs.Words.{is_among}
+use Rattle.odd_text.specs.Same.{is_among}
 use Rattle.odd_emit.specs.Saying.{Value, a_greatest, a_name, a_number, a_text, a_word, joined, some_names, some_words, spaced, written}
 
 -- Numbers

@@ -1,9 +1,9 @@
 -- In what is printed of a library no element has a name that is looked for, and at most 65 elements stand in one another.
 use Rattle.std.proofs.Common.{◌≡◌, ◌-◌, ◌+◌, ℕ, List, [], ◌∷◌, map, Option, Some, None, refl, subst, arith}
 use Rattle.std.specs.Option.{option_map}
-use Rattle.odd_tree.specs.Elements.{StandsIn}
+use Rattle.odd_text.specs.Standing.{StandsIn}
 use Rattle.odd_tree.specs.Markup.{Markup, all_of}
-use Rattle.odd_tree.proofs.InList.{stands_first, stands_later}
+use Rattle.odd_text.proofs.InList.{stands_first, stands_later}
 use Rattle.odd_attributes.specs.declared.att_def.Datatype.{Datatype}
 use Rattle.odd_attributes.specs.declared.att_edit.AttEdit.{AttEdit}
 use Rattle.odd_attributes.specs.declared.att_edit.AttEdit.TheVariants as edit

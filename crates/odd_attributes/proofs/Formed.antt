@@ -5,7 +5,7 @@ use Rattle.std.specs.FinMap.{find, nat_cmp-IsAntisymmetric, slice_cmp-IsAntisymm
 use Rattle.std.specs.Option.{IfSome}
 use Rattle.odd_text.specs.Text.{text_cmp}
 use Rattle.odd_tokens.specs.Characters.{IsLegal}
-use Rattle.odd_data.specs.Formed.{AreValueMarks, IsFormedList, IsListed}
+use Rattle.odd_content.specs.FormedData.{AreValueMarks, IsFormedList, IsListed}
 use Rattle.odd_forms.specs.Form.{IsAttributeName}
 use Rattle.odd_overlay.proofs.Laid.{laid_keyed, laid_set, or_else_holds, zipped_keyed, zipped_rises}
 use Rattle.odd_overlay.specs.Marks.{mark_joined, marks_joined}

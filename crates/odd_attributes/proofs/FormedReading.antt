@@ -15,10 +15,11 @@ use Rattle.odd_text.proofs.Entries.{put_rises, put_sets}
 use Rattle.odd_text.specs.Text.{text_cmp}
 use Rattle.odd_text.specs.declared.name.Name.{Name}
 use Rattle.odd_tokens.specs.Characters.{IsLegal}
-use Rattle.odd_tokens.specs.Same.{is_same}
-use Rattle.odd_tree.proofs.InList.{contained, first_or_later, nothing_stands, standing, stands_first, stands_later}
+use Rattle.odd_text.specs.Same.{is_same}
+use Rattle.odd_text.proofs.InList.{contained, first_or_later, nothing_stands, standing, stands_first, stands_later}
 use Rattle.odd_tree.proofs.PrintedTrees.{same_from}
-use Rattle.odd_tree.specs.Elements.{StandsIn, children_of, given}
+use Rattle.odd_text.specs.Standing.{StandsIn}
+use Rattle.odd_tree.specs.Elements.{children_of, given}
 use Rattle.odd_tree.specs.Formed.{IsFormed}
 use Rattle.odd_tree.specs.declared.tree.Tree.{Tree, out-Tree}
 use Rattle.rng_types.specs.Bounds.{IsFormedBounds}
@@ -36,14 +37,14 @@ use Rattle.odd_forms.specs.Names.{first_named, is_one_of, tei, tei_namespace}
 use Rattle.odd_forms.specs.Table.{form_at, needed}
 use Rattle.odd_forms.specs.Tags.{tags_in}
 use Rattle.odd_forms.specs.Texts.{collapsed_in}
-use Rattle.odd_forms.specs.Words.{is_among}
+use Rattle.odd_text.specs.Same.{is_among}
 use Rattle.odd_forms.specs.declared.element.Element.{Element}
 use Rattle.odd_forms.specs.declared.element.Element.TheVariants as element
-use Rattle.odd_data.proofs.Formed.{IsValued, all_valued, data_formed, list_formed, marks_formed}
-use Rattle.odd_data.proofs.FormedTrees.{child_formed, tag_formed}
-use Rattle.odd_data.proofs.Unbroken.{IsUnbroken, bounds_formed, by_text, child_kept, decided, legal_given, suited}
-use Rattle.odd_data.specs.Formed.{IsFormedData}
-use Rattle.odd_data.specs.Values.{kind_in, list_given, marks_in}
+use Rattle.odd_content.proofs.FormedData.{IsValued, all_valued, data_formed, list_formed, marks_formed}
+use Rattle.odd_content.proofs.FormedTrees.{child_formed, tag_formed}
+use Rattle.odd_content.proofs.Unbroken.{IsUnbroken, bounds_formed, by_text, child_kept, decided, legal_given, suited}
+use Rattle.odd_content.specs.FormedData.{IsFormedData}
+use Rattle.odd_content.specs.Values.{kind_in, list_given, marks_in}
 use Rattle.odd_attributes.specs.Formed.{AreFormedEdits, AreFormedFields, IsFormedDatatype, IsFormedDef, IsFormedEdit, IsFormedValEdit}
 use Rattle.odd_attributes.specs.Giving.{AreEditsOf, alt_given, datatype_by, datatype_given, datatype_in, def_of, edit_of, fields_of, is_in_mode, val_edit_given, val_edit_of, with_definition, with_ident}
 use Rattle.odd_attributes.specs.declared.att_edit.AttEdit.{AttEdit}

@@ -1,3 +1,4 @@
+pub mod EditsSaid
 pub mod Formed
 pub mod FormedReading
 pub mod ReadLists

@@ -4,22 +4,23 @@ use Rattle.std.proofs.lemmas.Bool.{and_parts, both_ways}
 use Rattle.std.specs.List.{list_all, list_any}
 use Rattle.odd_text.specs.declared.name.Bind.{Bind}
 use Rattle.odd_text.specs.declared.name.Name.{Name}
-use Rattle.odd_tokens.specs.Same.{is_same}
-use Rattle.odd_tree.proofs.InList.{first_or_later, nothing_stands, standing, stands_first}
+use Rattle.odd_text.specs.Same.{is_same}
+use Rattle.odd_text.proofs.InList.{first_or_later, nothing_stands, standing, stands_first}
 use Rattle.odd_tree.proofs.PrintedTrees.{same_from}
-use Rattle.odd_tree.specs.Elements.{StandsIn, attribute_value, children_of}
+use Rattle.odd_text.specs.Standing.{StandsIn}
+use Rattle.odd_tree.specs.Elements.{attribute_value, children_of}
 use Rattle.odd_tree.specs.Formed.{IsFormed}
 use Rattle.odd_tree.specs.declared.tree.Tree.{Tree, out-Tree}
 use Rattle.odd_forms.proofs.Children.{found_among}
-use Rattle.odd_forms.proofs.Least.{any_stands}
+use Rattle.odd_text.proofs.Least.{any_stands}
 use Rattle.odd_forms.specs.Children.{IsChild}
 use Rattle.odd_forms.specs.Deep.{DeepFault}
 use Rattle.odd_forms.specs.Faults.{AttributeFault}
 use Rattle.odd_forms.specs.Form.{AttributeForm, attribute_name}
-use Rattle.odd_forms.specs.Least.{IsLeast}
+use Rattle.odd_text.specs.Least.{IsLeast}
 use Rattle.odd_forms.specs.Names.{tei_namespace}
 use Rattle.odd_forms.specs.Table.{form_at, needed}
-use Rattle.odd_forms.specs.Words.{is_among}
+use Rattle.odd_text.specs.Same.{is_among}
 use Rattle.odd_forms.specs.declared.element.Element.{Element}
 use Rattle.odd_forms.specs.declared.element.Element.TheVariants as element
 use Rattle.odd_items.proofs.AllLeft.{all_left}
@@ -29,8 +30,8 @@ use Rattle.odd_items.specs.Constraints.{IsConstraintIn, IsReadIn, LeavesOutConst
 use Rattle.odd_items.specs.Constraints as inner
 use Rattle.odd_items.specs.Without.{IsWithout}
 use Rattle.odd_items.specs.Without as left
-use Rattle.odd_data.proofs.FormedTrees.{IsFormedSomewhere, child_formed}
-use Rattle.odd_data.proofs.Unbroken.{IsUnbroken, attribute_kept, child_kept}
+use Rattle.odd_content.proofs.FormedTrees.{IsFormedSomewhere, child_formed}
+use Rattle.odd_content.proofs.Unbroken.{IsUnbroken, attribute_kept, child_kept}
 use Rattle.odd_attributes.specs.Giving.{AttListFault, IsListRead}
 use Rattle.odd_attributes.specs.Giving as giving
 

@@ -6,7 +6,7 @@ use Rattle.odd_text.specs.Text.{text_cmp}
 use Rattle.odd_tokens.specs.Characters.{IsLegal}
 use Rattle.rng_types.specs.Bounds.{IsFormedBounds}
 use Rattle.odd_forms.specs.Form.{IsAttributeName}
-use Rattle.odd_data.specs.Formed.{AreValueMarks, IsFormedData, IsFormedList}
+use Rattle.odd_content.specs.FormedData.{AreValueMarks, IsFormedData, IsFormedList}
 use Rattle.odd_attributes.specs.declared.att_def.AttDef.{AttDef}
 use Rattle.odd_attributes.specs.declared.att_def.Datatype.{Datatype}
 use Rattle.odd_attributes.specs.declared.att_edit.AttEdit.{AttEdit}

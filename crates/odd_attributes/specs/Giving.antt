@@ -4,7 +4,7 @@ use Rattle.std.specs.FinMap.{put}
 use Rattle.std.specs.List.{fold}
 use Rattle.std.specs.Option.{option_map}
 use Rattle.odd_text.specs.Text.{text_cmp}
-use Rattle.odd_tokens.specs.Same.{is_same}
+use Rattle.odd_text.specs.Same.{is_same}
 use Rattle.odd_tree.specs.Elements.{given}
 use Rattle.odd_tree.specs.declared.tree.Tree.{Tree, out-Tree}
 use Rattle.odd_overlay.specs.Overlaid.{laid_at}
@@ -16,9 +16,10 @@ use Rattle.odd_forms.specs.Texts.{collapsed_in}
 use Rattle.odd_forms.specs.declared.element.Element.TheVariants as element
 use Rattle.odd_items.specs.Constraints.{IsConstraintIn}
 use Rattle.odd_items.specs.Without.{IsWithout}
-use Rattle.odd_data.specs.Items.{item_given}
-use Rattle.odd_data.specs.Occurrence.{bounds_in}
-use Rattle.odd_data.specs.Values.{has_mode, kind_in, list_given, marks_in}
+use Rattle.odd_content.specs.Items.{item_given}
+use Rattle.odd_content.specs.Occurrence.{bounds_in}
+use Rattle.odd_content.specs.Said.{SaysEach}
+use Rattle.odd_content.specs.Values.{has_mode, kind_in, list_given, marks_in}
 use Rattle.odd_attributes.specs.Values.{val_laid}
 use Rattle.odd_attributes.specs.declared.att_def.AttDef.{AttDef}
 use Rattle.odd_attributes.specs.declared.att_def.Datatype.{Datatype}
@@ -95,6 +96,16 @@ with_definition edits def = with_ident (given def (codes "ident")) (edit_of def)
 abbrev pub edits_of : List Tree → List (List ℕ × AttEdit)
 edits_of defs = fold with_definition [] defs
 
+-- the ident of an `attDef`
+abbrev pub ident_said : Tree → Option (List ℕ)
+ident_said def = given def (codes "ident")
+
+-- at each ident stands the edit that the last `attDef` of it in an `attList` says, and none at an ident that no `attDef` has
+pub record SaysEachEdit (list : Tree) (edits : List (List ℕ × AttEdit)) : Type 0 where
+  pub defs : List Tree
+  pub listed : Lists list defs
+  pub says : SaysEach ident_said edit_of defs edits
+
 -- the edits of an `attList`, by the `attDef` in it
 pub record AreEditsOf (list : Tree) (edits : List (List ℕ × AttEdit)) : Type 0 where
   pub defs : List Tree
@@ -116,3 +127,8 @@ pub record AttListFault (list : Tree) (aside : Bool) (rule : ℕ) : Type 0 where
 abbrev pub AreEditsGiven : Option Tree → List (List ℕ × AttEdit) → Type 0
 AreEditsGiven None edits = edits ≡ []
 AreEditsGiven (Some list) edits = AreEditsOf list edits
+
+-- and what they say at each ident
+abbrev pub SaysEachGiven : Option Tree → List (List ℕ × AttEdit) → Type 0
+SaysEachGiven None edits = edits ≡ []
+SaysEachGiven (Some list) edits = SaysEachEdit list edits

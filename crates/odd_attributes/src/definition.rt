@@ -5,7 +5,7 @@ ghost use Rattle.odd_attributes.specs.Giving.{alt_given, datatype_given, def_of 
 use crate::att_def::{AttDef, Datatype};
 use crate::att_edit::{AttEdit, AttFields};
 use crate::val_edit::ValEdit;
-use odd_data::{has_mode, list_kind, read_bounds, read_item, read_list, read_marks};
+use odd_content::{has_mode, list_kind, read_bounds, read_item, read_list, read_marks};
 use odd_forms::{child_named, collapsed_in};
 use odd_overlay::laid_pair;
 use odd_text::{NoMemory, Text, TryCopy};

@@ -4,10 +4,10 @@ ghost use Rattle.odd_text.specs.Text.{text_cmp};
 ghost use Rattle.odd_tree.specs.Formed.{IsFormed};
 ghost use Rattle.odd_tree.specs.declared.tree.Tree.{Tree as ATree};
 ghost use Rattle.odd_forms.specs.Deep.{DeepFault};
-ghost use Rattle.odd_forms.specs.Least.{IsLeast};
+ghost use Rattle.odd_text.specs.Least.{IsLeast};
 ghost use Rattle.odd_forms.specs.declared.element.Element.TheVariants as element;
 ghost use Rattle.odd_attributes.specs.Formed.{AreFormedEdits};
-ghost use Rattle.odd_attributes.specs.Giving.{AreEditsGiven, AreEditsOf, AttListFault, IsListRead};
+ghost use Rattle.odd_attributes.specs.Giving.{AreEditsGiven, AreEditsOf, AttListFault, IsListRead, SaysEachEdit, SaysEachGiven};
 ghost use Rattle.odd_forms.specs.Names.{first_named};
 
 use crate::att_edit::AttEdit;
@@ -47,6 +47,7 @@ impl From<NoMemory> for AttRefusal {
 /// Of a formed tree the edits are formed.
 pub fn read_attlist(alloc: Global, tree: &Tree, aside: bool) -> Result<AttEdits, AttRefusal>
     ensures ok { IfOk result (AreEditsOf tree.now) }
+    ensures each { IfOk result (SaysEachEdit tree.now) }
     ensures sound { IsOk result → (first end : ℕ) → (IsTrue aside → IsFormed first end tree.now) → (rule : ℕ) → AttListFault tree.now aside rule → ⊥ }
     ensures rule { (rule : ℕ) → result ≡ Err (AttRefusal.Rule rule) → (first end : ℕ) → (IsTrue aside → IsFormed first end tree.now) → IsLeast (AttListFault tree.now aside) (Some rule) }
     ensures formed { (first end : ℕ) → IsFormed first end tree.now → IfOk result AreFormedEdits }
@@ -74,7 +75,8 @@ fn list_fault(alloc: Global, tree: &Tree, aside: bool) -> Result<Option<u8>, NoM
 /// The edits that the `attList` of a declaration says, and none where it has no `attList`. The only error is NoMemory, for want
 /// of memory.
 pub fn edits_given(alloc: Global, spec: &Tree) -> Result<AttEdits, NoMemory>
-    ensures { IfOk result (AreEditsGiven (first_named (codes "attList") spec.now)) }
+    ensures edits { IfOk result (AreEditsGiven (first_named (codes "attList") spec.now)) }
+    ensures each { IfOk result (SaysEachGiven (first_named (codes "attList") spec.now)) }
 {
     match child_named(spec, "attList") {
         Some(list) => edits_in(alloc, list),

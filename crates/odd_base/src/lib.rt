@@ -1,5 +1,5 @@
-//! The outside: the traits of what is read and what is written, both in memory, and whole files and replies. The texts, lists, maps
-//! and keys that all layers speak of are the crate `odd_text`, and their sorted tables the crate `odd_tables`.
+//! The outside: the traits of what is read and what is written, both in memory, and whole files and replies. The texts, lists, maps,
+//! tables and keys that all layers speak of are the crate `odd_text`.
 #![tactic(auto)]
 
 pub mod mem_shelf;
@@ -11,10 +11,9 @@ pub mod writing;
 
 pub use mem_shelf::{Calls, File, Files, MemShelf};
 pub use mem_sink::MemSink;
-pub use odd_tables::{Ranked, Steps, Table};
 pub use odd_text::{
-    Bind, Bytes, Key, Keys, Kind, Map, Name, Names, NoMemory, Offence, Scope, Seq, Text, TryCopy,
-    Who, Words,
+    Bind, Bytes, Key, Keys, Kind, Map, Name, Names, NoMemory, Offence, Ranked, Scope, Seq, Steps,
+    Table, Text, TryCopy, Who, Words,
 };
 pub use reading::{SlurpRefusal, slurp};
 pub use shelf::{Shelf, ShelfFault};

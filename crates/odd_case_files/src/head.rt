@@ -1,12 +1,16 @@
-/// What of a file is shown.
+/// What is shown of one file, or of lines.
 #[derive(Clone, Copy)]
 pub enum Shown {
-    /// Its tree.
+    /// The tree of the file.
     Tree,
     /// What the first child of its root says as a `content`.
     Content,
     /// The memberships that its root gives as a declaration.
     Classes,
+    /// Which of some words the patterns match, with which the lines begin.
+    Patterns(Over),
+    /// What is told of values, with which the lines begin.
+    Values,
 }
 
 impl Shown {
@@ -16,6 +20,39 @@ impl Shown {
             Shown::Tree => "tree",
             Shown::Content => "content",
             Shown::Classes => "classes",
+            Shown::Patterns(_) => "patterns",
+            Shown::Values => "values",
+        }
+    }
+}
+
+/// What is asked of the docs of a chain.
+#[derive(Clone, Copy, PartialEq, Eq)]
+pub enum Asked {
+    /// The library after the last.
+    Library,
+    /// The members of its classes.
+    Members,
+    /// What its elements offer.
+    Offers,
+    /// The same where no library is asked for what it breaks.
+    OffersUnasked,
+    /// The members of its classes of type `model`, in a table whose lists together hold no more idents than this.
+    Table(usize),
+    /// What the last chooses.
+    Chosen,
+}
+
+impl Asked {
+    /// Its name.
+    pub fn name(self) -> &'static str {
+        match self {
+            Asked::Library => "library",
+            Asked::Members => "members",
+            Asked::Offers => "offers",
+            Asked::OffersUnasked => "offers unasked",
+            Asked::Table(_) => "table",
+            Asked::Chosen => "chosen",
         }
     }
 }
@@ -48,15 +85,8 @@ pub enum Head<'a> {
     Shown(Shown),
     Asked,
     AllWords(u32, &'a str),
-    Patterns(Over),
-    Values,
     Docs,
-    Library,
-    Members,
-    Offers,
-    OffersUnasked,
-    Table(usize),
-    Chosen,
+    Of(Asked),
 }
 
 /// The head of a code.
@@ -92,15 +122,15 @@ pub fn read_text_head(head: &str) -> Option<Head<'_>> {
         "content" => Some(Head::Shown(Shown::Content)),
         "classes" => Some(Head::Shown(Shown::Classes)),
         "asked" => Some(Head::Asked),
-        "patterns" => Some(Head::Patterns(Over::Letters)),
-        "patterns of children" => Some(Head::Patterns(Over::Children)),
-        "values" => Some(Head::Values),
+        "patterns" => Some(Head::Shown(Shown::Patterns(Over::Letters))),
+        "patterns of children" => Some(Head::Shown(Shown::Patterns(Over::Children))),
+        "values" => Some(Head::Shown(Shown::Values)),
         "docs" => Some(Head::Docs),
-        "library" => Some(Head::Library),
-        "members" => Some(Head::Members),
-        "offers" => Some(Head::Offers),
-        "offers unasked" => Some(Head::OffersUnasked),
-        "chosen" => Some(Head::Chosen),
+        "library" => Some(Head::Of(Asked::Library)),
+        "members" => Some(Head::Of(Asked::Members)),
+        "offers" => Some(Head::Of(Asked::Offers)),
+        "offers unasked" => Some(Head::Of(Asked::OffersUnasked)),
+        "chosen" => Some(Head::Of(Asked::Chosen)),
         _ => read_named(head),
     }
 }
@@ -108,7 +138,7 @@ pub fn read_text_head(head: &str) -> Option<Head<'_>> {
 // The head of a limit or of a name, below which a text stands.
 fn read_named(head: &str) -> Option<Head<'_>> {
     if let Some(limit) = head.strip_prefix("table ") {
-        return Some(Head::Table(limit.parse::<usize>().ok()?));
+        return Some(Head::Of(Asked::Table(limit.parse::<usize>().ok()?)));
     }
     match head.strip_prefix("file ") {
         Some(name) if !name.contains(' ') => Some(Head::File(name)),

@@ -2,7 +2,6 @@
 #![tactic(auto)]
 
 mod body;
-mod contents;
 mod difference;
 mod escapes;
 mod fault;
@@ -14,11 +13,10 @@ mod saying;
 mod section;
 mod telling;
 
-pub use contents::{add_content, add_name};
 pub use difference::{add_place, text_difference};
 pub use fault::CaseFault;
-pub use head::{Device, Head, Over, Shown};
+pub use head::{Asked, Device, Head, Over, Shown};
 pub use outcome::Asking;
 pub use part::Part;
-pub use saying::{said_answer, said_words, set_once};
+pub use saying::{said_answer, said_text, said_words, set_once};
 pub use telling::tell_outcomes;

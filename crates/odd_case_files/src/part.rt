@@ -56,54 +56,27 @@ fn read_range(head: &str) -> Option<(u32, u32)> {
     Some((first.parse::<u32>().ok()?, last.parse::<u32>().ok()?))
 }
 
-// The part that a section begins.
+// The part that a section begins. Below a head of words or of numbers no line stands.
 fn begin_part<'a>(alloc: Global, section: &Section<'a>) -> Result<Part<'a>, CaseFault> {
-    let head = section.head;
-    let (kind, rest) = head.split_once(' ').unwrap_or((head, ""));
-    match kind {
-        "words" => words_part(alloc, rest, section.body),
-        "code" => numbered_part(alloc, read_code(rest), section.body),
-        "fails" => numbered_part(alloc, read_failing(rest), section.body),
-        "all" => numbered_part(alloc, read_all_words(rest), section.body),
-        _ => text_part(alloc, section),
-    }
-}
-
-// The words of a head.
-fn words_part<'a>(
-    alloc: Global,
-    words: &str,
-    body: Option<&'a str>,
-) -> Result<Part<'a>, CaseFault> {
-    no_lines(body)?;
-    let mut text = Vec::from_slice(alloc, words.as_bytes())?;
-    text.push(b'\n')?;
-    Ok(Part {
-        head: Head::Words,
-        text,
-    })
-}
-
-// A head that says a number, where it is read.
-fn numbered_part<'a>(
-    alloc: Global,
-    head: Option<Head<'a>>,
-    body: Option<&'a str>,
-) -> Result<Part<'a>, CaseFault> {
+    let (kind, rest) = section.head.split_once(' ').unwrap_or((section.head, ""));
+    let head = match kind {
+        "words" => Some(Head::Words),
+        "code" => read_code(rest),
+        "fails" => read_failing(rest),
+        "all" => read_all_words(rest),
+        _ => return text_part(alloc, section),
+    };
     let Some(head) = head else {
         return Err(CaseFault::UnknownHead);
     };
-    no_lines(body)?;
-    let text = Vec::new(alloc);
-    Ok(Part { head, text })
-}
-
-// The body of a head that takes none.
-fn no_lines(body: Option<&str>) -> Result<(), CaseFault> {
-    match body {
-        Some(_) => Err(CaseFault::StrayLines),
-        None => Ok(()),
+    if section.body.is_some() {
+        return Err(CaseFault::StrayLines);
     }
+    let mut text = Vec::new(alloc);
+    if let Head::Words = head {
+        add_body(&mut text, Some(rest), Form::Lines)?;
+    }
+    Ok(Part { head, text })
 }
 
 // A part whose text stands below its head.

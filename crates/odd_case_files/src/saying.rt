@@ -2,13 +2,15 @@ use crate::fault::CaseFault;
 use odd_text::{Bytes, NoMemory, Text, Words};
 use std::alloc::Global;
 
+/// What a part's text says.
+pub fn said_text(text: &[u8]) -> Result<&str, CaseFault> {
+    str::from_utf8(text).or(Err(CaseFault::NotText))
+}
+
 /// The words that a part's text says, apart at blanks and line breaks.
 pub fn said_words(alloc: Global, text: &[u8]) -> Result<Words, CaseFault> {
-    let Ok(text) = str::from_utf8(text) else {
-        return Err(CaseFault::NotText);
-    };
     let mut words = Words::new(alloc);
-    for word in text.split_ascii_whitespace() {
+    for word in said_text(text)?.split_ascii_whitespace() {
         words.push(Text::from_str(alloc, word)?)?;
     }
     Ok(words)

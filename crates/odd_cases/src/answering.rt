@@ -1,28 +1,19 @@
-ghost use Rattle.std.specs.Prelude.{◌↔◌, IsNone, IfOk};
-ghost use Rattle.odd_cases.specs.Comparing.{IsAnswered};
-
-use crate::comparing::{Answer, is_answered, is_wanted};
+use crate::chains::told;
 use crate::draft::read_question;
-use crate::question::{Faulty, Question, Reply, Wanted};
+use crate::letters::Letters;
+use crate::patterns::told_patterns;
+use crate::question::{Chain, Question};
+use crate::runs::{answer_of, reply_difference};
 use crate::showing::shown_text;
-use odd_base::{Files, MemShelf, MemSink};
-use odd_case_files::{Asking, CaseFault, Part, add_place, text_difference};
-use odd_cli::run;
-use odd_text::{Bytes, Words};
+use crate::values::told_values;
+use odd_case_files::{Asking, CaseFault, Over, Part, said_text, text_difference};
+use odd_patterns::Children;
 use std::alloc::Global;
 
-// How many bytes an output takes, and how many of them at once.
-const ROOM: usize = 4_000_000;
+/// What runs and single layers answer.
+pub struct Answers;
 
-const CHUNK: usize = 10;
-
-// How many bytes a read brings.
-const READ: usize = 16;
-
-/// What a run answers, and what a file shows.
-pub struct Runs;
-
-impl Asking for Runs {
+impl Asking for Answers {
     fn difference(&self, alloc: Global, parts: Vec<Part<'_>>) -> Result<Option<String>, CaseFault> {
         match read_question(alloc, parts)? {
             Question::Run {
@@ -42,63 +33,46 @@ impl Asking for Runs {
                 let text = shown_text(alloc, shown, file.as_slice())?;
                 text_difference(alloc, shown.name(), &wanted, &text)
             }
+            Question::Patterns {
+                over,
+                asked,
+                wanted,
+            } => {
+                let lines = said_text(wanted.as_slice())?;
+                let text = match over {
+                    Over::Letters => told_patterns(alloc, &Letters, &asked, lines)?,
+                    Over::Children => told_patterns(alloc, &Children, &asked, lines)?,
+                };
+                text_difference(alloc, "patterns", &wanted, &text)
+            }
+            Question::Values { wanted } => {
+                let text = told_values(alloc, said_text(wanted.as_slice())?)?;
+                text_difference(alloc, "values", &wanted, &text)
+            }
+            Question::Chains(chains) => chains_difference(alloc, chains.as_slice()),
         }
     }
 }
 
-// What a run with the words answers.
-fn answer_of(
-    alloc: Global,
-    words: &Words,
-    files: Files,
-    faulty: Faulty,
-) -> Result<Answer, CaseFault> {
-    let mut shelf = MemShelf::new(files, READ, faulty.shelf);
-    let mut out = MemSink::new(alloc, ROOM, CHUNK, faulty.out)?;
-    let mut note = MemSink::new(alloc, ROOM, CHUNK, faulty.note)?;
-    let code = run(alloc, words, &mut shelf, &mut out, &mut note).code();
-    Ok(Answer {
-        code,
-        note: Bytes::from_slice(alloc, note.written())?,
-        out: Bytes::from_slice(alloc, out.written())?,
-    })
-}
-
-// What an answer has otherwise than the wanted one.
-fn reply_difference(
-    alloc: Global,
-    reply: &Reply,
-    answer: &Answer,
-) -> Result<Option<String>, CaseFault>
-    ensures { IfOk result (λ told. IsNone told ↔ IsAnswered reply.now answer.now) }
-{
-    if is_answered(reply, answer) {
-        return Ok(None);
-    }
-    let mut told = String::new(alloc);
-    if reply.code != answer.code {
-        write!(told, " code {} for {}", answer.code, reply.code)?;
-    }
-    add_difference(&mut told, "note", &reply.note, answer.note.as_slice())?;
-    add_difference(&mut told, "out", &reply.out, answer.out.as_slice())?;
-    Ok(Some(told))
-}
-
-// Puts what is written otherwise than wanted.
-fn add_difference(
-    told: &mut String,
-    name: &str,
-    wanted: &Wanted,
-    bytes: &[u8],
-) -> Result<(), CaseFault> {
-    if is_wanted(wanted, bytes) {
-        return Ok(());
-    }
-    match wanted {
-        Wanted::Whole(whole) => add_place(told, name, whole.as_slice(), bytes),
-        Wanted::Holding(_) => {
-            write!(told, " {name} lacks a part")?;
-            Ok(())
+// What is answered otherwise than wanted of the first chain where something is.
+fn chains_difference(alloc: Global, chains: &[Chain]) -> Result<Option<String>, CaseFault> {
+    for (before, chain) in chains.iter().enumerate() {
+        if let Some(told) = chain_difference(alloc, chain)? {
+            let number = before.saturating_add(1);
+            return Ok(Some(format!(in alloc; " chain {number}{told}")?));
         }
     }
+    Ok(None)
+}
+
+// What is answered of a chain otherwise than wanted.
+fn chain_difference(alloc: Global, chain: &Chain) -> Result<Option<String>, CaseFault> {
+    for (asked, wanted) in &chain.wanted {
+        let text = told(alloc, &chain.docs, *asked)?;
+        let difference = text_difference(alloc, asked.name(), wanted, &text)?;
+        if difference.is_some() {
+            return Ok(difference);
+        }
+    }
+    Ok(None)
 }

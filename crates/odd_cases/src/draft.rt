@@ -1,6 +1,10 @@
-use crate::question::{Faulty, Question, Reply, Wanted};
+use crate::all_words::all_words;
+use crate::docs::read_docs;
+use crate::question::{Chain, Faulty, Question, Reply, Wanted};
 use odd_base::{Calls, File, Files};
-use odd_case_files::{CaseFault, Device, Head, Part, Shown, said_answer, said_words, set_once};
+use odd_case_files::{
+    Asked, CaseFault, Device, Head, Part, Shown, said_answer, said_words, set_once,
+};
 use odd_text::{Bytes, Text, Words};
 use std::alloc::Global;
 
@@ -10,8 +14,9 @@ struct Draft {
     files: Files,
     words: Option<Words>,
     reply: ReplyDraft,
-    faulty: Faulty,
+    asked: Option<Words>,
     shown: Option<(Shown, Bytes)>,
+    chains: Vec<Chain>,
 }
 
 // What is read of a reply so far. The parts are those that the output must have.
@@ -21,6 +26,9 @@ struct ReplyDraft {
     note: Option<Bytes>,
     out: Option<Bytes>,
     parts: Vec<Bytes>,
+    faulty: Faulty,
+    // whether something is said of it
+    is_begun: bool,
 }
 
 /// The question of a case.
@@ -29,7 +37,10 @@ pub fn read_question(alloc: Global, parts: Vec<Part<'_>>) -> Result<Question, Ca
     for part in parts {
         put_part(alloc, &mut draft, part)?;
     }
-    finish(alloc, draft)
+    if draft.chains.is_empty() {
+        return finish(alloc, draft);
+    }
+    chains_question(draft)
 }
 
 fn empty_draft(alloc: Global) -> Draft {
@@ -41,13 +52,16 @@ fn empty_draft(alloc: Global) -> Draft {
             note: None,
             out: None,
             parts: Vec::new(alloc),
+            faulty: Faulty {
+                shelf: Calls::new(alloc),
+                out: Calls::new(alloc),
+                note: Calls::new(alloc),
+            },
+            is_begun: false,
         },
-        faulty: Faulty {
-            shelf: Calls::new(alloc),
-            out: Calls::new(alloc),
-            note: Calls::new(alloc),
-        },
+        asked: None,
         shown: None,
+        chains: Vec::new(alloc),
     }
 }
 
@@ -61,19 +75,55 @@ fn put_part(alloc: Global, draft: &mut Draft, part: Part<'_>) -> Result<(), Case
             draft.files.push(File { name, bytes })?;
             Ok(())
         }
-        Head::Code(code) => set_once(&mut draft.reply.code, code),
-        Head::Note => set_once(&mut draft.reply.note, Bytes::from_vec(text)),
-        Head::Out => set_once(&mut draft.reply.out, Bytes::from_vec(text)),
-        Head::OutHas if text.is_empty() => Err(CaseFault::NoLines),
-        Head::OutHas => {
-            draft.reply.parts.push(Bytes::from_vec(text))?;
-            Ok(())
-        }
-        Head::Fails(device, call) => put_failing(&mut draft.faulty, device, call),
         Head::Shown(shown) => {
             let wanted = said_answer(alloc, text.as_slice())?;
             set_once(&mut draft.shown, (shown, wanted))
         }
+        Head::Asked if text.is_empty() => Err(CaseFault::NoLines),
+        Head::Asked => set_once(&mut draft.asked, said_words(alloc, text.as_slice())?),
+        Head::AllWords(length, symbols) => {
+            set_once(&mut draft.asked, all_words(alloc, length, symbols)?)
+        }
+        Head::Docs => {
+            draft.chains.push(Chain {
+                docs: read_docs(alloc, text.as_slice())?,
+                wanted: Vec::new(alloc),
+            })?;
+            Ok(())
+        }
+        Head::Of(asked) => {
+            let wanted = said_answer(alloc, text.as_slice())?;
+            put_wanted(&mut draft.chains, asked, wanted)
+        }
+        _ => put_replied(&mut draft.reply, head, text),
+    }
+}
+
+// Puts what must be answered of the last chain.
+fn put_wanted(chains: &mut Vec<Chain>, asked: Asked, wanted: Bytes) -> Result<(), CaseFault> {
+    let Some(chain) = chains.last_mut() else {
+        return Err(CaseFault::NoDocs);
+    };
+    if chain.wanted.iter().any(|(known, _)| *known == asked) {
+        return Err(CaseFault::Twice);
+    }
+    chain.wanted.push((asked, wanted))?;
+    Ok(())
+}
+
+// Puts what a part says of a reply.
+fn put_replied(reply: &mut ReplyDraft, head: Head<'_>, text: Vec<u8>) -> Result<(), CaseFault> {
+    reply.is_begun = true;
+    match head {
+        Head::Code(code) => set_once(&mut reply.code, code),
+        Head::Note => set_once(&mut reply.note, Bytes::from_vec(text)),
+        Head::Out => set_once(&mut reply.out, Bytes::from_vec(text)),
+        Head::OutHas if text.is_empty() => Err(CaseFault::NoLines),
+        Head::OutHas => {
+            reply.parts.push(Bytes::from_vec(text))?;
+            Ok(())
+        }
+        Head::Fails(device, call) => put_failing(&mut reply.faulty, device, call),
         _ => Err(CaseFault::NotAlone),
     }
 }
@@ -87,28 +137,59 @@ fn put_failing(faulty: &mut Faulty, device: Device, call: u64) -> Result<(), Cas
     Ok(())
 }
 
-// The question of a draft, where it asks one thing.
+// The question of chains, of each of which something is asked.
+fn chains_question(draft: Draft) -> Result<Question, CaseFault> {
+    let Draft {
+        files,
+        words,
+        reply,
+        asked,
+        shown,
+        chains,
+    } = draft;
+    if words.is_some()
+        || asked.is_some()
+        || shown.is_some()
+        || reply.is_begun
+        || !files.is_empty()
+    {
+        return Err(CaseFault::DocsNotAlone);
+    }
+    if chains.iter().any(|chain| chain.wanted.is_empty()) {
+        return Err(CaseFault::NothingAsked);
+    }
+    Ok(Question::Chains(chains))
+}
+
+// The question of a draft without chains, where it asks one thing.
 fn finish(alloc: Global, draft: Draft) -> Result<Question, CaseFault> {
     let Draft {
         files,
         words,
         reply,
-        faulty,
+        asked,
         shown,
+        chains: _,
     } = draft;
-    match (words, shown) {
-        (Some(words), None) => Ok(Question::Run {
-            files,
-            words,
-            faulty,
-            reply: reply_of(alloc, reply)?,
-        }),
-        (None, Some((shown, wanted))) if !has_reply(&reply, &faulty) => Ok(Question::Shown {
+    match (words, asked, shown) {
+        (None, None, None) => Err(CaseFault::NothingAsked),
+        (Some(words), None, None) => run_question(alloc, files, words, reply),
+        (None, Some(asked), Some((Shown::Patterns(over), wanted)))
+            if files.is_empty() && !reply.is_begun => {
+            Ok(Question::Patterns {
+                over,
+                asked,
+                wanted,
+            })
+        }
+        (None, None, Some((Shown::Values, wanted))) if files.is_empty() && !reply.is_begun => {
+            Ok(Question::Values { wanted })
+        }
+        (None, None, Some((shown, wanted))) if !reply.is_begun => Ok(Question::Shown {
             file: only_file(files)?,
             shown,
             wanted,
         }),
-        (None, None) => Err(CaseFault::NothingAsked),
         _ => Err(CaseFault::NotAlone),
     }
 }
@@ -122,24 +203,20 @@ fn only_file(files: Files) -> Result<Bytes, CaseFault> {
     }
 }
 
-// Whether something is said of a reply.
-fn has_reply(reply: &ReplyDraft, faulty: &Faulty) -> bool {
-    reply.code.is_some()
-        || reply.note.is_some()
-        || reply.out.is_some()
-        || !reply.parts.is_empty()
-        || !faulty.shelf.is_empty()
-        || !faulty.out.is_empty()
-        || !faulty.note.is_empty()
-}
-
-// The reply that is wanted. What is left out is nothing.
-fn reply_of(alloc: Global, draft: ReplyDraft) -> Result<Reply, CaseFault> {
+// The run whose reply is wanted. What is left out of that is nothing.
+fn run_question(
+    alloc: Global,
+    files: Files,
+    words: Words,
+    draft: ReplyDraft,
+) -> Result<Question, CaseFault> {
     let ReplyDraft {
         code,
         note,
         out,
         parts,
+        faulty,
+        is_begun: _,
     } = draft;
     let Some(code) = code else {
         return Err(CaseFault::NoCode);
@@ -149,10 +226,12 @@ fn reply_of(alloc: Global, draft: ReplyDraft) -> Result<Reply, CaseFault> {
         None if !parts.is_empty() => Wanted::Holding(parts),
         out => whole_of(alloc, out),
     };
-    Ok(Reply {
-        code,
-        note: whole_of(alloc, note),
-        out,
+    let note = whole_of(alloc, note);
+    Ok(Question::Run {
+        files,
+        words,
+        faulty,
+        reply: Reply { code, note, out },
     })
 }
 

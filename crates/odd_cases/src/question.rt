@@ -1,5 +1,6 @@
 use odd_base::{Calls, Files};
-use odd_case_files::Shown;
+use odd_case_files::{Asked, Over, Shown};
+use odd_chain::OddDocs;
 use odd_text::{Bytes, Words};
 
 /// Bytes that are written, or the parts that they must have.
@@ -27,7 +28,14 @@ pub struct Faulty {
     pub note: Calls,
 }
 
-/// What is asked of files, and what must be answered.
+/// Docs in their order, and what must be answered of them.
+#[derive(Drop)]
+pub struct Chain {
+    pub docs: OddDocs,
+    pub wanted: Vec<(Asked, Bytes)>,
+}
+
+/// What is asked, and what must be answered.
 #[derive(Drop)]
 pub enum Question {
     /// A run with these words over the files.
@@ -43,4 +51,16 @@ pub enum Question {
         shown: Shown,
         wanted: Bytes,
     },
+    /// Which of the words the patterns match, with which the lines begin.
+    Patterns {
+        over: Over,
+        asked: Words,
+        wanted: Bytes,
+    },
+    /// What is told of values, with which the lines begin.
+    Values {
+        wanted: Bytes,
+    },
+    /// What is answered of the docs of each chain.
+    Chains(Vec<Chain>),
 }

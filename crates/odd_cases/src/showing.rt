@@ -1,14 +1,16 @@
-use odd_case_files::{Shown, add_content, add_name};
+use crate::contents::{add_content, add_name};
+use crate::libraries::add_words;
+use odd_case_files::{CaseFault, Shown};
 use odd_content::{ContentRefusal, read_content};
 use odd_forms::Element;
-use odd_members::{Membership, read_classes};
+use odd_library::{Membership, read_classes};
 use odd_reader::read_tree;
 use odd_text::{NoMemory, Text};
 use odd_tree::{Node, Tree, elements};
 use std::alloc::Global;
 
 /// A file, as this of it is shown.
-pub fn shown_text(alloc: Global, shown: Shown, bytes: &[u8]) -> Result<Text, NoMemory> {
+pub fn shown_text(alloc: Global, shown: Shown, bytes: &[u8]) -> Result<Text, CaseFault> {
     let mut out = Text::new(alloc);
     match read_tree(alloc, bytes) {
         Ok(tree) => add_shown(alloc, &mut out, shown, &tree)?,
@@ -17,12 +19,19 @@ pub fn shown_text(alloc: Global, shown: Shown, bytes: &[u8]) -> Result<Text, NoM
     Ok(out)
 }
 
-fn add_shown(alloc: Global, out: &mut Text, shown: Shown, tree: &Tree) -> Result<(), NoMemory> {
+fn add_shown(alloc: Global, out: &mut Text, shown: Shown, tree: &Tree) -> Result<(), CaseFault> {
     match shown {
-        Shown::Tree => add_tree(alloc, out, tree),
-        Shown::Content => add_content_of(alloc, out, tree),
-        Shown::Classes => add_classes_of(alloc, out, tree),
+        Shown::Tree => add_tree(alloc, out, tree)?,
+        Shown::Content => add_content_of(alloc, out, tree)?,
+        Shown::Classes => add_classes_of(alloc, out, tree)?,
+        Shown::Patterns(_) | Shown::Values => return Err(CaseFault::NotAlone),
     }
+    Ok(())
+}
+
+/// Puts the rule that something breaks.
+pub fn add_rule(alloc: Global, out: &mut Text, rule: u8) -> Result<(), NoMemory> {
+    out.push_str(format!(in alloc; "rule {rule}")?.as_str())
 }
 
 // Puts what the first child of a root says as a `content`.
@@ -32,9 +41,7 @@ fn add_content_of(alloc: Global, out: &mut Text, root: &Tree) -> Result<(), NoMe
     };
     match read_content(alloc, child, &root.binds) {
         Ok(content) => add_content(alloc, out, &content),
-        Err(ContentRefusal::Rule(rule)) => {
-            out.push_str(format!(in alloc; "rule {rule}")?.as_str())
-        }
+        Err(ContentRefusal::Rule(rule)) => add_rule(alloc, out, rule),
         Err(ContentRefusal::NoMemory) => Err(NoMemory),
     }
 }
@@ -47,7 +54,7 @@ fn add_classes_of(alloc: Global, out: &mut Text, root: &Tree) -> Result<(), NoMe
     };
     let read = read_classes(alloc, form, root)?;
     match (read.fault, &read.classes) {
-        (Some(rule), _) => out.push_str(format!(in alloc; "rule {rule}")?.as_str()),
+        (Some(rule), _) => add_rule(alloc, out, rule),
         (None, Some(membership)) => add_membership(out, membership),
         (None, None) => out.push_str("none"),
     }
@@ -58,10 +65,7 @@ fn add_membership(out: &mut Text, membership: &Membership) -> Result<(), NoMemor
     match membership {
         Membership::Replace(words) => {
             out.push_str("replace")?;
-            for word in words.as_slice() {
-                out.push(' ')?;
-                out.push_str(word.as_str())?;
-            }
+            add_words(out, words)
         }
         Membership::Change(marks) => {
             out.push_str("change")?;
@@ -69,9 +73,9 @@ fn add_membership(out: &mut Text, membership: &Membership) -> Result<(), NoMemor
                 out.push_str(if *is_added { " +" } else { " -" })?;
                 out.push_str(word.as_str())?;
             }
+            Ok(())
         }
     }
-    Ok(())
 }
 
 // Puts a tree: the tag of its root, and its children in parentheses, a text in apostrophes.

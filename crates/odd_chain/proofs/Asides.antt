@@ -6,7 +6,7 @@ use Rattle.odd_decls.specs.Declares.{Declares}
 use Rattle.odd_library.specs.declared.odd.OddDoc.{OddDoc}
 use Rattle.odd_text.specs.Count.{last_count}
 use Rattle.odd_text.specs.declared.offence.Offence.{Offence}
-use Rattle.odd_tree.proofs.InList.{ends}
+use Rattle.odd_text.proofs.InList.{ends}
 use Rattle.odd_tree.specs.declared.tree.Tree.{Tree}
 use Rattle.odd_chain.proofs.Merged.{one_docs}
 use Rattle.odd_chain.specs.Files.{AreDeclared, all_asides, more}

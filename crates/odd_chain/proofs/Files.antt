@@ -5,7 +5,7 @@ use Rattle.std.specs.declared.cmp.Ordering.TheVariants.{Less, Equal, Greater}
 use Rattle.odd_decls.proofs.ReadWith.{declared_sound}
 use Rattle.odd_decls.specs.Declares.{Declares}
 use Rattle.odd_decls.specs.Offences.{HasOffence}
-use Rattle.odd_forms.proofs.SetOf.{turned}
+use Rattle.odd_text.proofs.SetOf.{turned}
 use Rattle.odd_library.proofs.OffenceOrder.{neither_after}
 use Rattle.odd_library.specs.declared.library.Library.{Library}
 use Rattle.odd_library.specs.declared.odd.OddDoc.{OddDoc}
@@ -16,7 +16,7 @@ use Rattle.odd_text.specs.Key.{key_cmp}
 use Rattle.odd_text.specs.KeyOrder.{key_exact, key_total}
 use Rattle.odd_text.specs.declared.key.Key.{Key}
 use Rattle.odd_text.specs.declared.offence.Offence.{Offence}
-use Rattle.odd_tree.proofs.InList.{nothing_stands}
+use Rattle.odd_text.proofs.InList.{nothing_stands}
 use Rattle.odd_tree.specs.declared.tree.Tree.{Tree}
 use Rattle.odd_chain.proofs.Merged.{DeclareFirst, as_many, first_declared, no_more_declared, stands_after, number_within, one_docs}
 use Rattle.odd_chain.specs.Files.{AreDeclared, ChainOffends, Gives, IsChainRefusal, of_doc, of_form}

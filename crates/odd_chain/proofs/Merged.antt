@@ -14,7 +14,7 @@ use Rattle.odd_modes.specs.After.{IsLibraryAfter}
 use Rattle.odd_modes.specs.Offences.{IsFirstOffence, Offends}
 use Rattle.odd_text.specs.declared.key.Key.{Key}
 use Rattle.odd_text.specs.declared.offence.Offence.{Offence}
-use Rattle.odd_tree.proofs.InList.{begins, ends}
+use Rattle.odd_text.proofs.InList.{begins, ends}
 use Rattle.odd_tree.specs.declared.tree.Tree.{Tree}
 use Rattle.odd_chain.specs.Files.{AreDeclared, more, none}
 use Rattle.odd_chain.specs.Offences.{OffendsIn, of_item, of_library}

@@ -16,8 +16,8 @@ use Rattle.odd_modes.proofs.HeldEntries.{one_library}
 use Rattle.odd_modes.specs.After.{IsLibraryAfter}
 use Rattle.odd_modes.specs.Offences.{ItemFault, Offends, ReferenceFault, SpecFault}
 use Rattle.odd_text.specs.declared.key.Key.{Key}
-use Rattle.odd_tree.proofs.InList.{first_or_later, nothing_stands}
-use Rattle.odd_tree.specs.Elements.{StandsIn}
+use Rattle.odd_text.proofs.InList.{first_or_later, nothing_stands}
+use Rattle.odd_text.specs.Standing.{StandsIn}
 use Rattle.odd_chain.specs.Base.{SpellsBase}
 use Rattle.odd_chain.specs.Offences.{OffendsIn, of_item, of_library}
 use Rattle.odd_chain.specs.Order.{Position}

@@ -2,14 +2,15 @@
 use Rattle.std.proofs.Common.{◌≡◌, ℕ, true, false, List, [], refl, sym, ap, subst, codes}
 use Rattle.std.proofs.lemmas.Bool.{and_from, and_parts}
 use Rattle.odd_text.specs.declared.name.Bind.{Bind}
-use Rattle.odd_tokens.specs.Same.{is_same}
-use Rattle.odd_tree.proofs.InList.{standing, stands_first, stands_later}
+use Rattle.odd_text.specs.Same.{is_same}
+use Rattle.odd_text.proofs.InList.{standing, stands_first, stands_later}
 use Rattle.odd_tree.proofs.PrintedTrees.{same_from}
-use Rattle.odd_tree.specs.Elements.{StandsIn, children_of, within}
+use Rattle.odd_text.specs.Standing.{StandsIn}
+use Rattle.odd_tree.specs.Elements.{children_of, within}
 use Rattle.odd_tree.specs.Formed.{IsFormed}
 use Rattle.odd_tree.specs.declared.tree.Tree.{Tree, out-Tree}
 use Rattle.odd_forms.proofs.Children.{one_named}
-use Rattle.odd_forms.proofs.Least.{any_stands}
+use Rattle.odd_text.proofs.Least.{any_stands}
 use Rattle.odd_forms.specs.Deep.{DeepFault, is_level, left_inside}
 use Rattle.odd_forms.specs.Faults.{ChildFault, FormFault}
 use Rattle.odd_forms.specs.Names.{is_one_of}

@@ -10,8 +10,8 @@ use Rattle.odd_library.specs.declared.library.OtherPart.{OtherPart}
 use Rattle.odd_meaning.specs.Data.{AreDataBy, HasPart, IsDataBy, IsLeast, IsWithin, OfMacros, OneReachesBy, ReachesBy}
 use Rattle.odd_meaning.specs.Links.{macro_key, named_in, named_in_parts}
 use Rattle.odd_text.specs.Key.{key_cmp}
-use Rattle.odd_tree.proofs.InList.{first_or_later, nothing_stands, stands_first, stands_later}
-use Rattle.odd_tree.specs.Elements.{StandsIn}
+use Rattle.odd_text.proofs.InList.{first_or_later, nothing_stands, stands_first, stands_later}
+use Rattle.odd_text.specs.Standing.{StandsIn}
 use Rattle.rng_types.specs.declared.bounds.Bounds.{Bounds}
 
 -- what stands in a list stands in it and another

@@ -5,8 +5,8 @@ use Rattle.std.specs.Prelude.{IsTrue}
 use Rattle.odd_content.specs.Formed.{once}
 use Rattle.odd_content.specs.declared.content.Content.{Content, Sequence, Alternate}
 use Rattle.odd_meaning.specs.Data.{IsDataBy, ReachesBy}
-use Rattle.odd_tree.proofs.InList.{nothing_stands, once_push, stands_first, stands_push}
-use Rattle.odd_tree.specs.Elements.{StandsIn}
+use Rattle.odd_text.proofs.InList.{nothing_stands, once_push, stands_first, stands_push}
+use Rattle.odd_text.specs.Standing.{StandsIn}
 use Rattle.rng_types.specs.declared.bounds.Bounds.{Bounds}
 use Rattle.odd_classes.proofs.DataLaws.{alternate_data, alternate_reaches, sequence_reaches}
 use Rattle.odd_classes.specs.DataFacts.{Facts, HasFacts, HasFactsOfParts, TellsData, TellsReaches}

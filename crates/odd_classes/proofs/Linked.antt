@@ -11,7 +11,7 @@ use Rattle.std.specs.FinMap.{find, is_sorted}
 use Rattle.std.specs.List.{Contains}
 use Rattle.std.specs.Prelude.{IsTrue, IsSome, option_map, slice_get}
 use Rattle.std.specs.declared.cmp.Ordering.{Ordering}
-use Rattle.odd_forms.specs.Sorted.{IsSet}
+use Rattle.odd_text.specs.Sorted.{IsSet}
 use Rattle.odd_graph.proofs.Chains.{chained_along, first_step, chained_back, last_step}
 use Rattle.odd_graph.specs.Graph.{Chained, HasArrow, Leads, IsFirstOnCycle}
 use Rattle.odd_library.specs.Odd.{element_key}
@@ -23,8 +23,8 @@ use Rattle.odd_meaning.specs.Links.{IsLinked, class_key, classes_of}
 use Rattle.odd_text.specs.Key.{key_cmp}
 use Rattle.odd_text.specs.KeyOrder.{key_total}
 use Rattle.odd_text.specs.declared.key.Key.{Key}
-use Rattle.odd_tree.proofs.InList.{nothing_stands, ends, once_push}
-use Rattle.odd_tree.specs.Elements.{StandsIn}
+use Rattle.odd_text.proofs.InList.{nothing_stands, ends, once_push}
+use Rattle.odd_text.specs.Standing.{StandsIn}
 use Rattle.odd_classes.proofs.Places.{entry_held, held_at, one_place, places_rise, both_more, none_more, entry_here}
 use Rattle.odd_classes.specs.Placing.{IsEntryAt, IsGraphOf, IsFirstAmong, ArePlacesOf, IsPlaceOf, IsReachedFrom, IsTurnedGraphOf}
 

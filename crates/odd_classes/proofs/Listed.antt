@@ -12,8 +12,8 @@ use Rattle.std.specs.List.{Contains}
 use Rattle.std.specs.Prelude.{slice_get, sum_by, IsTrue}
 use Rattle.std.specs.declared.cmp.Ordering.{Ordering}
 use Rattle.std.specs.declared.cmp.Ordering.TheVariants.{Less}
-use Rattle.odd_forms.proofs.SetOf.{first_below, not_below, rest_rising, none_rising, rising_more}
-use Rattle.odd_forms.specs.Sorted.{AreRising, IsSet}
+use Rattle.odd_text.proofs.SetOf.{first_below, not_below, rest_rising, none_rising, rising_more}
+use Rattle.odd_text.specs.Sorted.{AreRising, IsSet}
 use Rattle.odd_graph.proofs.OneMore.{contains_next, stands_at}
 use Rattle.odd_graph.specs.Graph.{Leads, StandOnce}
 use Rattle.odd_library.specs.Odd.{element_key}
@@ -26,8 +26,8 @@ use Rattle.odd_meaning.specs.Links.{class_key, classes_of}
 use Rattle.odd_text.specs.Key.{key_cmp}
 use Rattle.odd_text.specs.Text.{text_cmp}
 use Rattle.odd_text.specs.declared.key.Key.{Key}
-use Rattle.odd_tree.proofs.InList.{first_or_later, nothing_stands, stands_first, stands_later, stands_push}
-use Rattle.odd_tree.specs.Elements.{StandsIn}
+use Rattle.odd_text.proofs.InList.{first_or_later, nothing_stands, stands_first, stands_later, stands_push}
+use Rattle.odd_text.specs.Standing.{StandsIn}
 use Rattle.odd_classes.proofs.Linked.{no_set, set_same, chains_agree}
 use Rattle.odd_classes.proofs.Places.{places_rise, entry_held, held_at}
 use Rattle.odd_classes.specs.Listing.{AreModelLists, HasListed, IsListedBefore, IsModelAt, IsModelAmong, AreListed, AreListsOf}

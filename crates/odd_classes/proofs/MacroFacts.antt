@@ -20,8 +20,8 @@ use Rattle.odd_text.specs.Key.{key_cmp}
 use Rattle.odd_text.specs.Map.{SetsOnly}
 use Rattle.odd_text.specs.Text.{text_cmp}
 use Rattle.odd_text.specs.declared.key.Key.{Key}
-use Rattle.odd_tree.proofs.InList.{begins, ends, nothing_stands, stands_push}
-use Rattle.odd_tree.specs.Elements.{StandsIn}
+use Rattle.odd_text.proofs.InList.{begins, ends, nothing_stands, stands_push}
+use Rattle.odd_text.specs.Standing.{StandsIn}
 use Rattle.odd_classes.proofs.OfKind.{stands_among}
 use Rattle.odd_classes.proofs.DataLaws.{IsByNamed, data_by, macro_data, macro_reaches, reaches_by}
 use Rattle.odd_classes.specs.DataFacts.{AreFactsOf, Facts, HasFacts, TellsData, TellsReaches}

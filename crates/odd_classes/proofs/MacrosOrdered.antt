@@ -14,8 +14,8 @@ use Rattle.odd_meaning.specs.Links.{IsLinked, macro_key, macros_of, named_by}
 use Rattle.odd_text.specs.Key.{key_cmp}
 use Rattle.odd_text.specs.declared.key.Key.{Key}
 use Rattle.odd_text.specs.declared.key.Kind.TheVariants as kind
-use Rattle.odd_tree.proofs.InList.{contained, StandsOnce, after, before, begins, ends, here, nothing_stands, once_push, standing, stands_around, stands_push}
-use Rattle.odd_tree.specs.Elements.{StandsIn}
+use Rattle.odd_text.proofs.InList.{contained, StandsOnce, after, before, begins, ends, here, nothing_stands, once_push, standing, stands_around, stands_push}
+use Rattle.odd_text.specs.Standing.{StandsIn}
 use Rattle.odd_classes.proofs.Linked.{chain_linked, chains_agree, linked_chain, held, link_arrow, one_key_at}
 use Rattle.odd_classes.proofs.OnCycles.{macro_among}
 use Rattle.odd_classes.proofs.Places.{both_more, none_more, entry_held, held_at, one_place}

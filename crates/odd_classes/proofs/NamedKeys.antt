@@ -11,7 +11,7 @@ use Rattle.odd_content.specs.declared.content.Content.{Content, Sequence, Altern
 use Rattle.odd_content.specs.declared.content.Content.TheBlock.{hidden-the_row-Content-0}
 use Rattle.odd_meaning.specs.Links.{named_by_datatype, named_by_edit, named_by_edits, named_in, named_in_parts}
 use Rattle.odd_text.specs.declared.key.Key.{Key}
-use Rattle.odd_tree.proofs.InList.{ends}
+use Rattle.odd_text.proofs.InList.{ends}
 use Rattle.rng_types.specs.declared.bounds.Bounds.{Bounds}
 use Rattle.odd_classes.specs.Placing.{datatype_in, is_of_kind, those_of}
 use Rattle.odd_classes.proofs.OfKind.{filter_each}

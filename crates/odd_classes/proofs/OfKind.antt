@@ -2,8 +2,8 @@
 use Rattle.std.proofs.Common.{◌≡◌, ◌++◌, ◌∷◌, inl, inr, Bool, List, [], cond, flat_map, filter, refl, ap, sym, ◌∙◌}
 use Rattle.std.proofs.lemmas.List.Elements.{All-contains, filter-append, filter_passes}
 use Rattle.std.specs.Prelude.{true, false}
-use Rattle.odd_tree.proofs.InList.{contained, first_or_later, nothing_stands, stands_later}
-use Rattle.odd_tree.specs.Elements.{StandsIn}
+use Rattle.odd_text.proofs.InList.{contained, first_or_later, nothing_stands, stands_later}
+use Rattle.odd_text.specs.Standing.{StandsIn}
 
 module _ {X : Type 0} (test : X → Bool) where
   -- what passes stands among those that pass

@@ -5,15 +5,15 @@ use Rattle.std.specs.FinMap.{find, is_sorted, slice_cmp-IsAntisymmetric, nat_cmp
 use Rattle.std.specs.Prelude.{IsTrue}
 use Rattle.std.specs.declared.cmp.Ordering.{Ordering}
 use Rattle.std.specs.declared.cmp.Ordering.TheVariants.{Less}
-use Rattle.odd_forms.specs.Sorted.{AreRising, IsSet}
+use Rattle.odd_text.specs.Sorted.{AreRising, IsSet}
 use Rattle.odd_library.specs.declared.library.Library.{Library}
 use Rattle.odd_offers.proofs.Named.{cut_map, found_in, rise_in}
 use Rattle.odd_offers.specs.Answers.{AreGivensOf}
 use Rattle.odd_offers.specs.declared.given.Given.{Given}
 use Rattle.odd_text.proofs.Entries.{as_T, found_contained}
 use Rattle.odd_text.specs.Text.{text_cmp}
-use Rattle.odd_tree.proofs.InList.{map_stands, standing, stands_map}
-use Rattle.odd_tree.specs.Elements.{StandsIn}
+use Rattle.odd_text.proofs.InList.{map_stands, standing, stands_map}
+use Rattle.odd_text.specs.Standing.{StandsIn}
 use Rattle.odd_classes.specs.Offered.{IsOfferOfOne, offer_cmp, offers_of}
 use Rattle.odd_classes.specs.declared.offering.Offer.{Offer}
 

@@ -1,6 +1,6 @@
 -- What is given at each ident, as a list of idents and definitions, with no word of who gives them.
 use Rattle.std.proofs.Common.{ℕ, List, map, ap}
-use Rattle.odd_forms.specs.Sorted.{IsSet}
+use Rattle.odd_text.specs.Sorted.{IsSet}
 use Rattle.odd_library.specs.declared.library.Library.{Library}
 use Rattle.odd_meaning.specs.Offering.{OffersOne, giver_key, offer_cmp}
 use Rattle.odd_offers.specs.Answers.{AreGivensOf}

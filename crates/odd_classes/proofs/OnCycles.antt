@@ -11,8 +11,8 @@ use Rattle.odd_text.specs.Key.{key_cmp}
 use Rattle.odd_text.specs.declared.key.Key.{Key}
 use Rattle.odd_text.specs.declared.key.Kind.{Kind}
 use Rattle.odd_text.specs.declared.key.Kind.TheVariants as kind
-use Rattle.odd_tree.proofs.InList.{contained}
-use Rattle.odd_tree.specs.Elements.{StandsIn}
+use Rattle.odd_text.proofs.InList.{contained}
+use Rattle.odd_text.specs.Standing.{StandsIn}
 use Rattle.odd_classes.proofs.OfKind.{among_passes}
 use Rattle.odd_classes.specs.Placing.{IsFirstAmong, LeadsToItself}
 use Rattle.odd_classes.specs.declared.links.Link.TheVariants as link

@@ -18,8 +18,8 @@ use Rattle.odd_offers.specs.Tables.{HaveAll, IsInherited, IsTableOf, Table, Tell
 use Rattle.odd_text.specs.Key.{key_cmp}
 use Rattle.odd_text.specs.Text.{text_cmp}
 use Rattle.odd_text.specs.declared.key.Key.{Key}
-use Rattle.odd_tree.proofs.InList.{begins, map_stands, stands_map}
-use Rattle.odd_tree.specs.Elements.{StandsIn}
+use Rattle.odd_text.proofs.InList.{begins, map_stands, stands_map}
+use Rattle.odd_text.specs.Standing.{StandsIn}
 use Rattle.odd_classes.proofs.LastUses.{node_in_front}
 use Rattle.odd_classes.proofs.Linked.{held}
 use Rattle.odd_classes.proofs.Places.{held_at}

@@ -8,7 +8,7 @@ use Rattle.std.specs.FinMap.{is_sorted, nat_cmp-IsAntisymmetric, slice_cmp-IsAnt
 use Rattle.std.specs.List.{Contains}
 use Rattle.std.specs.Ordering.{eq_by_cmp}
 use Rattle.std.specs.Prelude.{IsTrue, slice_get, sum_by}
-use Rattle.odd_forms.specs.Sorted.{AreRising, IsSet}
+use Rattle.odd_text.specs.Sorted.{AreRising, IsSet}
 use Rattle.odd_graph.proofs.OneMore.{contains_next}
 use Rattle.odd_library.specs.Odd.{element_key}
 use Rattle.odd_library.specs.declared.library.Component.{Component}
@@ -23,8 +23,8 @@ use Rattle.odd_text.specs.Text.{text_cmp}
 use Rattle.odd_text.specs.declared.key.Key.{Key}
 use Rattle.odd_text.specs.declared.key.Kind.{Kind}
 use Rattle.odd_text.specs.declared.key.Kind.TheVariants as kind
-use Rattle.odd_tree.proofs.InList.{stands_push}
-use Rattle.odd_tree.specs.Elements.{StandsIn}
+use Rattle.odd_text.proofs.InList.{stands_push}
+use Rattle.odd_text.specs.Standing.{StandsIn}
 use Rattle.odd_classes.proofs.Listed.{part_no_longer, sums_le}
 use Rattle.odd_classes.proofs.Places.{IsFilled, filled_more, filled_none, one_place, entry_held, held_at, model_or_not, both_more, none_more}
 use Rattle.odd_classes.specs.Listing.{IsModelAt, IsTableOf, AreListed, AreListsOf}

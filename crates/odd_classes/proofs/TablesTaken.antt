@@ -5,7 +5,7 @@ use Rattle.std.proofs.lemmas.Option.{same_Some, slice_get_within}
 use Rattle.std.specs.List.{Contains}
 use Rattle.odd_graph.proofs.OneMore.{contains_next}
 use Rattle.odd_offers.specs.Tables.{Table}
-use Rattle.odd_tree.proofs.InList.{stands_push}
+use Rattle.odd_text.proofs.InList.{stands_push}
 use Rattle.odd_classes.specs.Inheriting.{AreLeft, AreTablesAt, HasTable}
 
 -- the tables of some nodes were made, and those are gone alone that are of these and no longer needed

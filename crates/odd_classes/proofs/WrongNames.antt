@@ -10,7 +10,7 @@ use Rattle.odd_text.specs.Key.{key_cmp}
 use Rattle.odd_text.specs.declared.key.Key.{Key}
 use Rattle.odd_text.specs.declared.key.Kind.TheVariants as kind
 use Rattle.odd_classes.proofs.OfKind.{among_all, stands_among}
-use Rattle.odd_tree.proofs.InList.{StandsOnce}
+use Rattle.odd_text.proofs.InList.{StandsOnce}
 use Rattle.odd_classes.specs.Placing.{IsWrong, NamesWrongly, is_of_kind, kind_of, rule_of, those_of}
 use Rattle.odd_classes.specs.declared.rules.WrongReference.{WrongReference}
 use Rattle.odd_classes.specs.declared.rules.WrongReference.TheVariants as wrong

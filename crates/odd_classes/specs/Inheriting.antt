@@ -5,7 +5,7 @@ use Rattle.std.specs.List.{Contains}
 use Rattle.odd_text.specs.Key.{key_cmp}
 use Rattle.odd_graph.specs.Graph.{HasArrow}
 use Rattle.odd_graph.specs.Ordering.{IsApart, IsOrder}
-use Rattle.odd_tree.specs.Elements.{StandsIn}
+use Rattle.odd_text.specs.Standing.{StandsIn}
 use Rattle.odd_library.specs.Odd.{element_key}
 use Rattle.odd_library.specs.declared.library.Component.{Component}
 use Rattle.odd_library.specs.declared.library.Library.{Library}

@@ -5,8 +5,8 @@ use Rattle.std.specs.List.{Contains}
 use Rattle.odd_text.specs.Text.{text_cmp}
 use Rattle.odd_text.specs.declared.key.Key.{Key}
 use Rattle.odd_graph.specs.Graph.{Leads}
-use Rattle.odd_tree.specs.Elements.{StandsIn}
-use Rattle.odd_forms.specs.Sorted.{AreRising, IsSet}
+use Rattle.odd_text.specs.Standing.{StandsIn}
+use Rattle.odd_text.specs.Sorted.{AreRising, IsSet}
 use Rattle.odd_library.specs.Odd.{element_key}
 use Rattle.odd_library.specs.declared.library.ClassPart.{ClassPart}
 use Rattle.odd_library.specs.declared.library.Component.{Component}

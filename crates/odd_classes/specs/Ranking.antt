@@ -1,6 +1,6 @@
 -- Macros in an order in which each stands after those that its content names.
 use Rattle.std.specs.Prelude.{◌≡◌, ◌↔◌, ◌⊎◌, ℕ, List, ◌∷◌, ◌++◌}
-use Rattle.odd_tree.specs.Elements.{StandsIn}
+use Rattle.odd_text.specs.Standing.{StandsIn}
 use Rattle.odd_library.specs.declared.library.Library.{Library}
 use Rattle.odd_meaning.specs.Classes.{Reaches}
 use Rattle.odd_meaning.specs.Links.{IsHeld, IsLinked, macro_key, macros_of}

@@ -1,22 +1,21 @@
 ghost use Rattle.std.specs.Prelude.{◌≡◌, ◌↔◌, ℕ, List, IfOk, IsTrue};
 ghost use Rattle.std.specs.List.{Contains};
 ghost use Rattle.odd_text.specs.Text.{text_cmp};
-ghost use Rattle.odd_forms.specs.Sorted.{IsSet};
+ghost use Rattle.odd_text.specs.Sorted.{IsSet};
 ghost use Rattle.odd_library.specs.Odd.{element_key as the_element_key};
 ghost use Rattle.odd_library.specs.declared.library.Component.TheVariants as the_component;
 ghost use Rattle.odd_library.specs.declared.library.ElementPart.{ElementPart as AnElementPart};
 ghost use Rattle.odd_meaning.specs.Classes.{IsElementOf, IsMember};
 ghost use Rattle.odd_meaning.specs.Links.{class_key as the_class_key};
-ghost use Rattle.odd_tree.specs.Elements.{StandsIn};
+ghost use Rattle.odd_text.specs.Standing.{StandsIn};
 ghost use Rattle.odd_classes.specs.Placing.{IsEntryAt, IsIdentAt};
 
 use crate::graph::{graph_by, place_of, turned_by};
 use crate::links::Link;
 use crate::offering::element_key;
-use odd_forms::sorted;
 use odd_graph::{reached, unmarked};
 use odd_library::{Component, Library};
-use odd_text::{Key, Kind, NoMemory, Text, TryCopy, Words};
+use odd_text::{Key, Kind, NoMemory, Text, TryCopy, Words, sorted};
 use std::alloc::Global;
 
 /// The idents of the elements that are members of a class, by their own memberships or through classes of classes (TEI

@@ -3,7 +3,7 @@ ghost use Rattle.std.specs.FinMap.{find, is_sorted};
 ghost use Rattle.std.specs.List.{Contains};
 ghost use Rattle.odd_text.specs.Key.{key_cmp};
 ghost use Rattle.odd_text.specs.declared.key.Key.{Key as AKey};
-ghost use Rattle.odd_forms.specs.Sorted.{IsSet};
+ghost use Rattle.odd_text.specs.Sorted.{IsSet};
 ghost use Rattle.odd_library.specs.Odd.{element_key as the_element_key};
 ghost use Rattle.odd_meaning.specs.Rules.{Breaks, BreaksOffering, BreaksWithin, IsFirstBreak, IsLeastOffering};
 ghost use Rattle.odd_classes.specs.Inheriting.{IsElementAt, IsInheritedAt};

@@ -1,6 +1,6 @@
 ghost use Rattle.std.specs.Prelude.{◌≡◌, ◌↔◌, ℕ, Err, IfOk, IsOk, IsTrue};
 ghost use Rattle.odd_text.specs.declared.key.Key.{Key as AKey};
-ghost use Rattle.odd_tree.specs.Elements.{StandsIn};
+ghost use Rattle.odd_text.specs.Standing.{StandsIn};
 ghost use Rattle.odd_library.specs.declared.library.ClassPart.{ClassPart as AClassPart};
 ghost use Rattle.odd_library.specs.declared.library.Component.TheVariants as the_component;
 ghost use Rattle.odd_meaning.specs.Links.{named_by};

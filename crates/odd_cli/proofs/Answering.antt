@@ -8,7 +8,7 @@ use Rattle.odd_chain.proofs.Files.{few_docs}
 use Rattle.odd_chain.specs.Reading.{AreFormedDocs, IsChainOf, HasFewDocs}
 use Rattle.odd_chain.specs.declared.chain.Chain.{Chain}
 use Rattle.odd_text.specs.Count.{next_count}
-use Rattle.odd_tree.proofs.InList.{begins, ends}
+use Rattle.odd_text.proofs.InList.{begins, ends}
 use Rattle.odd_tree.specs.Formed.{IsFormed}
 use Rattle.odd_tree.specs.declared.tree.Tree.{Tree}
 use Rattle.odd_cli.proofs.OneReply.{names_one, none_stops, one_chain, words_one, never_done, sound_replies}
@@ -253,6 +253,13 @@ done_gives words files text (done a) = a
 -- the reply has one text
 pub one_text : (words : List (List ℕ)) (files : FileMap) (t u : List ℕ) → Reply words files t status.Done → Reply words files u status.Done → t ≡ u
 one_text words files t u p q = let same = words_one files words (gives t) (gives u) (done_gives words files t p) (done_gives words files u q) in cc
+
+-- and so the reply is one
+pub one_reply : (words : List (List ℕ)) (files : FileMap) (t u : List ℕ) (s r : Status) → Reply words files t s → Reply words files u r → (t ≡ u) × (s ≡ r)
+one_reply words files t u s r (answered a) (answered b) = (refl, one_status words files [] [] s r (answered a) (answered b))
+one_reply words files t u s r (answered a) (done b) = let no = words_one files words (answers s) (gives u) a b in cc
+one_reply words files t u s r (done a) (answered b) = let no = words_one files words (gives t) (answers r) a b in cc
+one_reply words files t u s r (done a) (done b) = (one_text words files t u (done a) (done b), refl)
 
 -- a reply that writes nothing has no text
 pub silent_text : (words : List (List ℕ)) (files : FileMap) (text : List ℕ) (s : Status) → IsSilent s → Reply words files text s → text ≡ []

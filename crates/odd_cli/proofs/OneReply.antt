@@ -12,17 +12,17 @@ use Rattle.compile_defines.specs.Compiled.{HoldsStart}
 use Rattle.odd_base.specs.Shelf.{FileMap, IsTooLong, NotHeld}
 use Rattle.odd_chain.proofs.Files.{gives_one, one_chain_refusal, refused_gives_none}
 use Rattle.odd_chain.specs.Files.{Gives}
-use Rattle.odd_forms.proofs.SetOf.{neither_below}
+use Rattle.odd_text.proofs.SetOf.{neither_below}
 use Rattle.odd_library.specs.declared.library.Library.{Library}
 use Rattle.odd_reader.proofs.Places.{one_depth, one_fault}
 use Rattle.odd_reader.proofs.Refusing.{gives_not_deep, one_tree}
 use Rattle.odd_text.specs.Text.{text_cmp}
-use Rattle.odd_tree.proofs.InList.{Stands, first_or_later, nothing_stands, stands_around}
-use Rattle.odd_tree.specs.Elements.{StandsIn}
+use Rattle.odd_text.proofs.InList.{Stands, first_or_later, nothing_stands, stands_around}
+use Rattle.odd_text.specs.Standing.{StandsIn}
 use Rattle.odd_tree.specs.Spelled.{DepthPlace, IsNotXml, Spells}
 use Rattle.odd_tree.specs.declared.tree.Tree.{Tree}
 use Rattle.rng_grammar.specs.declared.grammar.Grammar.{Grammar}
-use Rattle.odd_account.proofs.OneAccount.{one_account}
+use Rattle.compile_core.proofs.OneAccount.{one_account}
 use Rattle.odd_cli.proofs.Commands.{never_aside, task_once}
 use Rattle.odd_cli.specs.Outcome.{Outcome, Then, IsOne, answers, gives}
 use Rattle.odd_cli.specs.Reading.{IsOfFile, IsOfTrees}
@@ -177,7 +177,7 @@ names_one words o p (named {asked = c} {aside = a} {chain = f} k l) (no_job n) =
 names_one words o p (named {asked = c} {aside = a} {chain = f} k l) (too_many d b g q m) = absurd (many_but words d c b a g f q k m l)
 names_one words o p (named {asked = c} {aside = a} {chain = f} k l) (named {asked = d} {aside = b} {chain = g} q m) = ap gives (one_asked words c d a b f g k q)
 
-reading_one : (files : FileMap) → IsOne (ReadsChain files)
+pub reading_one : (files : FileMap) → IsOne (ReadsChain files)
 reading_one files chain o p (stops {s = s} m name a h) (stops {s = r} n other b k) = ap answers (stops_once files chain m n name other s r a b h k)
 reading_one files chain o p (stops {s = s} n name a h) (all_spelled {trees = ts} g) = absurd (none_stops files chain ts name n s g (a.earlier, a.later, a.parts) h)
 reading_one files chain o p (all_spelled {trees = ts} g) (stops {s = s} n name a h) = absurd (none_stops files chain ts name n s g (a.earlier, a.later, a.parts) h)

@@ -7,8 +7,8 @@ use Rattle.odd_chain.specs.Base.{SpellsBase, StandsFor}
 use Rattle.odd_chain.specs.Files.{Gives}
 use Rattle.odd_library.specs.declared.library.Library.{Library}
 use Rattle.odd_reader.proofs.Formed.{spelled_formed}
-use Rattle.odd_tree.proofs.InList.{first_or_later, nothing_stands, stands_first, stands_later}
-use Rattle.odd_tree.specs.Elements.{StandsIn}
+use Rattle.odd_text.proofs.InList.{first_or_later, nothing_stands, stands_first, stands_later}
+use Rattle.odd_text.specs.Standing.{StandsIn}
 use Rattle.odd_tree.specs.Formed.{IsFormed}
 use Rattle.odd_tree.specs.declared.tree.Tree.{Tree}
 use Rattle.odd_cli.proofs.OneReply.{after, names_one, none_stops, odd_answers, one_asked, one_trees}

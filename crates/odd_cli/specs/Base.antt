@@ -2,7 +2,7 @@
 use Rattle.std.specs.FinMap as map
 use Rattle.std.specs.Prelude.{◌≡◌, ◌≤◌, ◌-◌, ℕ, Bool, true, List, ◌∷◌, ◌++◌, length}
 use Rattle.odd_base.specs.Shelf.{FileMap, Held}
-use Rattle.odd_tree.specs.Elements.{StandsIn}
+use Rattle.odd_text.specs.Standing.{StandsIn}
 use Rattle.odd_chain.specs.Base.{moved}
 use Rattle.odd_cli.specs.Reply.{Reply, chain_files, file_bytes}
 use Rattle.odd_cli.specs.Words.{Asks, Task}

@@ -13,7 +13,7 @@ use Rattle.compile_defines.specs.Compiled.{HoldsStart}
 use Rattle.compile_core.specs.Schema.{HasLargeSchema, IsLeastMissing, IsSchema}
 use Rattle.compile_core.specs.SchemaText.{IsSchemaText}
 use Rattle.odd_emit.specs.Components.{merged_odd}
-use Rattle.odd_account.specs.Account.{IsAccount, IsHeldElement}
+use Rattle.compile_core.specs.Account.{IsAccount, IsHeldElement}
 use Rattle.odd_cli.specs.declared.status.Status.{Status}
 use Rattle.odd_cli.specs.declared.status.Status.TheVariants as status
 use Rattle.odd_cli.specs.declared.status.LimitKind.TheVariants as limit

@@ -3,7 +3,7 @@ use Rattle.std.specs.Prelude.{◌≡◌, ◌↔◌, ◌⊎◌, ◌≤◌, ◌+�
 use Rattle.odd_text.specs.Count.{HasRisen, last_count, next_count}
 use Rattle.odd_base.specs.Shelf.{FileMap, Held, NotHeld, LeavesSuffix}
 use Rattle.odd_library.specs.declared.library.Library.{Library}
-use Rattle.odd_account.specs.Account.{IsAccount, IsHeldElement}
+use Rattle.compile_core.specs.Account.{IsAccount, IsHeldElement}
 use Rattle.odd_tree.specs.declared.tree.Tree.{Tree}
 use Rattle.odd_chain.specs.Base.{SpellsBase}
 use Rattle.odd_chain.specs.Files.{ChainOffends, Gives, HasAsides}

@@ -1,6 +1,6 @@
 -- Which words have a job.
 use Rattle.std.specs.Prelude.{◌≡◌, ◌≢◌, ◌-◌, ℕ, zero, All, Bool, if◌then◌else◌, List, [], ◌∷◌, ◌++◌, codes, length}
-use Rattle.odd_tokens.specs.Same.{is_same}
+use Rattle.odd_text.specs.Same.{is_same}
 use Rattle.odd_cli.specs.declared.words.Command.{Command}
 use Rattle.odd_cli.specs.declared.words.Command.TheVariants as command
 use Rattle.odd_cli.specs.declared.words.Job.{Job}

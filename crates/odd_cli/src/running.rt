@@ -48,7 +48,7 @@ pub fn run<F: Shelf, W: Sink, N: Sink>(
     ensures reply { (files : FileMap) (before : List ℕ) → F.holds shelf.old ≡ Some files → W.written out.old ≡ Some before → IsReplied result → ((text : List ℕ) × (W.written out.new ≡ Some (before ++ text)) × Reply words.now files text result) }
     ensures accepts { (files : FileMap) (before : List ℕ) → F.holds shelf.old ≡ Some files → W.written out.old ≡ Some before → result ≡ Status.Done → ((text : List ℕ) × (W.written out.new ≡ Some (before ++ text)) × AcceptsOfWords words.now files text) }
     ensures base { (files : FileMap) (before : List ℕ) (aside : Bool) (first : List (List ℕ)) → F.holds shelf.old ≡ Some files → W.written out.old ≡ Some before → result ≡ Status.Done → Asks words.now task_is.merge aside first → ((text : List ℕ) × (W.written out.new ≡ Some (before ++ text)) × IsBase files aside first text) }
-    ensures order { (files : FileMap) (before : List ℕ) → F.holds shelf.old ≡ Some files → W.written out.old ≡ Some before → result ≡ Status.Done → ((text : List ℕ) × (W.written out.new ≡ Some (before ++ text)) × IsInAnyOrder files words.now text) }
+    ensures order { (files : FileMap) (before : List ℕ) → F.holds shelf.old ≡ Some files → W.written out.old ≡ Some before → IsReplied result → ((text : List ℕ) × (W.written out.new ≡ Some (before ++ text)) × IsInAnyOrder files words.now text result) }
     ensures usage { (result ≡ Status.Usage) ↔ ((job : AJob) → WordsMean words.now job → ⊥) }
     ensures files { (result ≡ Status.Limit LimitKind.Files) ↔ NamesFiles words.now (answers (Status.Limit LimitKind.Files)) }
     ensures silent { IsSilent result → W.written out.new ≡ W.written out.old }

@@ -14,7 +14,7 @@ ghost use Rattle.odd_cli.specs.Reading.{IsOfTrees};
 ghost use Rattle.odd_cli.specs.Running.{AcceptsAdmitted, IsReplied, Serves, ServesTrees};
 ghost use Rattle.odd_cli.specs.Words as task_is;
 ghost use Rattle.odd_cli.specs.Words.{told};
-ghost use Rattle.odd_account.specs.Account.{IsAccount};
+ghost use Rattle.compile_core.specs.Account.{IsAccount};
 
 use crate::status::{LimitKind, Status};
 use crate::words::Task;

@@ -9,13 +9,13 @@ use Rattle.odd_text.specs.NameOrder.{name_cmp, name_exact}
 use Rattle.odd_text.specs.Text.{text_cmp}
 use Rattle.odd_text.specs.declared.name.Bind.{Bind}
 use Rattle.odd_text.specs.declared.name.Name.{Name}
-use Rattle.odd_tree.specs.Elements.{StandsIn}
-use Rattle.odd_tree.proofs.InList.{StandsOnce, begins, first_or_later, nothing_stands, stands_first, stands_later}
+use Rattle.odd_text.specs.Standing.{StandsIn}
+use Rattle.odd_text.proofs.InList.{StandsOnce, begins, first_or_later, nothing_stands, stands_first, stands_later}
 use Rattle.odd_forms.specs.Excepting.{excepted_of}
-use Rattle.odd_forms.specs.Sorted.{IsSet, set_of}
+use Rattle.odd_text.specs.Sorted.{IsSet, set_of}
 use Rattle.odd_forms.specs.declared.excepted.Excepted.{Excepted}
 use Rattle.odd_forms.specs.declared.excepted.Excepted.TheVariants as excepted
-use Rattle.odd_forms.proofs.SetOf.{one_set, set_of_is, set_same}
+use Rattle.odd_text.proofs.SetOf.{one_set, set_of_is, set_same}
 use Rattle.odd_content.specs.Condition.{IsConditionOf, condition_of, name_of, names_among, space_of, spaces_among}
 use Rattle.odd_content.specs.ConditionOrder.{name_total}
 

@@ -12,9 +12,10 @@ use Rattle.std.proofs.lemmas.List.Sums.{length-filter, sum_by-append, sum_by-con
 use Rattle.std.proofs.lemmas.Option.{same_Some}
 use Rattle.odd_text.specs.declared.name.Bind.{Bind}
 use Rattle.odd_text.specs.declared.name.Name.{Name}
-use Rattle.odd_tokens.specs.Same.{is_same}
-use Rattle.odd_tree.proofs.InList.{stands_first, stands_later}
-use Rattle.odd_tree.specs.Elements.{StandsIn, children_of, given, within}
+use Rattle.odd_text.specs.Same.{is_same}
+use Rattle.odd_text.proofs.InList.{stands_first, stands_later}
+use Rattle.odd_text.specs.Standing.{StandsIn}
+use Rattle.odd_tree.specs.Elements.{children_of, given, within}
 use Rattle.odd_tree.specs.Formed.{IsFormed}
 use Rattle.odd_tree.specs.declared.tree.Tree.{Tree, out-Tree}
 use Rattle.rng_types.specs.declared.item.Item.{Item}
@@ -29,15 +30,15 @@ use Rattle.odd_forms.specs.Form as form
 use Rattle.odd_forms.specs.Names.{HasName, tei, tei_namespace}
 use Rattle.odd_forms.specs.Table.{data_parts, form_at, other_parts, parts}
 use Rattle.odd_forms.specs.Tags.{facets_given}
-use Rattle.odd_forms.specs.Words.{is_among}
+use Rattle.odd_text.specs.Same.{is_among}
 use Rattle.odd_forms.specs.declared.element.Element.{Element}
 use Rattle.odd_forms.specs.declared.element.Element.TheVariants as kind
-use Rattle.odd_data.proofs.Formed.{data_formed}
-use Rattle.odd_data.proofs.FormedTrees.{IsFormedSomewhere, child_formed}
-use Rattle.odd_data.proofs.Unbroken.{IsUnbroken, by_text, child_kept}
-use Rattle.odd_data.specs.Formed.{IsFormedData}
-use Rattle.odd_data.specs.Items.{item_by, item_given}
-use Rattle.odd_data.specs.Occurrence.{bounds_in, maximum_told}
+use Rattle.odd_content.proofs.FormedData.{data_formed}
+use Rattle.odd_content.proofs.FormedTrees.{IsFormedSomewhere, child_formed}
+use Rattle.odd_content.proofs.Unbroken.{IsUnbroken, by_text, child_kept}
+use Rattle.odd_content.specs.FormedData.{IsFormedData}
+use Rattle.odd_content.specs.Items.{item_by, item_given}
+use Rattle.odd_content.specs.Occurrence.{bounds_in, maximum_told}
 use Rattle.odd_content.proofs.EachPart.{AreParts, IsPart, parts_given}
 use Rattle.odd_content.proofs.Formed.{once_formed, parts_counted, parts_listed, values_formed}
 use Rattle.odd_content.specs.Formed.{AreOfData, IsFormedContent, IsFormedWithin, IsOfData, once}

@@ -1,13 +1,15 @@
 -- What a content gives, part by part, for theorems that go by induction over its parts.
 use Rattle.std.proofs.Common.{◌≡◌, ◌<◌, ◌≤◌, ℕ, zero, suc, max, fold, List, [], ◌∷◌, ◌++◌, Option, Some, None, inl, inr, refl, sym, subst, arith, rules, map}
 use Rattle.odd_text.specs.declared.name.Bind.{Bind}
-use Rattle.odd_tree.specs.Elements.{StandsIn, children_of, elements_of, within}
+use Rattle.odd_text.specs.Standing.{StandsIn}
+use Rattle.odd_tree.specs.Elements.{children_of, elements_of, within}
 use Rattle.odd_tree.specs.Significant.{depth, node_depth, tree_depth}
 use Rattle.odd_tree.specs.declared.tree.Node.{Node, Element, Text, fold-Node}
 use Rattle.odd_tree.specs.declared.tree.Node as N
 use Rattle.odd_tree.specs.declared.tree.Tree.{Tree, out-Tree}
 use Rattle.odd_tree.specs.declared.tree.Tree as T
-use Rattle.odd_tree.proofs.InList.{first_or_later, map_stands, nothing_stands, stands_first, stands_later, with_element, with_text}
+use Rattle.odd_tree.proofs.InTree.{with_element, with_text}
+use Rattle.odd_text.proofs.InList.{first_or_later, map_stands, nothing_stands, stands_first, stands_later}
 use Rattle.odd_forms.specs.Tags.{tags_in}
 use Rattle.odd_forms.specs.declared.element.Element.{Element as Kind}
 use Rattle.odd_content.specs.Giving.{given_by, part_content, part_named, parts_in}

@@ -13,10 +13,11 @@ use Rattle.odd_text.specs.declared.name.Bind.{Bind}
 use Rattle.odd_text.specs.declared.name.Name.{Name}
 use Rattle.odd_tokens.proofs.Ascii.{ascii_legal}
 use Rattle.odd_tokens.specs.Characters.{IsLegal, IsNCName, is_ncname, is_space}
-use Rattle.odd_tokens.specs.Same.{is_same}
-use Rattle.odd_tree.proofs.InList.{contained, stands_first, stands_later}
+use Rattle.odd_text.specs.Same.{is_same}
+use Rattle.odd_text.proofs.InList.{contained, stands_first, stands_later}
 use Rattle.odd_tree.proofs.LastBound.{last_bound_none, last_bound_some}
-use Rattle.odd_tree.specs.Elements.{StandsIn, children_of, given, within}
+use Rattle.odd_text.specs.Standing.{StandsIn}
+use Rattle.odd_tree.specs.Elements.{children_of, given, within}
 use Rattle.odd_tree.specs.Formed.{IsFormed, IsFormedTag}
 use Rattle.odd_tree.specs.Names.{IsBinding, in_force, last_bound, xml_namespace, xmlns_namespace}
 use Rattle.odd_tree.specs.declared.tree.Tree.{Tree, out-Tree}
@@ -35,12 +36,12 @@ use Rattle.odd_forms.specs.declared.element.Element.TheVariants as kind
 use Rattle.odd_forms.specs.declared.excepted.Excepted.TheVariants as excepted
 use Rattle.odd_content.proofs.Conditions.{condition_sets}
 use Rattle.odd_content.proofs.EachPart.{AreParts, IsPart, parts_given}
-use Rattle.odd_data.specs.Formed.{IsFormedData, IsFormedList}
-use Rattle.odd_data.specs.Values.{list_given}
-use Rattle.odd_data.specs.Items.{item_given}
-use Rattle.odd_data.proofs.Formed.{all_valued, data_formed, list_formed}
-use Rattle.odd_data.proofs.FormedTrees.{IsFormedSomewhere, child_formed, tag_formed}
-use Rattle.odd_data.proofs.Unbroken.{IsUnbroken, attribute_kept, bounds_formed, by_text, child_kept, decided, each_item, legal_given, suited}
+use Rattle.odd_content.specs.FormedData.{IsFormedData, IsFormedList}
+use Rattle.odd_content.specs.Values.{list_given}
+use Rattle.odd_content.specs.Items.{item_given}
+use Rattle.odd_content.proofs.FormedData.{all_valued, data_formed, list_formed}
+use Rattle.odd_content.proofs.FormedTrees.{IsFormedSomewhere, child_formed, tag_formed}
+use Rattle.odd_content.proofs.Unbroken.{IsUnbroken, attribute_kept, bounds_formed, by_text, child_kept, decided, each_item, legal_given, suited}
 use Rattle.odd_content.specs.Breaking.{ContentFault}
 use Rattle.odd_content.specs.Condition.{condition_of}
 use Rattle.odd_content.specs.Formed.{AreBound, AreFormedWithin, IsExceptedName, IsExceptedNamespace, IsFormedCondition, IsFormedContent, IsFormedPick, IsFormedWithin, IsNamespace, once}

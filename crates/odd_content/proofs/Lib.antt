@@ -1,5 +1,13 @@
+pub mod Collapsed
 pub mod Conditions
 pub mod DataContents
 pub mod EachPart
 pub mod Formed
+pub mod FormedData
+pub mod FormedTrees
+pub mod LegalFacets
+pub mod Marks
 pub mod Parts
+pub mod SaidEach
+pub mod Unbroken
+pub mod ValuesSaid

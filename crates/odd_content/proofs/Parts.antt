@@ -8,7 +8,8 @@ use Rattle.odd_tree.specs.declared.tree.Node.TheOpen as shown
 use Rattle.odd_tree.specs.declared.tree.Node.TheVariants.{rolls-Element, rolls-Text}
 use Rattle.odd_tree.specs.declared.tree.Tree.{Tree, fold-Tree, out-Tree}
 use Rattle.odd_tree.specs.declared.tree.Tree as T
-use Rattle.odd_tree.proofs.InList.{begins, with_element, with_text}
+use Rattle.odd_tree.proofs.InTree.{with_element, with_text}
+use Rattle.odd_text.proofs.InList.{begins}
 use Rattle.odd_forms.specs.Tags.{tag_of, tags_in}
 use Rattle.odd_forms.specs.declared.element.Element.{Element as Kind}
 use Rattle.odd_content.specs.Giving.{Given, all_tags, given_by, node_gives, part_content, part_named, parts_in, tree_gives}

@@ -5,9 +5,9 @@ use Rattle.odd_text.specs.NameOrder.{name_cmp}
 use Rattle.odd_text.specs.Text.{text_cmp}
 use Rattle.odd_text.specs.declared.name.Bind.{Bind}
 use Rattle.odd_text.specs.declared.name.Name.{Name}
-use Rattle.odd_tree.specs.Elements.{StandsIn}
+use Rattle.odd_text.specs.Standing.{StandsIn}
 use Rattle.odd_forms.specs.Excepting.{excepted_of}
-use Rattle.odd_forms.specs.Sorted.{IsSet, set_of}
+use Rattle.odd_text.specs.Sorted.{IsSet, set_of}
 use Rattle.odd_forms.specs.declared.excepted.Excepted.{Excepted}
 use Rattle.odd_forms.specs.declared.excepted.Excepted.TheVariants as excepted
 use Rattle.odd_content.specs.declared.content.Condition.{Condition as TheCondition}

@@ -8,10 +8,10 @@ use Rattle.odd_text.specs.declared.name.Name.{Name}
 use Rattle.odd_tokens.specs.Characters.{IsLegal, IsNCName, is_space}
 use Rattle.odd_tree.specs.Names.{IsBinding, xmlns_namespace}
 use Rattle.odd_forms.specs.Excepting.{IsPrefixed}
-use Rattle.odd_forms.specs.Sorted.{AreRising}
+use Rattle.odd_text.specs.Sorted.{AreRising}
 use Rattle.rng_types.specs.Bounds.{IsFormedBounds}
 use Rattle.rng_types.specs.declared.bounds.Bounds.{Bounds}
-use Rattle.odd_data.specs.Formed.{IsFormedData, IsFormedList}
+use Rattle.odd_content.specs.FormedData.{IsFormedData, IsFormedList}
 use Rattle.odd_content.specs.declared.content.Condition.{Condition}
 use Rattle.odd_content.specs.declared.content.Content.{Content, Empty, Text, Value, Vals, Element, Class, Macro, Any, Sequence', Alternate', Row_of-Content, end_of-Content, more_of-Content}
 use Rattle.odd_content.specs.declared.content.Pick.{Pick}

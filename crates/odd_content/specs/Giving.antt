@@ -2,7 +2,7 @@
 use Rattle.std.specs.Prelude.{◌≡◌, ℕ, List, [], ◌∷◌, ◌++◌, ◌&&◌, map, find, flat_map, Option, Some, None, codes, unwrap_or}
 use Rattle.odd_text.specs.declared.name.Bind.{Bind}
 use Rattle.odd_text.specs.declared.name.Name.{Name}
-use Rattle.odd_tokens.specs.Same.{is_same}
+use Rattle.odd_text.specs.Same.{is_same}
 use Rattle.odd_tree.specs.Elements.{attribute_value, within}
 use Rattle.odd_tree.specs.declared.tree.Attr.{Attr}
 use Rattle.odd_tree.specs.declared.tree.Node.{Node, Node-F, fold-Node}
@@ -12,12 +12,13 @@ use Rattle.rng_types.specs.declared.item.Item.{Item}
 use Rattle.odd_forms.specs.Names.{tei_namespace}
 use Rattle.odd_forms.specs.Table.{form_at}
 use Rattle.odd_forms.specs.Tags.{Tag}
-use Rattle.odd_forms.specs.Words.{is_among, words_of}
+use Rattle.odd_text.specs.Same.{is_among}
+use Rattle.odd_forms.specs.Words.{words_of}
 use Rattle.odd_forms.specs.declared.element.Element.{Element as Kind}
 use Rattle.odd_forms.specs.declared.element.Element.TheVariants as kind
-use Rattle.odd_data.specs.Items.{item_in}
-use Rattle.odd_data.specs.Occurrence.{bounds_in}
-use Rattle.odd_data.specs.Values.{list_in}
+use Rattle.odd_content.specs.Items.{item_in}
+use Rattle.odd_content.specs.Occurrence.{bounds_in}
+use Rattle.odd_content.specs.Values.{list_in}
 use Rattle.odd_content.specs.Condition.{condition_of}
 use Rattle.odd_content.specs.declared.content.Content.{Content}
 use Rattle.odd_content.specs.declared.content.Content.TheVariants as content

@@ -2,5 +2,10 @@ pub mod Breaking
 pub mod Condition
 pub mod ConditionOrder
 pub mod Formed
+pub mod FormedData
 pub mod Giving
+pub mod Items
+pub mod Occurrence
 pub mod Picking
+pub mod Said
+pub mod Values

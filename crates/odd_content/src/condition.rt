@@ -4,8 +4,8 @@ ghost use Rattle.odd_forms.specs.Words.{words_given as the_words_given};
 ghost use Rattle.odd_content.specs.Condition.{condition_of};
 
 use crate::content::Condition;
-use odd_forms::{Excepted, read_excepted, sorted, words_given};
-use odd_text::{Names, NoMemory, Words};
+use odd_forms::{Excepted, read_excepted, words_given};
+use odd_text::{Names, NoMemory, Words, sorted};
 use odd_tree::{Bindings, Tree};
 use std::alloc::Global;
 

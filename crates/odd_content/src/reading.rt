@@ -1,18 +1,18 @@
 ghost use Rattle.std.specs.Prelude.{◌≡◌, ℕ, map, Err, IfOk, IsOk, Some};
 ghost use Rattle.odd_tree.specs.Elements.{all_binds, within};
-ghost use Rattle.odd_forms.specs.Least.{IsLeast};
+ghost use Rattle.odd_text.specs.Least.{IsLeast};
 ghost use Rattle.odd_content.specs.Breaking.{ContentFault};
 ghost use Rattle.odd_content.specs.Formed.{AreBound, IsFormedContent};
 ghost use Rattle.odd_forms.specs.Tags.{tags_in};
 ghost use Rattle.odd_content.specs.Giving.{IsContentOf, joined_parts, key_in, part_content, part_named, parts_in, value_content};
-ghost use Rattle.odd_data.specs.Items.{item_given};
+ghost use Rattle.odd_content.specs.Items.{item_given};
 ghost use Rattle.odd_tree.specs.Formed.{IsFormed};
 ghost use Rattle.odd_tree.specs.declared.tree.Tree.{out-Tree};
 
 use crate::condition::read_condition;
 use crate::content::{Content, Contents};
 use crate::picking::read_pick;
-use odd_data::{read_bounds, read_item, read_list};
+use crate::{read_bounds, read_item, read_list};
 use odd_forms::{Element, LEVELS, child_of, deep_fault};
 use odd_text::{NoMemory, Scope, Text, TryCopy};
 use odd_tree::{Bindings, Node, Tree, attribute, entered};

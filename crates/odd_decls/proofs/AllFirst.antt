@@ -1,7 +1,7 @@
 -- The first fault of a file is the lesser of those of its `schemaSpec`, its groups, its items and its references.
 use Rattle.std.proofs.Common.{◌≡◌, ◌≤◌, ◌⊎◌, ℕ, List, Option, Some, None, inl, inr, ⊎_elim, refl, sym, subst, arith}
 use Rattle.std.proofs.Math.Nat.{eq-or-lt_of_le}
-use Rattle.odd_forms.specs.Least.{IsLeast}
+use Rattle.odd_text.specs.Least.{IsLeast}
 use Rattle.odd_items.specs.Search.{Found}
 use Rattle.odd_library.specs.First.{IsNotAfter}
 use Rattle.odd_library.specs.declared.fault.Fault.{Fault}

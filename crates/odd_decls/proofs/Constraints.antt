@@ -1,9 +1,9 @@
 -- The places of the constraints among the items and in them.
 use Rattle.std.proofs.Common.{◌≡◌, ◌↔◌, ℕ, ◌⊎◌, inl, inr, ⊎_elim, List, [], None, codes, refl, sym, ap, subst, ◌∙◌, arith, Some, true, ◌++◌}
 use Rattle.std.specs.List.{Contains}
-use Rattle.odd_tokens.specs.Same.{is_same}
+use Rattle.odd_text.specs.Same.{is_same}
 use Rattle.odd_tree.proofs.PrintedTrees.{same_from}
-use Rattle.odd_tree.specs.Elements.{StandsIn}
+use Rattle.odd_text.specs.Standing.{StandsIn}
 use Rattle.odd_tree.specs.declared.tree.Tree.{Tree}
 use Rattle.odd_forms.proofs.Children.{found_among, one_named}
 use Rattle.odd_forms.specs.Children.{IsChild}

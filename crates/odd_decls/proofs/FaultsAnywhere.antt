@@ -3,7 +3,7 @@ use Rattle.std.proofs.Common.{◌≡◌, ℕ, Bool, true, false, if◌then◌els
 use Rattle.std.proofs.lemmas.Bool.{both_ways, false_from_ne_true}
 use Rattle.std.specs.List.{list_any}
 use Rattle.odd_forms.proofs.Children.{found_among}
-use Rattle.odd_forms.proofs.Least.{any_stands}
+use Rattle.odd_text.proofs.Least.{any_stands}
 use Rattle.odd_forms.specs.Deep.{DeepFault}
 use Rattle.odd_forms.specs.Faults.{DemandFault, FormFault, OwnFault}
 use Rattle.odd_forms.specs.Form.{Demand, bound}
@@ -11,7 +11,8 @@ use Rattle.odd_forms.specs.Table.{form_at}
 use Rattle.odd_forms.specs.declared.element.Element.{Element}
 use Rattle.odd_forms.specs.declared.element.Element.TheVariants as element
 use Rattle.odd_text.specs.declared.name.Bind.{Bind}
-use Rattle.odd_tree.specs.Elements.{StandsIn, within}
+use Rattle.odd_text.specs.Standing.{StandsIn}
+use Rattle.odd_tree.specs.Elements.{within}
 use Rattle.odd_tree.specs.declared.tree.Tree.{Tree}
 
 -- a demand that speaks of the declarations in force

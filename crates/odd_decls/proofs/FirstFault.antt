@@ -1,8 +1,8 @@
 -- The first fault, by place and then by rule, from those of parts, and of items that come one after the other.
 use Rattle.std.proofs.Common.{◌≡◌, ◌⊎◌, ℕ, Bool, if◌then◌else◌, IsTrue, List, [], ◌∷◌, ◌++◌, Option, Some, None, inl, inr, ⊎_elim, refl, sym, ap, subst, ◌∙◌, arith}
 use Rattle.std.specs.Ordering.{ord_min}
-use Rattle.odd_forms.proofs.Least.{least_if, least_or, lesser_rule}
-use Rattle.odd_forms.specs.Least.{IsLeast}
+use Rattle.odd_text.proofs.Least.{least_if, least_or, lesser_rule}
+use Rattle.odd_text.specs.Least.{IsLeast}
 use Rattle.odd_items.specs.declared.listing.Item.{Item}
 use Rattle.odd_library.proofs.OffenceOrder.{earlier_is, fault_cmp, not_after_through}
 use Rattle.odd_library.specs.First.{IsNotAfter}

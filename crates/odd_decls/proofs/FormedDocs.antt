@@ -12,23 +12,24 @@ use Rattle.odd_attributes.specs.Giving.{AreEditsGiven, alt_given}
 use Rattle.odd_attributes.specs.declared.att_edit.AttEdit.{AttEdit}
 use Rattle.odd_content.proofs.DataContents.{data_content_formed}
 use Rattle.odd_content.proofs.Formed.{content_formed, except, include, pick_formed, within_bound}
-use Rattle.odd_data.proofs.Unbroken.{legal_given}
-use Rattle.odd_data.proofs.FormedTrees.{IsFormedSomewhere, child_formed, tag_formed}
+use Rattle.odd_content.proofs.Unbroken.{legal_given}
+use Rattle.odd_content.proofs.FormedTrees.{IsFormedSomewhere, child_formed, tag_formed}
 use Rattle.odd_content.specs.Formed.{AreBound, IsFormedContent}
 use Rattle.odd_content.specs.Giving.{IsContentOf}
 use Rattle.odd_forms.proofs.Children.{found_among}
 use Rattle.odd_forms.proofs.Colon.{name_decides}
-use Rattle.odd_forms.proofs.Least.{any_stands}
+use Rattle.odd_text.proofs.Least.{any_stands}
 use Rattle.odd_forms.specs.Children.{GivesOne, IsChild}
 use Rattle.odd_forms.specs.Deep.{DeepFault, is_level, left_inside}
 use Rattle.odd_forms.specs.Excepting.{is_name}
 use Rattle.odd_forms.specs.Faults.{AttributeFault, DemandFault, FormFault, OwnFault, ValueFault, has_named}
 use Rattle.odd_forms.specs.Form.{AreNames, AttributeForm, Suits, name, names, own_text}
 use Rattle.odd_forms.specs.Names.{first_named, is_one_of, tei, tei_namespace}
-use Rattle.odd_forms.specs.Sorted.{IsSet}
+use Rattle.odd_text.specs.Sorted.{IsSet}
 use Rattle.odd_forms.specs.Table.{form_at, key, needed, optional}
 use Rattle.odd_forms.specs.Texts.{collapsed_in}
-use Rattle.odd_forms.specs.Words.{is_among, is_given_among, words_of}
+use Rattle.odd_text.specs.Same.{is_among}
+use Rattle.odd_forms.specs.Words.{is_given_among, words_of}
 use Rattle.odd_forms.specs.declared.element.Element.{Element}
 use Rattle.odd_forms.specs.declared.element.Element.TheVariants as element
 use Rattle.odd_items.proofs.Standing.{StandsUnder, found_under, item_under}
@@ -40,18 +41,19 @@ use Rattle.odd_library.specs.declared.odd.OddDoc.{OddDoc}
 use Rattle.odd_library.specs.declared.spec.Mode.{Mode}
 use Rattle.odd_library.specs.declared.spec.Mode.TheVariants as mode
 use Rattle.odd_library.specs.declared.spec.Spec.{Spec}
-use Rattle.odd_members.proofs.Formed.{membership_formed}
-use Rattle.odd_members.specs.Formed.{IsFormedMembership}
-use Rattle.odd_members.specs.Members.{IsMembershipOf}
+use Rattle.odd_library.proofs.FormedMembers.{membership_formed}
+use Rattle.odd_library.specs.FormedMembers.{IsFormedMembership}
+use Rattle.odd_library.specs.Members.{IsMembershipOf}
 use Rattle.odd_text.specs.Text.{text_cmp}
 use Rattle.odd_text.specs.declared.key.Kind.{Kind}
 use Rattle.odd_text.specs.declared.key.Kind.TheVariants as kind
 use Rattle.odd_text.specs.declared.name.Bind.{Bind}
 use Rattle.odd_tokens.proofs.Ascii as ascii
 use Rattle.odd_tokens.specs.Characters.{IsLegal, IsNCName}
-use Rattle.odd_tokens.specs.Same.{is_same}
-use Rattle.odd_tree.proofs.InList.{contained, first_or_later, nothing_stands, only_item, standing, stands_first, stands_later}
-use Rattle.odd_tree.specs.Elements.{StandsIn, children_of, given, within}
+use Rattle.odd_text.specs.Same.{is_same}
+use Rattle.odd_text.proofs.InList.{contained, first_or_later, nothing_stands, only_item, standing, stands_first, stands_later}
+use Rattle.odd_text.specs.Standing.{StandsIn}
+use Rattle.odd_tree.specs.Elements.{children_of, given, within}
 use Rattle.odd_tree.specs.Formed.{IsFormed, IsFormedTag}
 use Rattle.odd_tree.specs.Names.{IsBinding}
 use Rattle.odd_tree.specs.declared.tree.Tree.{Tree}

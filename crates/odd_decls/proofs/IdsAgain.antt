@@ -1,17 +1,15 @@
 -- The first group that has the id of an earlier one, by its place in the file.
-use Rattle.std.proofs.Common.{◌≡◌, ℕ, ◌<◌, ⊎_elim, Bool, false, List, [], ◌∷◌, ◌++◌, filter, length, Some, None, slice_get, refl, sym, ap, subst, ◌∙◌, append_assoc, arith, IsTrue}
-use Rattle.std.proofs.lemmas.Bool.{and_from, and_parts, cases_lt, or_right}
+use Rattle.std.proofs.Common.{◌≡◌, ℕ, ◌<◌, ⊎_elim, Bool, false, List, [], ◌∷◌, ◌++◌, filter, length, Some, None, slice_get, refl, sym, ap, subst, ◌∙◌, append_assoc, arith}
+use Rattle.std.proofs.lemmas.Bool.{cases_lt}
 use Rattle.std.proofs.lemmas.List.Elements.{filter-append}
 use Rattle.std.proofs.lemmas.Option.{same_Some, slice_get_within}
-use Rattle.std.specs.Prelude.{codes}
-use Rattle.odd_tokens.specs.Same.{is_same}
-use Rattle.odd_tree.specs.Elements.{StandsIn}
+use Rattle.odd_text.specs.Standing.{StandsIn}
 use Rattle.odd_tree.specs.Formed.{IsFormed}
 use Rattle.odd_tree.specs.declared.tree.Tree.{Tree, out-Tree}
-use Rattle.odd_forms.specs.Least.{IsLeast}
-use Rattle.odd_forms.specs.Names.{is_one_of, is_tei}
-use Rattle.odd_forms.specs.Words.{is_among}
+use Rattle.odd_text.specs.Least.{IsLeast}
+use Rattle.odd_forms.specs.Names.{is_one_of}
 use Rattle.odd_items.proofs.ByNames.{fewer, one_search}
+use Rattle.odd_items.proofs.Holders.{group_holds}
 use Rattle.odd_items.proofs.Places.{get_left}
 use Rattle.odd_items.proofs.Standing.{found_rise}
 use Rattle.odd_items.specs.Groups.{group_names, holder_names}
@@ -19,18 +17,11 @@ use Rattle.odd_items.specs.Ids.{IsAgain}
 use Rattle.odd_items.specs.Search.{Finds, Found}
 use Rattle.odd_items.specs.declared.searching.Kept.{Kept}
 use Rattle.odd_decls.proofs.IdsFound.{elements, element_at, has_id, id_has, kept_there, none_there}
-use Rattle.odd_decls.proofs.InParts.{SplitsFilter, at_split, filter_keeps, from_filter, get_before, place_in, split_at, split_filter, stands_at, to_filter}
+use Rattle.odd_items.proofs.InParts.{SplitsFilter, at_split, filter_keeps, from_filter, get_before, place_in, split_at, split_filter, stands_at, to_filter}
 use Rattle.odd_decls.specs.FileItems.{AreGroupsOf}
 use Rattle.odd_decls.specs.Items.{at_of}
 use Rattle.odd_decls.specs.Offences.{HasIdAgain}
 use Rattle.odd_decls.specs.declared.file_items.Groups.{Groups}
-
--- a group may hold items
-pub group_holds : (t : Tree) → IsTrue (is_one_of group_names t) → IsTrue (is_one_of holder_names t)
-group_holds t h =
-    let parts = and_parts (is_tei t) (is_among group_names (out-Tree t).name.local) h in
-    and_from (is_tei t) (is_among holder_names (out-Tree t).name.local) parts.0
-    (or_right (is_same (out-Tree t).name.local (codes "schemaSpec")) (is_among group_names (out-Tree t).name.local) parts.1)
 
 -- it is a group
 abbrev is_group : Found → Bool

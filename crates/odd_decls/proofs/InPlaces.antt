@@ -1,7 +1,7 @@
 -- The items of a file, whose places rise: which of two stands before the other.
 use Rattle.std.proofs.Common.{◌≡◌, ◌<◌, ℕ, List, ◌∷◌, ◌++◌, sym, ap, ◌∙◌, append_assoc, arith}
 use Rattle.odd_items.specs.declared.listing.Item.{Item}
-use Rattle.odd_tree.specs.Elements.{StandsIn}
+use Rattle.odd_text.specs.Standing.{StandsIn}
 use Rattle.odd_tree.specs.declared.tree.Tree.{out-Tree}
 use Rattle.odd_decls.proofs.Where.{order}
 use Rattle.odd_decls.proofs.Where as where_in

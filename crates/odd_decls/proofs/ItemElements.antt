@@ -17,8 +17,9 @@ use Rattle.odd_library.specs.declared.odd.Entry.TheVariants as entry
 use Rattle.odd_library.specs.declared.spec.Spec.{Spec}
 use Rattle.odd_text.specs.declared.key.Key.{Key}
 use Rattle.odd_text.specs.declared.key.Kind.{Kind}
-use Rattle.odd_tree.proofs.InList.{contained}
-use Rattle.odd_tree.specs.Elements.{StandsIn, given}
+use Rattle.odd_text.proofs.InList.{contained}
+use Rattle.odd_text.specs.Standing.{StandsIn}
+use Rattle.odd_tree.specs.Elements.{given}
 use Rattle.odd_tree.specs.declared.tree.Tree.{Tree, out-Tree}
 use Rattle.odd_decls.proofs.ItemFaults.{item_placed, placed_group}
 use Rattle.odd_decls.specs.Declares.{ChildrenGive, IsEntryOf, IsReadAs, kind_taken}

@@ -3,18 +3,18 @@ use Rattle.std.proofs.Common.{◌≡◌, ℕ, ◌&&◌, List, [], ◌∷◌, ◌
 use Rattle.std.proofs.lemmas.Option.{same_Some}
 use Rattle.odd_forms.proofs.Children.{child_named, named_one, one_named}
 use Rattle.odd_forms.proofs.Forms.{named_placed}
-use Rattle.odd_forms.proofs.Least.{least_same}
+use Rattle.odd_text.proofs.Least.{least_same}
 use Rattle.odd_forms.specs.Deep.{DeepFault}
 use Rattle.odd_forms.specs.Faults.{ChildFault, child_in}
-use Rattle.odd_forms.specs.Least.{IsLeast}
+use Rattle.odd_text.specs.Least.{IsLeast}
 use Rattle.odd_forms.specs.Names.{is_one_of, tei_namespace}
 use Rattle.odd_forms.specs.Table.{form_at}
-use Rattle.odd_forms.specs.Words.{is_among}
+use Rattle.odd_text.specs.Same.{is_among}
 use Rattle.odd_forms.specs.declared.element.Element.{Element}
 use Rattle.odd_forms.specs.declared.element.Element.TheVariants as element
 use Rattle.odd_items.specs.Groups.{group_names}
 use Rattle.odd_text.specs.declared.name.Bind.{Bind}
-use Rattle.odd_tokens.specs.Same.{is_same}
+use Rattle.odd_text.specs.Same.{is_same}
 use Rattle.odd_tree.specs.declared.tree.Tree.{Tree}
 use Rattle.odd_decls.specs.Items.{IsItem}
 use Rattle.odd_decls.specs.Offences.{ItemFault}

@@ -6,9 +6,9 @@ use Rattle.std.proofs.lemmas.Option.{same_Some}
 use Rattle.std.specs.List.{All}
 use Rattle.std.specs.Option.{option_eq}
 use Rattle.std.specs.Prelude.{nat_eq}
-use Rattle.odd_forms.proofs.Least.{lesser_rule}
+use Rattle.odd_text.proofs.Least.{lesser_rule}
 use Rattle.odd_forms.specs.Faults.{child_in}
-use Rattle.odd_forms.specs.Least.{IsLeast}
+use Rattle.odd_text.specs.Least.{IsLeast}
 use Rattle.odd_forms.specs.Table.{form_at}
 use Rattle.odd_forms.specs.declared.element.Element.TheVariants as element
 use Rattle.odd_items.specs.Groups.{IsItemIn}
@@ -19,8 +19,8 @@ use Rattle.odd_items.specs.declared.searching.Level.{Level}
 use Rattle.odd_library.specs.declared.fault.Fault.{Fault}
 use Rattle.odd_text.specs.declared.key.Key.{Key}
 use Rattle.odd_text.specs.declared.name.Bind.{Bind}
-use Rattle.odd_tree.proofs.InList.{ends, map_stands, stands_map}
-use Rattle.odd_tree.specs.Elements.{StandsIn}
+use Rattle.odd_text.proofs.InList.{ends, map_stands, stands_map}
+use Rattle.odd_text.specs.Standing.{StandsIn}
 use Rattle.odd_tree.specs.declared.tree.Tree.{Tree, out-Tree}
 use Rattle.odd_decls.proofs.FirstFault.{BreaksAt, HasBefore, breaks_more, first_wider, itself_before, least_again, lesser_fault}
 use Rattle.odd_decls.proofs.InPlaces.{before_begins, before_stands, begins_at, begins_before}

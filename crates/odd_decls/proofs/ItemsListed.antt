@@ -6,13 +6,13 @@ use Rattle.std.specs.BTreeMap.{get}
 use Rattle.std.specs.List.{position}
 use Rattle.std.specs.Prelude.{codes}
 use Rattle.odd_text.specs.Text.{text_cmp}
-use Rattle.odd_tokens.specs.Same.{is_same}
-use Rattle.odd_tree.specs.Elements.{StandsIn}
+use Rattle.odd_text.specs.Same.{is_same}
+use Rattle.odd_text.specs.Standing.{StandsIn}
 use Rattle.odd_tree.specs.Formed.{IsFormed}
 use Rattle.odd_tree.specs.declared.tree.Tree.{Tree, out-Tree}
-use Rattle.odd_forms.specs.Least.{IsLeast}
+use Rattle.odd_text.specs.Least.{IsLeast}
 use Rattle.odd_forms.specs.Names.{is_one_of, is_tei}
-use Rattle.odd_forms.specs.Words.{is_among}
+use Rattle.odd_text.specs.Same.{is_among}
 use Rattle.odd_items.proofs.ByNames.{fewer, one_search}
 use Rattle.odd_items.proofs.Standing.{item_under}
 use Rattle.odd_items.specs.Groups.{IsItemIn, declaration_names, holder_names, schema_names}
@@ -24,7 +24,7 @@ use Rattle.odd_items.specs.Searching.{AreKept, AreParents, none}
 use Rattle.odd_items.specs.declared.listing.Item.{Item}
 use Rattle.odd_items.specs.declared.searching.Kept.{Kept}
 use Rattle.odd_items.specs.declared.searching.Level.{Level}
-use Rattle.odd_decls.proofs.InParts.{first_kept, first_passes, none_kept, none_passes}
+use Rattle.odd_items.proofs.InParts.{first_kept, first_passes, none_kept, none_passes}
 use Rattle.odd_decls.proofs.KeptFound.{found_at, items_as, kept_at, kept_passing, nothing_kept, same_trees}
 use Rattle.odd_decls.proofs.PlacedItems.{items_in_order}
 use Rattle.odd_decls.specs.FileItems.{AreFileItems, AreHolders, AreIdsOf, AreInOrder, AreListed, IsHeldIn, schemas_among}

@@ -13,8 +13,8 @@ use Rattle.odd_items.specs.declared.searching.Level.{Level}
 use Rattle.odd_library.specs.Odd.{place_of}
 use Rattle.odd_library.specs.declared.odd.Entry.{Entry}
 use Rattle.odd_text.specs.declared.name.Bind.{Bind}
-use Rattle.odd_tree.proofs.InList.{begins, first_or_later, nothing_stands, stands_first, stands_later}
-use Rattle.odd_tree.specs.Elements.{StandsIn}
+use Rattle.odd_text.proofs.InList.{begins, first_or_later, nothing_stands, stands_first, stands_later}
+use Rattle.odd_text.specs.Standing.{StandsIn}
 use Rattle.odd_tree.specs.declared.tree.Tree.{Tree, out-Tree}
 use Rattle.odd_decls.proofs.OneDoc.{HasNone, one_read}
 use Rattle.odd_decls.specs.Declares.{AreEntriesOf, IsEntryOf, PlacesRise, namespace_of}

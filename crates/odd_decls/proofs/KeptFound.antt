@@ -3,8 +3,8 @@ use Rattle.std.proofs.Common.{◌≡◌, ℕ, zero, suc, ◌+◌, ◌≤◌, inl
 use Rattle.std.proofs.lemmas.Bool.{cases_Bool}
 use Rattle.std.proofs.lemmas.List.{take_all}
 use Rattle.std.proofs.lemmas.Option.{get_or_from_slice_get, none-some, same_Some, slice_get_within}
-use Rattle.odd_tree.proofs.InList.{ends, stands_push}
-use Rattle.odd_tree.specs.Elements.{StandsIn}
+use Rattle.odd_text.proofs.InList.{ends, stands_push}
+use Rattle.odd_text.specs.Standing.{StandsIn}
 use Rattle.odd_tree.specs.declared.tree.Tree.{Tree}
 use Rattle.odd_forms.specs.Faults.{child_in}
 use Rattle.odd_forms.specs.Table.{form_at}
@@ -15,7 +15,7 @@ use Rattle.odd_items.specs.Searching.{AreKept, IsAround, IsKept, more, none}
 use Rattle.odd_items.specs.declared.listing.Item.{Item}
 use Rattle.odd_items.specs.declared.searching.Kept.{Kept}
 use Rattle.odd_items.specs.declared.searching.Level.{Level}
-use Rattle.odd_decls.proofs.InParts.{filter_drops, filter_keeps}
+use Rattle.odd_items.proofs.InParts.{filter_drops, filter_keeps}
 
 -- what is kept at a place is kept of what was found there
 pub kept_at : {levels : List Level} {keeps : List Kept} {founds : List Found} → AreKept levels keeps founds → (place : ℕ) (k : Kept) → slice_get keeps place ≡ Some k

@@ -11,8 +11,8 @@ use Rattle.odd_library.specs.declared.odd.OddDoc.{OddDoc}
 use Rattle.odd_text.specs.declared.key.Key.{Key}
 use Rattle.odd_tokens.proofs.Characters.{Distinct, Lacks, none_twice}
 use Rattle.odd_tokens.specs.Tokens.{NoneTwice}
-use Rattle.odd_tree.proofs.InList.{first_or_later, nothing_stands, stands_first, stands_later}
-use Rattle.odd_tree.specs.Elements.{StandsIn}
+use Rattle.odd_text.proofs.InList.{first_or_later, nothing_stands, stands_first, stands_later}
+use Rattle.odd_text.specs.Standing.{StandsIn}
 use Rattle.odd_tree.specs.declared.tree.Tree.{Tree}
 use Rattle.odd_decls.proofs.ItemsRead.{entry_place}
 use Rattle.odd_decls.specs.Declares.{DeclaresWhole, IsEntryOf, PlacesRise, namespace_of}

@@ -5,7 +5,6 @@ pub mod FirstFault
 pub mod FormedDocs
 pub mod IdsAgain
 pub mod IdsFound
-pub mod InParts
 pub mod InPlaces
 pub mod ItemElements
 pub mod ItemFaults

@@ -12,12 +12,12 @@ use Rattle.odd_attributes.specs.declared.att_edit.AttEdit.{AttEdit}
 use Rattle.odd_content.specs.Giving.{IsContentOf}
 use Rattle.odd_forms.proofs.Children.{named_one}
 use Rattle.odd_forms.proofs.Listed.{lists_one}
-use Rattle.odd_forms.proofs.SetOf.{one_set}
+use Rattle.odd_text.proofs.SetOf.{one_set}
 use Rattle.odd_forms.specs.Children.{GivesOne}
 use Rattle.odd_forms.specs.Deep.{DeepFault}
 use Rattle.odd_forms.specs.Faults.{FormFault}
 use Rattle.odd_forms.specs.Names.{first_named, is_one_of}
-use Rattle.odd_forms.specs.Sorted.{IsSet}
+use Rattle.odd_text.specs.Sorted.{IsSet}
 use Rattle.odd_forms.specs.Table.{form_at}
 use Rattle.odd_forms.specs.declared.element.Element.{Element}
 use Rattle.odd_forms.specs.declared.element.Element.TheVariants as element
@@ -29,11 +29,12 @@ use Rattle.odd_library.specs.declared.odd.Entry.{Entry}
 use Rattle.odd_library.specs.declared.odd.Entry.TheVariants as entry
 use Rattle.odd_library.specs.declared.odd.OddDoc.{OddDoc}
 use Rattle.odd_library.specs.declared.spec.Spec.{Spec}
-use Rattle.odd_members.specs.Members.{IsMembershipOf}
+use Rattle.odd_library.specs.Members.{IsMembershipOf}
 use Rattle.odd_text.specs.Text.{text_cmp}
 use Rattle.odd_text.specs.declared.key.Kind.{Kind}
 use Rattle.odd_text.specs.declared.key.Kind.TheVariants as kind
-use Rattle.odd_tree.specs.Elements.{StandsIn, children_of, within}
+use Rattle.odd_text.specs.Standing.{StandsIn}
+use Rattle.odd_tree.specs.Elements.{children_of, within}
 use Rattle.odd_tree.specs.declared.tree.Tree.{Tree, out-Tree}
 use Rattle.odd_decls.proofs.ItemElements.{IsMadeOf, made_of, one_element, stands_once}
 use Rattle.odd_decls.proofs.Rising.{one_key, one_passes}

@@ -3,8 +3,8 @@ use Rattle.std.proofs.Common.{◌≡◌, ◌↔◌, ◌⊎◌, ◌<◌, ◌+◌,
 use Rattle.std.proofs.lemmas.Option.{none-some, same_Some}
 use Rattle.std.specs.BTreeSet.{BTreeSet, contains}
 use Rattle.std.specs.Ordering.{nat_cmp}
-use Rattle.odd_forms.proofs.Least.{least_same}
-use Rattle.odd_forms.specs.Least.{IsLeast}
+use Rattle.odd_text.proofs.Least.{least_same}
+use Rattle.odd_text.specs.Least.{IsLeast}
 use Rattle.odd_forms.specs.Names.{is_one_of}
 use Rattle.odd_items.proofs.ByNames.{found_named}
 use Rattle.odd_items.proofs.Standing.{found_under, item_under, same_place}
@@ -14,7 +14,7 @@ use Rattle.odd_items.specs.Search.{Finds, Found}
 use Rattle.odd_items.specs.declared.listing.Item.{Item}
 use Rattle.odd_items.specs.declared.searching.Level.{Level}
 use Rattle.odd_library.specs.declared.fault.Fault.{Fault}
-use Rattle.odd_tree.proofs.InList.{ends}
+use Rattle.odd_text.proofs.InList.{ends}
 use Rattle.odd_tree.specs.Elements.{given}
 use Rattle.odd_tree.specs.Formed.{IsFormed}
 use Rattle.odd_tree.specs.declared.tree.Tree.{Tree, out-Tree}

@@ -10,8 +10,8 @@ use Rattle.odd_items.specs.declared.searching.Kept.{Kept}
 use Rattle.odd_items.specs.declared.searching.Level.{Level}
 use Rattle.odd_library.specs.First.{IsNotAfter}
 use Rattle.odd_library.specs.declared.fault.Fault.{Fault}
-use Rattle.odd_tree.proofs.InList.{first_or_later, nothing_stands, stands_first}
-use Rattle.odd_tree.specs.Elements.{StandsIn}
+use Rattle.odd_text.proofs.InList.{first_or_later, nothing_stands, stands_first}
+use Rattle.odd_text.specs.Standing.{StandsIn}
 use Rattle.odd_tree.specs.Formed.{IsFormed}
 use Rattle.odd_tree.specs.declared.tree.Tree.{Tree, out-Tree}
 use Rattle.odd_decls.proofs.FirstFault.{first_or, first_same, lesser_fault}

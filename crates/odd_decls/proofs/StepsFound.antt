@@ -6,13 +6,14 @@ use Rattle.std.proofs.lemmas.Option.{same_Some, slice_get_within}
 use Rattle.std.specs.BTreeMap.{get}
 use Rattle.std.specs.List.{Contains}
 use Rattle.odd_text.specs.Text.{text_cmp}
-use Rattle.odd_tree.proofs.InList.{map_stands, stands_map}
-use Rattle.odd_tree.specs.Elements.{StandsIn, children_of, within}
+use Rattle.odd_text.proofs.InList.{map_stands, stands_map}
+use Rattle.odd_text.specs.Standing.{StandsIn}
+use Rattle.odd_tree.specs.Elements.{children_of, within}
 use Rattle.odd_tree.specs.declared.tree.Tree.{Tree}
 use Rattle.odd_forms.specs.Names.{is_one_of}
 use Rattle.odd_graph.proofs.Chains.{chained_along}
 use Rattle.odd_graph.specs.Graph.{Chained, HasArrow, Leads}
-use Rattle.odd_items.proofs.Holders.{holds_reached, reached}
+use Rattle.odd_items.proofs.Holders.{group_holds, holder_searched, holds_reached, reached}
 use Rattle.odd_items.specs.Groups.{HoldsItems, RefersTo, group_names, itself}
 use Rattle.odd_items.specs.Holding.{LeadsTo}
 use Rattle.odd_items.specs.Holding as leads
@@ -23,7 +24,6 @@ use Rattle.odd_items.specs.Steps.{IsFirstOf, StepsTo}
 use Rattle.odd_items.specs.Steps as steps
 use Rattle.odd_items.specs.declared.searching.Kept.{Kept}
 use Rattle.odd_items.specs.declared.searching.Level.{Level}
-use Rattle.odd_decls.proofs.IdsAgain.{group_holds}
 use Rattle.odd_decls.proofs.IdsFound.{first_with, with_first}
 use Rattle.odd_decls.proofs.KeptFound.{as_many, found_at, kept_at, same_trees}
 use Rattle.odd_decls.specs.FileItems.{AreHolders, IsHeldIn, ParentsWithin}
@@ -79,7 +79,7 @@ module _ (t : Tree) (levels : List Level) (groups : Groups) (founds : List Found
       let parent : c.parent ≡ same.0 = same_Some c.parent same.0 (sym c.parent_at ∙ same.1) in
       let child : group ≡ c.child = same_Some group c.child (sym at.0 ∙ c.child_at) in
       let named : IsTrue (is_one_of group_names c.child.element) = subst (λ f. IsTrue (is_one_of group_names f.element)) child at.1 in
-      let h = are.parents.all refl one c.parent c.child (same.2 ∙ ap (λ f. Some f) (sym parent)) c.stands (group_holds c.child.element named) in
+      let h = are.parents.all refl one c.parent c.child (same.2 ∙ ap (λ f. Some f) (sym parent)) c.stands (holder_searched c.child.element (group_holds c.child.element named)) (group_holds c.child.element named) in
       let f = kept_at are.kept h.0 h.2.0 h.2.1 in
       let tree : c.child.element ≡ h.2.0.tree.now = ap (λ g. g.element) (same_Some c.child f.0 (sym h.1 ∙ f.1)) ∙ sym f.2.tree in
       (h.0, (c.child, c.child_at, h.1), leads.inside h.2.0 h.2.1 h.2.2 (subst (λ u. IsTrue (is_one_of group_names u)) tree named))
@@ -133,7 +133,7 @@ module _ (t : Tree) (levels : List Level) (groups : Groups) (founds : List Found
       pub in_held : (f : Found) → IsHeldIn t schema f → IsHeldBy founds marks f
       in_held f h =
           let r = holds_reached t founds are.finds (λ holder parent child there stands named.
-          let p = are.parents.all refl holder parent child there stands named in (p.0, p.1, are.parents.each p.0 holder p.2)) first schema at h.0 h.1 in
+          let p = are.parents.all refl holder parent child there stands (holder_searched child.element named) named in (p.0, p.1, are.parents.each p.0 holder p.2)) first schema at h.0 h.1 in
           let kept = as_many are.kept in
           ⊎_elim
           (λ same. marked_at first (slice_get_within founds first schema at) (inl refl) (ap (slice_get founds) (sym same) ∙ r.1))

@@ -9,14 +9,14 @@ use Rattle.std.specs.Borrow.{Bor}
 use Rattle.std.specs.Cmp.Lexicographic.{same_text}
 use Rattle.std.specs.List.{list_any}
 use Rattle.std.specs.Ordering.{is_eq, nat_cmp}
-use Rattle.odd_forms.proofs.Least.{least_if}
-use Rattle.odd_forms.specs.Least.{IsLeast}
+use Rattle.odd_text.proofs.Least.{least_if}
+use Rattle.odd_text.specs.Least.{IsLeast}
 use Rattle.odd_items.proofs.Standing.{one_search}
 use Rattle.odd_items.specs.Groups.{IsGroupOf, RefersTo, group_names}
 use Rattle.odd_items.specs.Search.{Found}
 use Rattle.odd_items.specs.declared.listing.Item.{Item}
 use Rattle.odd_text.specs.Text.{text_cmp}
-use Rattle.odd_tree.proofs.InList.{StandsOnce, nothing_stands}
+use Rattle.odd_text.proofs.InList.{StandsOnce, nothing_stands}
 use Rattle.odd_tree.proofs.LastBound.{is_at_text}
 use Rattle.odd_tree.proofs.PrintedTrees.{same_from}
 use Rattle.odd_tree.specs.declared.tree.Tree.{Tree}

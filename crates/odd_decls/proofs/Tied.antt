@@ -13,17 +13,17 @@ use Rattle.std.specs.declared.cmp.Ordering.TheVariants.{Less, Equal, Greater}
 use Rattle.odd_text.specs.Key.{key_cmp}
 use Rattle.odd_text.specs.KeyOrder.{key_exact, key_total, tied_is_same}
 use Rattle.odd_text.specs.declared.key.Key.{Key}
-use Rattle.odd_keyed.specs.Keyed.{key_of, keyed_cmp}
-use Rattle.odd_keyed.specs.declared.keyed.Keyed.{Keyed}
-use Rattle.odd_tree.proofs.InList.{StandsOnce, nothing_stands, once_push}
-use Rattle.odd_tree.specs.Elements.{StandsIn}
+use Rattle.odd_text.specs.Keyed.{key_of, keyed_cmp}
+use Rattle.odd_text.specs.declared.keyed.Keyed.{Keyed}
+use Rattle.odd_text.proofs.InList.{StandsOnce, nothing_stands, once_push}
+use Rattle.odd_text.specs.Standing.{StandsIn}
 use Rattle.odd_forms.proofs.Children.{twice_with}
-use Rattle.odd_forms.proofs.Least.{least_if, least_or, least_same, lesser_rule}
+use Rattle.odd_text.proofs.Least.{least_if, least_or, least_same, lesser_rule}
 use Rattle.odd_decls.proofs.Rising.{one_key}
 use Rattle.odd_decls.proofs.Where.{StandsWhere, nowhere, where_push}
 use Rattle.odd_decls.specs.Faults.{IsAgain, IsKeyIn}
 use Rattle.odd_decls.specs.Items.{IsSpecOf}
-use Rattle.odd_forms.specs.Least.{IsLeast}
+use Rattle.odd_text.specs.Least.{IsLeast}
 use Rattle.odd_decls.specs.Repeats.{AreSorted, IsRepeat, IsTied, TellRepeats, trees_of}
 use Rattle.odd_items.specs.declared.listing.Item.{Item}
 

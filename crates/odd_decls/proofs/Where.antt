@@ -1,9 +1,9 @@
 -- What stands in a list after those before it, and which of two items stands before the other.
 use Rattle.std.proofs.Common.{◌≡◌, ◌↔◌, ◌<◌, ◌+◌, ℕ, List, [], ◌∷◌, ◌++◌, drop, get_or, length, take, ◌⊎◌, inl, inr, ⊎_elim, refl, sym, ap, ap₂, subst, ◌∙◌, append_assoc}
 use Rattle.std.proofs.lemmas.List.{take-append-drop}
-use Rattle.odd_tree.proofs.InList.{StandsOnce, begins, ends, nothing_stands, once_push, stands_around}
-use Rattle.odd_tree.proofs.InList as standing
-use Rattle.odd_tree.specs.Elements.{StandsIn}
+use Rattle.odd_text.proofs.InList.{StandsOnce, begins, ends, nothing_stands, once_push, stands_around}
+use Rattle.odd_text.proofs.InList as standing
+use Rattle.odd_text.specs.Standing.{StandsIn}
 
 -- what a list has at a place stands in it
 pub stands_at : {A : Type 0} (xs : List A) (i : ℕ) (x : A) → i < length xs → x ≡ get_or xs i x → StandsIn xs x

@@ -15,7 +15,7 @@ use Rattle.odd_library.specs.First.{IsFirstOf}
 use Rattle.odd_library.specs.declared.fault.Fault.{Fault}
 use Rattle.odd_text.specs.declared.offence.Offence.{Offence}
 use Rattle.odd_text.specs.declared.offence.Who.TheVariants as who
-use Rattle.odd_tree.proofs.InList.{stands_first}
+use Rattle.odd_text.proofs.InList.{stands_first}
 use Rattle.odd_tree.specs.Elements.{given}
 use Rattle.odd_tree.specs.declared.tree.Tree.{Tree}
 use Rattle.odd_decls.proofs.OneDoc.{HasNone}

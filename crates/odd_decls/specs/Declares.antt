@@ -5,21 +5,22 @@ use Rattle.odd_text.specs.Text.{text_cmp}
 use Rattle.odd_text.specs.declared.key.Kind.{Kind}
 use Rattle.odd_text.specs.declared.key.Kind.TheVariants as kind
 use Rattle.odd_text.specs.declared.name.Bind.{Bind}
-use Rattle.odd_tokens.specs.Same.{is_same}
-use Rattle.odd_tree.specs.Elements.{StandsIn, children_of, given, within}
+use Rattle.odd_text.specs.Same.{is_same}
+use Rattle.odd_text.specs.Standing.{StandsIn}
+use Rattle.odd_tree.specs.Elements.{children_of, given, within}
 use Rattle.odd_tree.specs.declared.tree.Tree.{Tree, out-Tree}
 use Rattle.odd_forms.specs.Children.{GivesOne}
 use Rattle.odd_attributes.specs.Giving.{AreEditsGiven, alt_given}
 use Rattle.odd_attributes.specs.declared.att_edit.AttEdit.{AttEdit}
 use Rattle.odd_forms.specs.Names.{first_named, tei_namespace}
-use Rattle.odd_forms.specs.Sorted.{IsSet}
+use Rattle.odd_text.specs.Sorted.{IsSet}
 use Rattle.odd_forms.specs.Words.{words_of}
 use Rattle.odd_content.specs.Giving.{IsContentOf, pick_given}
 use Rattle.odd_content.specs.declared.content.Content.{Content}
 use Rattle.odd_forms.specs.declared.element.Element.{Element}
 use Rattle.odd_forms.specs.declared.element.Element.TheVariants as element
-use Rattle.odd_members.specs.Members.{IsMembershipOf}
-use Rattle.odd_members.specs.declared.membership.Membership.{Membership}
+use Rattle.odd_library.specs.Members.{IsMembershipOf}
+use Rattle.odd_library.specs.declared.membership.Membership.{Membership}
 use Rattle.odd_library.specs.Odd.{place_of}
 use Rattle.odd_decls.specs.Aside.{IsReadOf}
 use Rattle.odd_decls.specs.Items.{IsItem, IsSpecOf}

@@ -5,7 +5,8 @@ use Rattle.std.specs.Option.{option_map}
 use Rattle.std.specs.Ordering.{nat_cmp}
 use Rattle.odd_text.specs.declared.key.Key.{Key}
 use Rattle.odd_tree.specs.declared.tree.Tree.{Tree, out-Tree}
-use Rattle.odd_tree.specs.Elements.{StandsIn, given, within}
+use Rattle.odd_text.specs.Standing.{StandsIn}
+use Rattle.odd_tree.specs.Elements.{given, within}
 use Rattle.odd_forms.specs.Faults.{OwnFault}
 use Rattle.odd_forms.specs.Names.{is_one_of}
 use Rattle.odd_forms.specs.Table.{form_at}

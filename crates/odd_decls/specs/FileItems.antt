@@ -3,9 +3,9 @@ use Rattle.std.specs.Prelude.{◌≡◌, ◌↔◌, ◌<◌, ℕ, false, List, [
 use Rattle.std.specs.BTreeMap.{BTreeMap, IsOrdered, get}
 use Rattle.std.specs.Ordering.{nat_cmp}
 use Rattle.odd_text.specs.Text.{text_cmp}
-use Rattle.odd_tree.specs.Elements.{StandsIn}
+use Rattle.odd_text.specs.Standing.{StandsIn}
 use Rattle.odd_tree.specs.declared.tree.Tree.{Tree, out-Tree}
-use Rattle.odd_forms.specs.Least.{IsLeast}
+use Rattle.odd_text.specs.Least.{IsLeast}
 use Rattle.odd_forms.specs.Names.{is_one_of}
 use Rattle.odd_items.specs.Groups.{HoldsItems, IsGroupOf, IsItemIn, holder_names, schema_names}
 use Rattle.odd_items.specs.Holding.{IsAt}

@@ -11,7 +11,7 @@ use Rattle.odd_content.specs.declared.content.Content.{Content}
 use Rattle.odd_forms.specs.declared.element.Element.{Element}
 use Rattle.odd_forms.specs.declared.element.Element.TheVariants as element
 use Rattle.odd_content.specs.Giving.{pick_given}
-use Rattle.odd_members.specs.declared.membership.Membership.{Membership}
+use Rattle.odd_library.specs.declared.membership.Membership.{Membership}
 use Rattle.odd_attributes.specs.declared.att_edit.AttEdit.{AttEdit}
 use Rattle.odd_decls.specs.Declares.{namespace_with, AreAttsDeclared, ChildrenGive, alt_declared, IsEntryOf, kind_taken, mode_given, type_given}
 use Rattle.odd_decls.specs.Items.{IsSpecOf}

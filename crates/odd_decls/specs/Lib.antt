@@ -10,5 +10,5 @@ pub mod Repeats
 pub use Rattle.odd_library.specs.First
 pub use Rattle.odd_library.specs.Library
 pub use Rattle.odd_library.specs.Odd
-pub use Rattle.odd_members.specs.Members
-pub use Rattle.odd_members.specs.Membership
+pub use Rattle.odd_library.specs.Members
+pub use Rattle.odd_library.specs.Membership

@@ -6,7 +6,8 @@ use Rattle.odd_text.specs.declared.key.Key.{Key}
 use Rattle.odd_text.specs.declared.name.Bind.{Bind}
 use Rattle.odd_text.specs.declared.offence.Offence.{Offence}
 use Rattle.odd_text.specs.declared.offence.Who.TheVariants as who
-use Rattle.odd_tree.specs.Elements.{StandsIn, given, within}
+use Rattle.odd_text.specs.Standing.{StandsIn}
+use Rattle.odd_tree.specs.Elements.{given, within}
 use Rattle.odd_tree.specs.declared.tree.Tree.{Tree}
 use Rattle.odd_forms.specs.Deep.{DeepFault}
 use Rattle.odd_forms.specs.Faults.{ChildFault, OwnFault}

@@ -3,9 +3,9 @@ use Rattle.std.specs.Prelude.{◌≡◌, ◌↔◌, ℕ, List, ◌∷◌, ◌++�
 use Rattle.std.specs.List.Sorted.{IsSorted}
 use Rattle.odd_text.specs.declared.key.Key.{Key}
 use Rattle.odd_tree.specs.declared.tree.Tree.{Tree}
-use Rattle.odd_keyed.specs.Keyed.{key_of, keyed_cmp}
-use Rattle.odd_keyed.specs.declared.keyed.Keyed.{Keyed}
-use Rattle.odd_forms.specs.Standing.{StandsTwice}
+use Rattle.odd_text.specs.Keyed.{key_of, keyed_cmp}
+use Rattle.odd_text.specs.declared.keyed.Keyed.{Keyed}
+use Rattle.odd_text.specs.Standing.{StandsTwice}
 use Rattle.odd_decls.specs.Faults.{IsAgain}
 use Rattle.odd_items.specs.declared.listing.Item.{Item}
 

@@ -2,7 +2,7 @@ ghost use Rattle.std.specs.Prelude.{◌≡◌, ◌⊎◌, ℕ, IfOk, IsTrue, map
 ghost use Rattle.std.specs.Option.{option_map};
 ghost use Rattle.odd_tree.specs.Formed.{IsFormed};
 ghost use Rattle.odd_tree.specs.declared.tree.Tree.{Tree as ATree, out-Tree};
-ghost use Rattle.odd_forms.specs.Least.{IsLeast};
+ghost use Rattle.odd_text.specs.Least.{IsLeast};
 ghost use Rattle.odd_items.specs.Listing.{IsItemOf};
 ghost use Rattle.odd_items.specs.Search.{Found as AFound};
 ghost use Rattle.odd_items.specs.Searching.{IsKept};

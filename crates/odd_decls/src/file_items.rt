@@ -1,8 +1,8 @@
 ghost use Rattle.std.specs.Prelude.{◌≡◌, ◌<◌, ℕ, [], IfOk, List, Some, filter, length, map, slice_get};
 ghost use Rattle.std.specs.List.{position};
-ghost use Rattle.odd_forms.specs.Least.{IsLeast};
+ghost use Rattle.odd_text.specs.Least.{IsLeast};
 ghost use Rattle.odd_forms.specs.Names.{is_one_of as the_is_one_of};
-ghost use Rattle.odd_tree.specs.Elements.{StandsIn};
+ghost use Rattle.odd_text.specs.Standing.{StandsIn};
 ghost use Rattle.odd_tree.specs.Formed.{IsFormed};
 ghost use Rattle.odd_tree.specs.declared.tree.Tree.{Tree as ATree};
 ghost use Rattle.odd_items.specs.Groups.{IsItemIn, schema_names};

@@ -1,7 +1,7 @@
 ghost use Rattle.std.specs.Prelude.{◌≡◌, Some, map, IfOk};
 ghost use Rattle.odd_tree.specs.Elements.{all_binds};
 ghost use Rattle.odd_forms.specs.Faults.{child_in};
-ghost use Rattle.odd_forms.specs.Least.{IsLeast};
+ghost use Rattle.odd_text.specs.Least.{IsLeast};
 ghost use Rattle.odd_forms.specs.Table.{form_at};
 ghost use Rattle.odd_forms.specs.declared.element.Element.TheVariants as the_element;
 ghost use Rattle.odd_decls.specs.Items.{IsTold};

@@ -1,5 +1,5 @@
-//! From the tree of an ODD file to what it declares, or its first offence of form. The types of what is declared are the crates
-//! `odd_library` and `odd_members`.
+//! From the tree of an ODD file to what it declares, or its first offence of form. The types of what is declared are the crate
+//! `odd_library`.
 #![tactic(auto)]
 
 mod aside;
@@ -13,8 +13,7 @@ mod repeats;
 mod taken;
 
 pub use odd_library::{
-    ClassPart, Component, ElementPart, Entries, Entry, Library, Mode, OddDoc, OddRefusal,
-    OtherPart, Parts, Spec,
+    ClassMarks, ClassPart, Component, ElementPart, Entries, Entry, Library, Membership, Mode,
+    OddDoc, OddRefusal, OtherPart, Parts, Spec,
 };
-pub use odd_members::{ClassMarks, Membership};
 pub use reading::read_odd;

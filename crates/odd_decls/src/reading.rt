@@ -14,11 +14,11 @@ use crate::declarations::namespace_around;
 use crate::faults::first_fault;
 use crate::file_items::{FileItems, file_items};
 use crate::items::item_entry;
-use odd_forms::{TEI, sorted, words_of};
+use odd_forms::{TEI, words_of};
 use odd_items::without::without;
 use odd_items::{Kept, bindings_around, level_bindings};
 use odd_library::{Entries, OddDoc, OddRefusal};
-use odd_text::{NoMemory, Text, TryCopy, Words};
+use odd_text::{NoMemory, Text, TryCopy, Words, sorted};
 use odd_tree::{Bindings, Tree, attribute};
 use std::alloc::Global;
 

@@ -1,13 +1,12 @@
 ghost use Rattle.std.specs.Prelude.{IfOk};
 ghost use Rattle.std.specs.List.{All};
-ghost use Rattle.odd_forms.specs.Least.{IsLeast};
+ghost use Rattle.odd_text.specs.Least.{IsLeast};
 ghost use Rattle.odd_decls.specs.Items.{IsTold};
 ghost use Rattle.odd_decls.specs.Repeats.{AreSorted, IsRepeat, IsTied, TellRepeats};
 
 use crate::items::key_given;
 use odd_items::Item;
-use odd_keyed::Keyed;
-use odd_text::{NoMemory, lesser};
+use odd_text::{Keyed, NoMemory, lesser};
 use std::alloc::Global;
 
 /// How many items stand before the first whose key one of them has, where there is such an item.

@@ -1,7 +1,7 @@
 -- The elements of a merged ODD that stand for the components of a library, and its text.
 use Rattle.std.specs.Prelude.{ℕ, Bool, true, false, if◌then◌else◌, List, [], ◌∷◌, map, Option, Some, None, codes}
 use Rattle.odd_text.specs.declared.key.Key.{Key}
-use Rattle.odd_tokens.specs.Same.{is_same}
+use Rattle.odd_text.specs.Same.{is_same}
 use Rattle.odd_tree.specs.Markup.{Markup, file_printed}
 use Rattle.odd_forms.specs.Names.{tei_namespace}
 use Rattle.odd_library.specs.declared.library.ClassPart.{ClassPart}

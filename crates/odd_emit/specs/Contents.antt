@@ -1,7 +1,7 @@
 -- The elements of a merged ODD that stand for content models, data and lists of values.
 use Rattle.std.specs.Prelude.{ℕ, Bool, false, ◌&&◌, ◌||◌, ◌==◌, ◌+◌, ◌/◌, ◌%◌, nat_lt, not, suc, zero, if◌then◌else◌, List, [], ◌∷◌, ◌++◌, map, Option, Some, None, codes}
 use Rattle.odd_text.specs.declared.name.Name.{Name}
-use Rattle.odd_tokens.specs.Same.{is_same}
+use Rattle.odd_text.specs.Same.{is_same}
 use Rattle.odd_tree.specs.Markup.{Markup, Pair}
 use Rattle.odd_tree.specs.Names.{xml_namespace}
 use Rattle.rng_types.specs.declared.bounds.Bounds.{Bounds}

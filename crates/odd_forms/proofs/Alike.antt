@@ -11,8 +11,8 @@ use Rattle.std.specs.FinMap.{slice_cmp-IsAntisymmetric, nat_cmp-IsAntisymmetric}
 use Rattle.std.specs.List.{list_any}
 use Rattle.std.specs.Ordering.{eq_by_cmp, is_eq}
 use Rattle.odd_text.specs.Text.{text_cmp}
-use Rattle.odd_tree.proofs.InList.{StandsOnce, nothing_stands, once_push}
-use Rattle.odd_forms.specs.Standing.{StandsTwice}
+use Rattle.odd_text.proofs.InList.{StandsOnce, nothing_stands, once_push}
+use Rattle.odd_text.specs.Standing.{StandsTwice}
 use Rattle.odd_forms.proofs.Children.{twice_push, twice_with}
 
 -- whether the set holds the text

@@ -7,17 +7,17 @@ use Rattle.std.proofs.lemmas.Bool.{both_ways, cases_Bool, leb-false, leb-true}
 use Rattle.odd_text.specs.declared.name.Bind.{Bind}
 use Rattle.odd_tree.specs.declared.tree.Tree.{Tree}
 use Rattle.odd_tree.specs.Elements.{children_of, given, within}
-use Rattle.odd_tree.proofs.InList.{StandsOnce}
+use Rattle.odd_text.proofs.InList.{StandsOnce}
 use Rattle.odd_forms.specs.declared.element.Element.{Element}
 use Rattle.odd_forms.specs.Faults.{AttributeFault, ChildFault, DemandFault, FormFault, OwnFault, child_in}
 use Rattle.odd_forms.specs.Form.{Form}
 use Rattle.odd_forms.specs.Children.{IsChild}
 use Rattle.odd_forms.specs.Deep.{DeepFault, PlacedFault, is_level, left_inside}
-use Rattle.odd_forms.specs.Least.{Among, IsLeast}
+use Rattle.odd_text.specs.Least.{Among, IsLeast}
 use Rattle.odd_forms.specs.Names.{is_one_of, is_passed_over, is_relax_ng, is_tei}
 use Rattle.odd_forms.specs.Table.{form_at}
 use Rattle.odd_forms.proofs.Children.{child_named, named_not_relax, never_left_out}
-use Rattle.odd_forms.proofs.Least.{least_any, least_if, least_or, least_same, lesser_rule}
+use Rattle.odd_text.proofs.Least.{least_any, least_if, least_or, least_same, lesser_rule}
 
 -- a child breaks no rule below 2
 child_from_two : (form : Form) (c : Tree) (rule : ℕ) → ChildFault form c rule → 2 ≤ rule

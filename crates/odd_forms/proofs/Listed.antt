@@ -2,7 +2,8 @@
 use Rattle.std.proofs.Common.{◌≡◌, ℕ, ◌+◌, ◌<◌, Bor, List, [], ◌∷◌, ◌++◌, map, drop, get_or, length, refl, sym, ap, ap₂, subst, ◌∙◌, append_assoc}
 use Rattle.std.proofs.lemmas.Bool.{both_ways}
 use Rattle.std.proofs.lemmas.List.{append-nil}
-use Rattle.odd_tree.proofs.InList.{begins, text_shown}
+use Rattle.odd_tree.proofs.InTree.{text_shown}
+use Rattle.odd_text.proofs.InList.{begins}
 use Rattle.odd_tree.specs.Elements.{children_of, elements_of}
 use Rattle.odd_tree.specs.declared.tree.Node.{Node, Text}
 use Rattle.odd_tree.specs.declared.tree.Tree.{Tree}

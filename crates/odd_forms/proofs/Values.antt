@@ -10,18 +10,19 @@ use Rattle.odd_tree.specs.declared.tree.Tree.{Tree}
 use Rattle.odd_tree.specs.Elements.{given}
 use Rattle.rng_values.specs.Treated.{collapsed_text}
 use Rattle.odd_forms.specs.Excepting.{has_unbound}
-use Rattle.odd_forms.specs.Standing.{StandsTwice}
+use Rattle.odd_text.specs.Standing.{StandsTwice}
 use Rattle.odd_forms.specs.declared.element.Element.{Element}
 use Rattle.rng_types.specs.declared.facet.FacetText.{FacetText}
 use Rattle.rng_values.specs.Items.{ItemFault}
 use Rattle.odd_forms.specs.Faults.{AttributeFault, DemandFault, ValueFault, count_named, has_named, idents_of, values_in}
 use Rattle.odd_forms.specs.Form.{AttributeForm, Kind, Suits, in_order, needed_unless, not_both, bound, apart, apart_collapsed, attributes_apart, either, not_beside, no_child_beside, has_child, one_part, no_part, once, own_text, typed, number_told}
-use Rattle.odd_forms.specs.Least.{IsLeast}
+use Rattle.odd_text.specs.Least.{IsLeast}
 use Rattle.odd_forms.specs.Listing.{Lists}
 use Rattle.odd_forms.specs.Tags.{facets_given}
 use Rattle.odd_forms.specs.Texts.{collapsed_in}
-use Rattle.odd_forms.specs.Words.{is_among, is_given_among, words_given}
-use Rattle.odd_forms.proofs.Least.{least_if, least_same}
+use Rattle.odd_text.specs.Same.{is_among}
+use Rattle.odd_forms.specs.Words.{is_given_among, words_given}
+use Rattle.odd_text.proofs.Least.{least_if, least_same}
 use Rattle.odd_forms.proofs.Listed.{lists_one}
 
 -- a value that is left out

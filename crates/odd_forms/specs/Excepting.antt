@@ -4,7 +4,7 @@ use Rattle.std.specs.List.{after_first, before_first, list_any}
 use Rattle.std.specs.Str.{chars, encode_utf8_all}
 use Rattle.odd_text.specs.declared.name.Bind.{Bind}
 use Rattle.odd_tokens.specs.Characters.{IsNCName, is_ncname}
-use Rattle.odd_tokens.specs.Same.{is_same}
+use Rattle.odd_text.specs.Same.{is_same}
 use Rattle.odd_tree.specs.Names.{in_force}
 use Rattle.odd_forms.specs.declared.excepted.Excepted.{Excepted}
 use Rattle.odd_forms.specs.declared.excepted.Excepted.TheVariants as excepted

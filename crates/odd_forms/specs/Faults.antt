@@ -3,7 +3,8 @@
 use Rattle.std.specs.Prelude.{◌≡◌, ◌≢◌, ◌≤◌, ◌<◌, ℕ, Bool, true, false, ◌||◌, List, [], ◌∷◌, ◌++◌, map, find, count_by, Option, Some, None, is_some, IsSome, IsTrue, if◌then◌else◌, codes}
 use Rattle.std.specs.List.{filter_map, list_any}
 use Rattle.odd_text.specs.declared.name.Bind.{Bind}
-use Rattle.odd_tree.specs.Elements.{StandsIn, children_of, given}
+use Rattle.odd_text.specs.Standing.{StandsIn}
+use Rattle.odd_tree.specs.Elements.{children_of, given}
 use Rattle.odd_tree.specs.declared.tree.Tree.{Tree}
 use Rattle.rng_values.specs.Items.{ItemFault}
 use Rattle.rng_values.specs.Treated.{collapsed_text}
@@ -11,11 +12,12 @@ use Rattle.odd_forms.specs.Excepting.{has_unbound}
 use Rattle.odd_forms.specs.Form.{AttributeForm, Demand, Form, Kind, Suits, in_order, needed_unless, not_both, bound, apart, apart_collapsed, attributes_apart, either, not_beside, no_child_beside, has_child, one_part, no_part, once, own_text, typed, number_told}
 use Rattle.odd_forms.specs.Listing.{Lists}
 use Rattle.odd_forms.specs.Names.{is_one_of, is_passed_over, is_relax_ng, is_tei}
-use Rattle.odd_forms.specs.Standing.{StandsTwice}
+use Rattle.odd_text.specs.Standing.{StandsTwice}
 use Rattle.odd_forms.specs.Table.{form_at}
 use Rattle.odd_forms.specs.Tags.{facets_given}
 use Rattle.odd_forms.specs.Texts.{collapsed_in}
-use Rattle.odd_forms.specs.Words.{is_among, is_given_among, words_given}
+use Rattle.odd_text.specs.Same.{is_among}
+use Rattle.odd_forms.specs.Words.{is_given_among, words_given}
 use Rattle.odd_forms.specs.declared.element.Element.{Element}
 
 -- the element of the table that an element is, among these

@@ -5,14 +5,13 @@ ghost use Rattle.odd_tree.specs.Elements.{given};
 ghost use Rattle.odd_forms.specs.Faults.{AttributeFault, ValueFault};
 ghost use Rattle.odd_forms.specs.Form.{IsAttributeName, Suits, are_digits as the_are_digits, number_told};
 ghost use Rattle.odd_forms.specs.Words.{words_of as the_words_of};
-ghost use Rattle.odd_forms.specs.Least.{IsLeast};
+ghost use Rattle.odd_text.specs.Least.{IsLeast};
 ghost use Rattle.odd_forms.specs.Seen as seen;
 ghost use Rattle.odd_tokens.specs.Characters.{IsNCName};
 
 use crate::faults::{LEFT_OUT, MALFORMED, fault_where};
 use crate::form::{AttributeForm, Kind};
-use crate::words::is_among;
-use odd_text::{NoMemory, Text};
+use odd_text::{NoMemory, Text, is_among};
 use odd_tokens::is_space;
 use odd_tree::{Tree, attribute, is_ncname};
 use rng_types::words_of;

@@ -2,7 +2,7 @@ ghost use Rattle.std.specs.Prelude.{◌≡◌, List, map, IfOk};
 ghost use Rattle.odd_text.specs.declared.name.Bind.{Bind as ABind};
 ghost use Rattle.odd_tree.specs.Elements.{all_binds, children_of, within};
 ghost use Rattle.odd_forms.specs.Deep.{DeepFault, PlacedFault, has_several as the_has_several, is_level as the_is_level, left_inside as the_left_inside};
-ghost use Rattle.odd_forms.specs.Least.{Among, IsLeast};
+ghost use Rattle.odd_text.specs.Least.{Among, IsLeast};
 ghost use Rattle.odd_forms.specs.Seen as seen;
 
 use crate::element::Element;

@@ -4,7 +4,7 @@ ghost use Rattle.std.specs.Option.{option_copied};
 ghost use Rattle.odd_tree.specs.Elements.{all_binds, children_of, given};
 ghost use Rattle.odd_forms.specs.Children.{GivesOne, IsChild};
 ghost use Rattle.odd_forms.specs.Faults.{AttributeFault, ChildFault, DemandFault, OwnFault, child_in, element_among as the_element_among};
-ghost use Rattle.odd_forms.specs.Least.{Among, IsLeast};
+ghost use Rattle.odd_text.specs.Least.{Among, IsLeast};
 ghost use Rattle.odd_forms.specs.Names.{is_one_of as the_is_one_of};
 ghost use Rattle.odd_forms.specs.Seen as seen;
 ghost use Rattle.odd_forms.specs.Table.{form_at};

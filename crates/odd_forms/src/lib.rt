@@ -12,7 +12,6 @@ mod form;
 mod listing;
 mod named;
 mod names;
-mod sorting;
 mod texts;
 mod twice;
 mod words;
@@ -31,7 +30,6 @@ pub use listing::definitions_in;
 pub use named::{child_named, count_named, has_named};
 pub use names::{is_one_of, is_passed_over, is_relax_ng, is_tei};
 pub use rng_types::words_of;
-pub use sorting::sorted;
 pub use texts::collapsed_in;
 pub use words::words_given;
 

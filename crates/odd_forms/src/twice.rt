@@ -2,7 +2,7 @@ ghost use Rattle.std.specs.Prelude.{◌≡◌, ◌↔◌, ℕ, List, map, IfOk, 
 ghost use Rattle.std.specs.Option.{option_copied};
 ghost use Rattle.rng_values.specs.Treated.{collapsed_text};
 ghost use Rattle.odd_forms.specs.Faults.{idents_of as the_idents_of, value_in as the_value_in, values_in as the_values_in};
-ghost use Rattle.odd_forms.specs.Standing.{StandsTwice};
+ghost use Rattle.odd_text.specs.Standing.{StandsTwice};
 
 use crate::element::Element;
 use crate::names::is_one_of;

@@ -4,11 +4,11 @@ use Rattle.std.proofs.lemmas.List.{append-nil, length-append, map-append}
 use Rattle.odd_text.specs.declared.name.Bind.{Bind}
 use Rattle.odd_tree.specs.Elements.{children_of, within}
 use Rattle.odd_tree.specs.declared.tree.Tree.{Tree, out-Tree}
-use Rattle.odd_forms.specs.Names.{is_one_of, is_tei}
+use Rattle.odd_forms.specs.Names.{is_one_of}
 use Rattle.odd_items.proofs.Levels.{level_within}
-use Rattle.odd_items.proofs.Places.{all_parents, get_left, get_right, parts_append, parts_foreign, parts_inside, parts_named, parts_none, parts_outer}
+use Rattle.odd_items.proofs.Places.{all_parents, get_left, get_right, parts_append, parts_passed, parts_inside, parts_named, parts_none, parts_outer}
 use Rattle.odd_items.specs.Adding.{AddsAmong, AddsKept, ArePartParents, Extends, KeepsIt, LeadsInside, standing_in}
-use Rattle.odd_items.specs.Search.{Finds, FindsAmong, Found, foreign, outer, through, nothing, element}
+use Rattle.odd_items.specs.Search.{Finds, FindsAmong, Found, is_searched, passed, outer, through, nothing, element}
 use Rattle.odd_items.specs.Searching.{AreKept, AreParents, IsAround, outside, inside, none, more}
 use Rattle.odd_items.specs.declared.searching.Kept.{Kept}
 use Rattle.odd_items.specs.declared.searching.Level.{Level}
@@ -102,28 +102,28 @@ module _ (names : List (List ℕ)) (outermost : Bool) where
   adds_all all rest level parent levels longer old new is so_far =
       subst (λ ts. AddsAmong names outermost ts level parent levels longer old new) (sym (so_far.1 ∙ ap (λ ts. so_far.0 ++ ts) is ∙ append-nil so_far.0)) so_far.2
 
-  -- in an element of another namespace nothing is found
-  pub adds_foreign : (t : Tree) (level parent : Option ℕ) (levels : List Level) (old : List Kept) → is_tei t ≡ false → AddsKept names outermost t level parent levels levels old old
-  adds_foreign t level parent levels old h =
-      (extends_none levels, λ around g. ([], [], sym (append-nil old), foreign h, none, parts_foreign names outermost (length old) parent (record { around = around; element = t }) h))
+  -- in an element that is not searched nothing is found
+  pub adds_passed : (t : Tree) (level parent : Option ℕ) (levels : List Level) (old : List Kept) → is_searched t ≡ false → AddsKept names outermost t level parent levels levels old old
+  adds_passed t level parent levels old h =
+      (extends_none levels, λ around g. ([], [], sym (append-nil old), passed h, none, parts_passed names outermost (length old) parent (record { around = around; element = t }) h))
 
   -- an element of one of the names, where the outermost alone are looked for
-  pub adds_outer : (t : Tree) (kept : Kept) (levels longer : List Level) (old new : List Kept) → kept.tree.now ≡ t → outermost ≡ true → is_one_of names t ≡ true
+  pub adds_outer : (t : Tree) (kept : Kept) (levels longer : List Level) (old new : List Kept) → kept.tree.now ≡ t → is_searched t ≡ true → outermost ≡ true → is_one_of names t ≡ true
       → LeadsInside t kept.level levels longer kept.inside → new ≡ old ++ kept ∷ [] → AddsKept names outermost t kept.level kept.parent levels longer old new
-  adds_outer t kept levels longer old new is outermost_alone one leads e = (
+  adds_outer t kept levels longer old new is searched outermost_alone one leads e = (
     leads.0,
     λ around h. (
       record { around = around; element = t } ∷ [],
       kept ∷ [],
       e,
-      outer outermost_alone one,
+      outer searched outermost_alone one,
       more (record { tree = is; level = extended_around levels longer kept.level around leads.0 h; inside = leads.1 around h }) none,
       parts_outer names outermost (length old) kept.parent (record { around = around; element = t }) kept outermost_alone refl,
     ),
   )
 
   -- an element of one of the names, and what is found inside it
-  adds_named : (t : Tree) (kept : Kept) (holder : Option ℕ) (levels longer longest : List Level) (old mid new : List Kept) → kept.tree.now ≡ t → is_tei t ≡ true → (outermost && is_one_of names t) ≡ false
+  adds_named : (t : Tree) (kept : Kept) (holder : Option ℕ) (levels longer longest : List Level) (old mid new : List Kept) → kept.tree.now ≡ t → is_searched t ≡ true → (outermost && is_one_of names t) ≡ false
       → is_one_of names t ≡ true → LeadsInside t kept.level levels longer kept.inside → mid ≡ old ++ kept ∷ [] → holder ≡ Some (length old)
       → AddsAmong names outermost (children_of t) kept.inside holder longer longest mid new → AddsKept names outermost t kept.level kept.parent levels longest old new
   adds_named t kept holder levels longer longest old mid new is tei all one leads e place adds =
@@ -144,7 +144,7 @@ module _ (names : List (List ℕ)) (outermost : Bool) where
       )
 
   -- what is found inside another
-  adds_inside : (t : Tree) (kept : Kept) (holder : Option ℕ) (levels longer longest : List Level) (old mid new : List Kept) → is_tei t ≡ true → (outermost && is_one_of names t) ≡ false
+  adds_inside : (t : Tree) (kept : Kept) (holder : Option ℕ) (levels longer longest : List Level) (old mid new : List Kept) → is_searched t ≡ true → (outermost && is_one_of names t) ≡ false
       → is_one_of names t ≡ false → LeadsInside t kept.level levels longer kept.inside → mid ≡ old → holder ≡ None
       → AddsAmong names outermost (children_of t) kept.inside holder longer longest mid new → AddsKept names outermost t kept.level kept.parent levels longest old new
   adds_inside t kept holder levels longer longest old mid new tei all other leads e no_holder adds = (
@@ -164,7 +164,7 @@ module _ (names : List (List ℕ)) (outermost : Bool) where
   )
 
   -- an element and what is found inside it
-  pub adds_through : (t : Tree) (kept : Kept) (named : Bool) (holder : Option ℕ) (levels longer longest : List Level) (old mid new : List Kept) → kept.tree.now ≡ t → is_tei t ≡ true → named ≡ is_one_of names t
+  pub adds_through : (t : Tree) (kept : Kept) (named : Bool) (holder : Option ℕ) (levels longer longest : List Level) (old mid new : List Kept) → kept.tree.now ≡ t → is_searched t ≡ true → named ≡ is_one_of names t
       → (outermost && named) ≡ false → LeadsInside t kept.level levels longer kept.inside → KeepsIt kept named old mid holder
       → AddsAmong names outermost (children_of t) kept.inside holder longer longest mid new → AddsKept names outermost t kept.level kept.parent levels longest old new
   adds_through t kept true holder levels longer longest old mid new is tei named all leads keeps adds =

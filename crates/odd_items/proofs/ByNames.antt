@@ -4,8 +4,10 @@ use Rattle.std.proofs.lemmas.Bool.{false≢true, and_from, and_parts, cases_Bool
 use Rattle.std.proofs.lemmas.List.Elements.{All-append, All-cons, All-contains, All-nil, filter-append}
 use Rattle.std.specs.Prelude.{All}
 use Rattle.odd_text.specs.declared.name.Bind.{Bind}
-use Rattle.odd_tree.proofs.InList.{contained, with_element, with_text}
-use Rattle.odd_tree.specs.Elements.{StandsIn, children_of, elements_of, within}
+use Rattle.odd_tree.proofs.InTree.{with_element, with_text}
+use Rattle.odd_text.proofs.InList.{contained}
+use Rattle.odd_text.specs.Standing.{StandsIn}
+use Rattle.odd_tree.specs.Elements.{children_of, elements_of, within}
 use Rattle.odd_tree.specs.Significant.{depth, node_depth, tree_depth}
 use Rattle.odd_tree.specs.declared.tree.Node.{Node, Element, Text, fold-Node, out-Node, roll-Node, roll-out-Node}
 use Rattle.odd_tree.specs.declared.tree.Node as N
@@ -13,12 +15,8 @@ use Rattle.odd_tree.specs.declared.tree.Node.TheOpen as shown
 use Rattle.odd_tree.specs.declared.tree.Node.TheVariants.{rolls-Element, rolls-Text}
 use Rattle.odd_tree.specs.declared.tree.Tree.{Tree, out-Tree}
 use Rattle.odd_tree.specs.declared.tree.Tree as T
-use Rattle.odd_forms.specs.Names.{is_one_of, is_tei}
-use Rattle.odd_items.specs.Search.{Finds, FindsAmong, Found, own, foreign, outer, through, nothing, element}
-
--- what has one of the names is TEI's
-tei_of : (names : List (List ℕ)) (t : Tree) → is_one_of names t ≡ true → is_tei t ≡ true
-tei_of names t h = (and_parts _ _ h).0
+use Rattle.odd_forms.specs.Names.{is_one_of}
+use Rattle.odd_items.specs.Search.{Finds, FindsAmong, Found, is_searched, own, passed, outer, through, nothing, element}
 
 module _ (names : List (List ℕ)) (outermost : Bool) where
   -- among no elements nothing is found
@@ -39,14 +37,14 @@ module _ (names : List (List ℕ)) (outermost : Bool) where
   mutual
     -- what the search finds in an element is told by the element
     pub one_search : (around : List Bind) (t : Tree) (found others : List Found) → Finds names outermost around t found → Finds names outermost around t others → found ≡ others
-    one_search around t found others (foreign f) (foreign g) = refl
-    one_search around t found others (foreign f) (outer o g) = absurd (false≢true (sym f ∙ tei_of names t g))
-    one_search around t found others (foreign f) (through inner g apart among is) = absurd (false≢true (sym f ∙ g))
-    one_search around t found others (outer o f) (foreign g) = absurd (false≢true (sym g ∙ tei_of names t f))
-    one_search around t found others (outer o f) (outer p g) = refl
-    one_search around t found others (outer o f) (through inner g apart among is) = absurd (not_both t o f apart)
-    one_search around t found others (through inner f apart among is) (foreign g) = absurd (false≢true (sym g ∙ f))
-    one_search around t found others (through inner f apart among is) (outer o g) = absurd (not_both t o g apart)
+    one_search around t found others (passed f) (passed g) = refl
+    one_search around t found others (passed f) (outer q o g) = absurd (false≢true (sym f ∙ q))
+    one_search around t found others (passed f) (through inner g apart among is) = absurd (false≢true (sym f ∙ g))
+    one_search around t found others (outer q o f) (passed g) = absurd (false≢true (sym g ∙ q))
+    one_search around t found others (outer q o f) (outer r p g) = refl
+    one_search around t found others (outer q o f) (through inner g apart among is) = absurd (not_both t o f apart)
+    one_search around t found others (through inner f apart among is) (passed g) = absurd (false≢true (sym g ∙ f))
+    one_search around t found others (through inner f apart among is) (outer q o g) = absurd (not_both t o g apart)
     one_search around t found others (through inner f apart among is) (through others_inner g others_apart amid at) =
         is ∙ ap (λ fs. own names around t ++ fs) (one_search_among (within around t) (children_of t) inner others_inner among amid) ∙ sym at
 
@@ -70,8 +68,8 @@ module _ (names : List (List ℕ)) (outermost : Bool) where
 
   mutual
     all_named : (around : List Bind) (t : Tree) (found : List Found) → Finds names outermost around t found → All IsNamed found
-    all_named around t found (foreign f) = All-nil IsNamed
-    all_named around t found (outer o h) = All-cons IsNamed (record { around = around; element = t }) [] h (All-nil IsNamed)
+    all_named around t found (passed f) = All-nil IsNamed
+    all_named around t found (outer q o h) = All-cons IsNamed (record { around = around; element = t }) [] h (All-nil IsNamed)
     all_named around t found (through inner tei apart among is) =
         subst (All IsNamed) (sym is) (All-append IsNamed (own names around t) inner (own_named around t) (among_named (within around t) (children_of t) inner among))
 
@@ -100,8 +98,8 @@ module _ (names fewer_names : List (List ℕ)) (among_all : (t : Tree) → IsTru
   mutual
     -- what a search for some of the names finds is what the search for all finds that has one of them
     pub fewer : (around : List Bind) (t : Tree) (found : List Found) → Finds names false around t found → Finds fewer_names false around t (filter (λ (f : Found). is_one_of fewer_names f.element) found)
-    fewer around t found (foreign f) = foreign f
-    fewer around t found (outer o h) = absurd (false≢true o)
+    fewer around t found (passed f) = passed f
+    fewer around t found (outer q o h) = absurd (false≢true o)
     fewer around t found (through inner tei apart among is) = through (filter is_kept inner) tei refl (fewer_among (within around t) (children_of t) inner among)
         (ap (filter is_kept) is ∙ filter-append is_kept (own names around t) inner ∙ ap (λ fs. fs ++ filter is_kept inner) (own_fewer around t))
 
@@ -149,12 +147,12 @@ module _ (names : List (List ℕ)) (outermost : Bool) where
 
   -- where it does among the children, it does in the element
   found_through : (around : List Bind) (t : Tree) → AreFound (within around t) (children_of t) → IsFound around t
-  found_through around t inner = elim (cases_Bool (is_tei t)) [
-    | inl tei ↦ elim (cases_Bool (outermost && is_one_of names t)) [
-      | inl both ↦ (record { around = around; element = t } ∷ [], outer (and_parts _ _ both).0 (and_parts outermost _ both).1)
-      | inr apart ↦ (own names around t ++ inner.0, through inner.0 tei apart inner.1 refl)
+  found_through around t inner = elim (cases_Bool (is_searched t)) [
+    | inl searched ↦ elim (cases_Bool (outermost && is_one_of names t)) [
+      | inl both ↦ (record { around = around; element = t } ∷ [], outer searched (and_parts _ _ both).0 (and_parts outermost _ both).1)
+      | inr apart ↦ (own names around t ++ inner.0, through inner.0 searched apart inner.1 refl)
     ]
-    | inr other ↦ ([], foreign other)
+    | inr other ↦ ([], passed other)
   ]
 
   -- among nodes of no more levels than those at which it always does

@@ -7,13 +7,15 @@ use Rattle.std.specs.BTreeSet.{BTreeSet, contains}
 use Rattle.std.specs.Cmp.Lexicographic.{same_text}
 use Rattle.std.specs.List.{Contains, list_any}
 use Rattle.std.specs.Ordering.{eq_by_cmp, nat_cmp}
-use Rattle.odd_tokens.specs.Same.{is_same}
-use Rattle.odd_tree.proofs.InList.{begins, contained as contained_in, first_or_later, nothing_stands, standing, stands_first, stands_later, text_shown}
+use Rattle.odd_text.specs.Same.{is_same}
+use Rattle.odd_tree.proofs.InTree.{text_shown}
+use Rattle.odd_text.proofs.InList.{begins, contained as contained_in, first_or_later, nothing_stands, standing, stands_first, stands_later}
 use Rattle.odd_tree.proofs.PrintedTrees.{same_from}
-use Rattle.odd_tree.specs.Elements.{StandsIn, children_of, elements_of}
+use Rattle.odd_text.specs.Standing.{StandsIn}
+use Rattle.odd_tree.specs.Elements.{children_of, elements_of}
 use Rattle.odd_tree.specs.declared.tree.Node.{Node, Text}
 use Rattle.odd_tree.specs.declared.tree.Tree.{Tree, out-Tree}
-use Rattle.odd_forms.proofs.Least.{any_map, any_stands}
+use Rattle.odd_text.proofs.Least.{any_map, any_stands}
 use Rattle.odd_forms.specs.Children.{IsChild}
 use Rattle.odd_forms.specs.Faults.{child_in}
 use Rattle.odd_forms.specs.Table.{form_at}

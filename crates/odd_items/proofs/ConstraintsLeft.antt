@@ -4,10 +4,12 @@ use Rattle.std.proofs.lemmas.Bool.{both_ways}
 use Rattle.std.proofs.lemmas.Option.{same_Some}
 use Rattle.std.specs.List.{Contains}
 use Rattle.odd_text.specs.declared.name.Bind.{Bind}
-use Rattle.odd_tokens.specs.Same.{is_same}
-use Rattle.odd_tree.proofs.InList.{first_or_later, map_stands, nothing_stands, stands_first, stands_later, with_element, with_text}
+use Rattle.odd_text.specs.Same.{is_same}
+use Rattle.odd_tree.proofs.InTree.{with_element, with_text}
+use Rattle.odd_text.proofs.InList.{first_or_later, map_stands, nothing_stands, stands_first, stands_later}
 use Rattle.odd_tree.proofs.PrintedTrees.{same_from}
-use Rattle.odd_tree.specs.Elements.{StandsIn, StandsWithin, children_of, elements_of, within}
+use Rattle.odd_text.specs.Standing.{StandsIn}
+use Rattle.odd_tree.specs.Elements.{StandsWithin, children_of, elements_of, within}
 use Rattle.odd_tree.specs.Elements as elements
 use Rattle.odd_tree.specs.Formed.{IsFormed}
 use Rattle.odd_tree.specs.Formed as formed

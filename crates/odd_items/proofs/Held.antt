@@ -2,9 +2,10 @@
 use Rattle.std.proofs.Common.{◌≡◌, ℕ, zero, suc, ◌<◌, ◌⊎◌, inl, inr, ⊎_elim, Bool, true, false, List, [], ◌∷◌, ◌++◌, drop, Option, Some, slice_get, refl, sym, ap, subst, ◌∙◌, append_assoc, arith}
 use Rattle.std.proofs.lemmas.Bool.{false≢true}
 use Rattle.std.proofs.lemmas.Option.{none-some, same_Some}
-use Rattle.odd_tree.specs.Elements.{StandsIn, children_of, within}
+use Rattle.odd_text.specs.Standing.{StandsIn}
+use Rattle.odd_tree.specs.Elements.{children_of, within}
 use Rattle.odd_tree.specs.declared.tree.Tree.{Tree}
-use Rattle.odd_tree.proofs.InList.{map_stands, nothing_stands, stands_map, stands_push}
+use Rattle.odd_text.proofs.InList.{map_stands, nothing_stands, stands_map, stands_push}
 use Rattle.odd_items.specs.Held.{AddsChildren, AddsItems, IsItemAt}
 use Rattle.odd_items.specs.Listing.{AreItems, IsHeldBy, IsItemOf}
 use Rattle.odd_items.specs.Search.{Found, children_found}

@@ -1,92 +1,48 @@
 -- The first group of an id among what was found is the group of the id, and the places that steps lead to are those of what holds items.
-use Rattle.std.proofs.Common.{◌≡◌, ◌≢◌, ℕ, zero, suc, ◌<◌, ◌⊎◌, Bool, true, false, List, [], ◌∷◌, ◌++◌, filter, length, Some, slice_get, inl, inr, ⊎_elim, refl, sym, ap, subst, ◌∙◌, arith, IsTrue}
-use Rattle.std.proofs.lemmas.Bool.{and_from, and_parts, cases_Bool, or_right}
+use Rattle.std.proofs.Common.{◌≡◌, ◌≢◌, ℕ, ◌<◌, ◌⊎◌, ◌&&◌, not, Bool, true, false, List, [], ◌∷◌, ◌++◌, filter, length, Some, slice_get, inl, inr, ⊎_elim, refl, sym, ap, ap₂, subst, ◌∙◌, IsTrue}
+use Rattle.std.proofs.lemmas.Bool.{and_from, and_parts, false≢true, or_cases, or_right}
 use Rattle.std.proofs.lemmas.List.Elements.{filter-append}
-use Rattle.std.proofs.lemmas.Option.{none-some, same_Some, slice_get_within}
+use Rattle.std.proofs.lemmas.Option.{same_Some, slice_get_within}
+use Rattle.std.specs.Cmp.Lexicographic.{same_text}
 use Rattle.std.specs.Prelude.{codes}
-use Rattle.odd_tokens.specs.Same.{is_same}
-use Rattle.odd_tree.proofs.InList.{nothing_stands, stands_first, stands_later, first_or_later}
-use Rattle.odd_tree.specs.Elements.{StandsIn}
+use Rattle.odd_text.specs.Same.{is_same}
+use Rattle.odd_text.specs.Standing.{StandsIn}
 use Rattle.odd_tree.specs.declared.tree.Tree.{Tree, out-Tree}
 use Rattle.odd_forms.specs.Names.{is_one_of, is_tei}
-use Rattle.odd_forms.specs.Words.{is_among}
+use Rattle.odd_text.specs.Same.{is_among}
 use Rattle.odd_graph.proofs.Chains.{chained_on}
 use Rattle.odd_graph.specs.Graph.{Chained, at_once, through}
 use Rattle.odd_items.proofs.ByNames.{fewer, one_search}
+use Rattle.odd_items.proofs.InParts.{SplitsFilter, at_split, filter_keeps, from_filter, get_before, place_in, split_at, split_filter, stands_at, to_filter}
 use Rattle.odd_items.proofs.Places.{get_left}
 use Rattle.odd_items.specs.Groups.{HoldsItems, IsGroupOf, group_names, holder_names, id_of}
-use Rattle.odd_items.specs.Search.{Finds, Found, children_found}
+use Rattle.odd_items.specs.Search.{Finds, Found, children_found, is_searched}
 use Rattle.odd_items.specs.Searching.{IsChildAt}
 use Rattle.odd_items.specs.Steps.{IsFirstOf, IsGroupAt, StepsTo}
 
--- a list is what stands before a place of it, what stands there, and what stands after it
-split_at : {X : Type 0} (xs : List X) (i : ℕ) (x : X) → slice_get xs i ≡ Some x → (before : List X) × (after : List X) × (xs ≡ before ++ x ∷ after) × (length before ≡ i)
-split_at [] i x e = absurd (none-some _ e)
-split_at (y ∷ xs) zero x e = ([], xs, ap (λ z. z ∷ xs) (same_Some y x e), refl)
-split_at (y ∷ xs) (suc i) x e = let h = split_at xs i x e in (y ∷ h.0, h.1, ap (λ zs. y ∷ zs) h.2, ap (λ n. suc n) h.3)
-
--- what stands between stands after as many as stand before it
-at_split : {X : Type 0} (before after : List X) (x : X) → slice_get (before ++ x ∷ after) (length before) ≡ Some x
-at_split [] after x = refl
-at_split (y ∷ before) after x = at_split before after x
-
--- before that the places are those of the first part
-get_before : {X : Type 0} (xs ys : List X) (i : ℕ) (x : X) → i < length xs → slice_get (xs ++ ys) i ≡ Some x → slice_get xs i ≡ Some x
-get_before [] ys i x h e = absurd (omega arith)
-get_before (y ∷ xs) ys zero x h e = e
-get_before (y ∷ xs) ys (suc i) x h e = get_before xs ys i x (omega arith) e
-
--- what stands at a place stands in the list
-stands_at : {X : Type 0} (xs : List X) (i : ℕ) (x : X) → slice_get xs i ≡ Some x → StandsIn xs x
-stands_at xs i x e = let h = split_at xs i x e in (h.0, h.1, h.2)
-
--- and the other way round
-place_of : {X : Type 0} (xs : List X) (x : X) → StandsIn xs x → (i : ℕ) × (slice_get xs i ≡ Some x)
-place_of xs x s = (length s.0, ap (λ zs. slice_get zs (length s.0)) s.2 ∙ at_split s.0 s.1 x)
-
-module _ {X : Type 0} (p : X → Bool) where
-  filter_keeps : (x : X) (xs : List X) → p x ≡ true → filter p (x ∷ xs) ≡ x ∷ filter p xs
-  filter_keeps x xs h = rw h refl
-
-  filter_drops : (x : X) (xs : List X) → p x ≡ false → filter p (x ∷ xs) ≡ filter p xs
-  filter_drops x xs h = rw h refl
-
-  -- what is kept stands in the list, and is such
-  from_filter : (xs : List X) (x : X) → StandsIn (filter p xs) x → StandsIn xs x × (p x ≡ true)
-  from_filter [] x s = absurd (nothing_stands x s)
-  from_filter (y ∷ xs) x s = ⊎_elim
-      (λ is. ⊎_elim (λ e. (subst (StandsIn (y ∷ xs)) (sym e) (stands_first y xs), ap p e ∙ is)) (λ later. let h = from_filter xs x later in (stands_later y x xs h.0, h.1))
-      (first_or_later y x (filter p xs) (subst (λ zs. StandsIn zs x) (filter_keeps y xs is) s)))
-      (λ other. let h = from_filter xs x (subst (λ zs. StandsIn zs x) (filter_drops y xs other) s) in (stands_later y x xs h.0, h.1)) (cases_Bool (p y))
-
-  -- and what is such is kept
-  to_filter : (xs : List X) (x : X) → StandsIn xs x → p x ≡ true → StandsIn (filter p xs) x
-  to_filter xs x s is =
-      (filter p s.0, filter p s.1, ap (filter p) s.2 ∙ filter-append p s.0 (x ∷ s.1) ∙ ap (λ zs. filter p s.0 ++ zs) (filter_keeps x s.1 is))
-
-  -- the list parts where what is kept does
-  abbrev SplitsFilter : List X → List X → X → Type 0
-  SplitsFilter xs before x = (b : List X) × (a : List X) × (xs ≡ b ++ x ∷ a) × (filter p b ≡ before) × (p x ≡ true)
-
-  split_filter : (xs before after : List X) (x : X) → filter p xs ≡ before ++ x ∷ after → SplitsFilter xs before x
-  split_filter [] before after x e = absurd (nothing_stands x (before, after, e))
-  split_filter (y ∷ xs) before after x e = ⊎_elim (λ is. here (λ rest h. split_filter xs rest after x h) before is (sym (filter_keeps y xs is) ∙ e))
-      (λ other. let h = split_filter xs before after x (sym (filter_drops y xs other) ∙ e) in (y ∷ h.0, h.1, ap (λ zs. y ∷ zs) h.2, filter_drops y h.0 other ∙ h.3, h.4)) (cases_Bool (p y))
-    where
-      here : ((rest : List X) → filter p xs ≡ rest ++ x ∷ after → SplitsFilter xs rest x) → (before : List X) → p y ≡ true → y ∷ filter p xs ≡ before ++ x ∷ after → SplitsFilter (y ∷ xs) before x
-      here later [] is e = let same : y ≡ x = cc in ([], xs, ap (λ z. z ∷ xs) same, refl, ap p (sym same) ∙ is)
-      here later (z ∷ before) is e =
-          let same : y ≡ z = cc in
-          let rest : filter p xs ≡ before ++ x ∷ after = cc in
-          let h = later before rest in
-          (y ∷ h.0, h.1, ap (λ zs. y ∷ zs) h.2, filter_keeps y h.0 is ∙ ap (λ zs. y ∷ zs) h.3 ∙ ap (λ w. w ∷ before) same, h.4)
-
 -- a group may hold items
-group_holds : (t : Tree) → IsTrue (is_one_of group_names t) → IsTrue (is_one_of holder_names t)
+pub group_holds : (t : Tree) → IsTrue (is_one_of group_names t) → IsTrue (is_one_of holder_names t)
 group_holds t h =
     let parts = and_parts (is_tei t) (is_among group_names (out-Tree t).name.local) h in
     and_from (is_tei t) (is_among holder_names (out-Tree t).name.local) parts.0
     (or_right (is_same (out-Tree t).name.local (codes "schemaSpec")) (is_among group_names (out-Tree t).name.local) parts.1)
+
+-- and what may hold items is searched
+pub holder_searched : (t : Tree) → IsTrue (is_one_of holder_names t) → IsTrue (is_searched t)
+holder_searched t h = and_from (is_tei t) (not (is_one_of (codes "constraintSpec" ∷ []) t)) parts.0 (ap not (ap₂ (λ a b. a && b) parts.0 no_constraint))
+  where
+    local : List ℕ
+    local = (out-Tree t).name.local
+
+    parts : (is_tei t ≡ true) × (is_among holder_names local ≡ true)
+    parts = and_parts (is_tei t) (is_among holder_names local) h
+
+    no_constraint : is_among (codes "constraintSpec" ∷ []) local ≡ false
+    no_constraint =
+        ⊎_elim (λ e. ap (is_among (codes "constraintSpec" ∷ [])) (same_text local (codes "schemaSpec") (sym e)))
+        (λ later. ⊎_elim (λ e. ap (is_among (codes "constraintSpec" ∷ [])) (same_text local (codes "specGrp") (sym e))) (λ none. absurd (false≢true none))
+        (or_cases (is_same local (codes "specGrp")) false later))
+        (or_cases (is_same local (codes "schemaSpec")) (is_among group_names local) parts.1)
 
 -- it is a group
 abbrev is_group : Found → Bool
@@ -120,7 +76,7 @@ module _ (t : Tree) (found : List Found) (finds : Finds holder_names false [] t 
       first : (other : Found) → StandsIn (filter is_group parts.0) other → id_of other.element ≢ Some id
       first other s =
           let kept = from_filter is_group parts.0 other s in
-          let there = place_of parts.0 other kept.0 in
+          let there = place_in parts.0 other kept.0 in
           f.first there.0 other (subst (λ n. there.0 < n) parts.3 (slice_get_within parts.0 there.0 other there.1))
           (ap (λ fs. slice_get fs there.0) parts.2 ∙ get_left parts.0 (group ∷ parts.1) there.0 other there.1, kept.1)
 

@@ -6,6 +6,7 @@ pub mod ConstraintsLeft
 pub mod Grown
 pub mod Held
 pub mod Holders
+pub mod InParts
 pub mod Levels
 pub mod MarksSet
 pub mod Placed

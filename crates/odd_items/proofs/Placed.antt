@@ -7,9 +7,9 @@ use Rattle.std.specs.Borrow.{Bor}
 use Rattle.std.specs.Cmp.Lexicographic.{same_text, bytes_decides}
 use Rattle.std.specs.Option.{option_map}
 use Rattle.std.specs.Prelude.{Option, slice_get, is_some}
-use Rattle.odd_forms.specs.Least.{IsLeast}
+use Rattle.odd_text.specs.Least.{IsLeast}
 use Rattle.odd_text.specs.Text.{text_cmp}
-use Rattle.odd_tokens.specs.Same.{is_same}
+use Rattle.odd_text.specs.Same.{is_same}
 use Rattle.odd_tree.proofs.LastBound.{is_at_text}
 use Rattle.odd_tree.specs.declared.tree.Tree.{Tree}
 use Rattle.odd_items.specs.Ids.{HasId, IsAgain, IsFirstWith, id_of}

@@ -1,14 +1,14 @@
 -- Places in lists, and the parents of the parts of what was found.
 use Rattle.std.proofs.Common.{◌≡◌, ℕ, zero, suc, ◌+◌, ◌⊎◌, inl, inr, ⊎_elim, Bool, true, false, List, [], ◌∷◌, ◌++◌, length, Option, Some, None, slice_get, refl, sym, ap, ap₂, subst, ◌∙◌, append_assoc, arith, IsTrue}
-use Rattle.std.proofs.lemmas.Bool.{false≢true, and_parts}
+use Rattle.std.proofs.lemmas.Bool.{false≢true}
 use Rattle.std.proofs.lemmas.List.{length-append}
 use Rattle.std.proofs.lemmas.Option.{none-some, same_Some}
-use Rattle.odd_tree.specs.Elements.{StandsIn}
-use Rattle.odd_tree.proofs.InList.{nothing_stands, only_item, stands_first}
-use Rattle.odd_tree.proofs.InList as standing
-use Rattle.odd_forms.specs.Names.{is_one_of, is_tei}
+use Rattle.odd_text.specs.Standing.{StandsIn}
+use Rattle.odd_text.proofs.InList.{nothing_stands, only_item, stands_first}
+use Rattle.odd_text.proofs.InList as standing
+use Rattle.odd_forms.specs.Names.{is_one_of}
 use Rattle.odd_items.specs.Adding.{ArePartParents}
-use Rattle.odd_items.specs.Search.{Found, children_found}
+use Rattle.odd_items.specs.Search.{Found, children_found, is_searched}
 use Rattle.odd_items.specs.Searching.{AreParents, HasParent, IsChildAt}
 use Rattle.odd_items.specs.declared.searching.Kept.{Kept}
 
@@ -81,8 +81,8 @@ module _ (names : List (List ℕ)) (outermost : Bool) where
   parts_none offset parent = record {
     as_many = refl;
     each = λ place holder h. absurd (none-some _ h.1);
-    own = λ e child s t. absurd (nothing_stands child s);
-    inside = λ e inner holder child h s t. absurd (none-some _ h);
+    own = λ e child s q t. absurd (nothing_stands child s);
+    inside = λ e inner holder child h s q t. absurd (none-some _ h);
   }
 
   -- two parts, one after the other
@@ -92,18 +92,18 @@ module _ (names : List (List ℕ)) (outermost : Bool) where
   parts_append offset next parent roots more_roots keeps more_keeps found more_found begins a b = record {
     as_many = length-append keeps more_keeps ∙ ap₂ (λ m n. m + n) a.as_many b.as_many ∙ sym (length-append found more_found);
     each = λ place holder h. ⊎_elim (in_first place holder) (λ later. in_second place later.0 holder (later.1 ∙ ap (λ n. n + later.0) a.as_many) later.2) (parent_either keeps more_keeps place holder h);
-    own = λ e child s one. ⊎_elim
-        (λ first. let h = a.own e child first one in (h.0, get_left found more_found h.0 child h.1, h.2, get_left keeps more_keeps h.0 h.2 h.3, h.4))
-        (λ second. let h = b.own e child second one in (
+    own = λ e child s q one. ⊎_elim
+        (λ first. let h = a.own e child first q one in (h.0, get_left found more_found h.0 child h.1, h.2, get_left keeps more_keeps h.0 h.2 h.3, h.4))
+        (λ second. let h = b.own e child second q one in (
           length found + h.0,
           get_right found more_found h.0 child h.1,
           h.2,
           at_keeps (λ n. slice_get (keeps ++ more_keeps) (n + h.0) ≡ Some h.2) (get_right keeps more_keeps h.0 h.2 h.3),
           h.4,
         )) (stands_either roots more_roots child s);
-    inside = λ e inner holder child at s one. ⊎_elim
-        (λ first. let h = a.inside e inner holder child first s one in (h.0, get_left found more_found h.0 child h.1, parent_left keeps more_keeps h.0 (offset + inner) h.2))
-        (λ second. let h = b.inside e second.0 holder child second.2 s one in
+    inside = λ e inner holder child at s q one. ⊎_elim
+        (λ first. let h = a.inside e inner holder child first s q one in (h.0, get_left found more_found h.0 child h.1, parent_left keeps more_keeps h.0 (offset + inner) h.2))
+        (λ second. let h = b.inside e second.0 holder child second.2 s q one in
         let same : next + second.0 ≡ offset + inner = omega (arith, begins, a.as_many, second.1) in (
           length found + h.0,
           get_right found more_found h.0 child h.1,
@@ -128,13 +128,13 @@ module _ (names : List (List ℕ)) (outermost : Bool) where
           subst (λ p. Goal p holder) (sym is) (⊎_elim (λ own. inl (own.0, own.1, get_right found more_found later own.1 own.2, stands_right roots more_roots own.1 own.3))
           (λ deep. inr (length found + deep.0, omega (arith, begins, a.as_many, deep.1), child_right found more_found deep.0 later deep.2)) (b.each later holder h))
 
-  -- in an element of another namespace
-  pub parts_foreign : (offset : ℕ) (parent : Option ℕ) (f : Found) → is_tei f.element ≡ false → ArePartParents names outermost offset parent (f ∷ []) [] []
-  parts_foreign offset parent f foreign = record {
+  -- in an element that is not searched
+  pub parts_passed : (offset : ℕ) (parent : Option ℕ) (f : Found) → is_searched f.element ≡ false → ArePartParents names outermost offset parent (f ∷ []) [] []
+  parts_passed offset parent f passed = record {
     as_many = refl;
     each = λ place holder h. absurd (none-some _ h.1);
-    own = λ e child s one. let same = only_item f child s in absurd (false≢true (sym foreign ∙ ap (λ c. is_tei c.element) (sym same) ∙ (and_parts _ _ one).0));
-    inside = λ e inner holder child h s t. absurd (none-some _ h);
+    own = λ e child s q one. let same = only_item f child s in absurd (false≢true (sym passed ∙ ap (λ c. is_searched c.element) (sym same) ∙ q));
+    inside = λ e inner holder child h s q t. absurd (none-some _ h);
   }
 
   -- of an element of the names where the outermost alone are looked for
@@ -142,8 +142,8 @@ module _ (names : List (List ℕ)) (outermost : Bool) where
   parts_outer offset parent f kept outer is = record {
     as_many = refl;
     each = λ place holder h. inl (one place holder h);
-    own = λ e child s one. absurd (false≢true (sym e ∙ outer));
-    inside = λ e inner holder child h s t. absurd (false≢true (sym e ∙ outer));
+    own = λ e child s q one. absurd (false≢true (sym e ∙ outer));
+    inside = λ e inner holder child h s q t. absurd (false≢true (sym e ∙ outer));
   }
     where
       one : (place holder : ℕ) → HasParent (kept ∷ []) place holder → (parent ≡ Some holder) × (child : Found) × (slice_get (f ∷ []) place ≡ Some child) × StandsIn (f ∷ []) child
@@ -156,7 +156,7 @@ module _ (names : List (List ℕ)) (outermost : Bool) where
   parts_inside offset parent f roots keeps found other a = record {
     as_many = a.as_many;
     each = λ place holder h. ⊎_elim (λ own. absurd (none-some _ own.0)) (λ deep. inr deep) (a.each place holder h);
-    own = λ e child s one. let same = only_item f child s in absurd (false≢true (sym other ∙ ap (λ c. is_one_of names c.element) (sym same) ∙ one));
+    own = λ e child s q one. let same = only_item f child s in absurd (false≢true (sym other ∙ ap (λ c. is_one_of names c.element) (sym same) ∙ one));
     inside = a.inside;
   }
 
@@ -166,7 +166,7 @@ module _ (names : List (List ℕ)) (outermost : Bool) where
   parts_named offset next parent f kept keeps found begins is a = record {
     as_many = ap (λ n. suc n) a.as_many;
     each = each;
-    own = λ e child s one. (zero, ap Some (sym (only_item f child s)), kept, refl, is);
+    own = λ e child s q one. (zero, ap Some (sym (only_item f child s)), kept, refl, is);
     inside = inside;
   }
     where
@@ -178,14 +178,14 @@ module _ (names : List (List ℕ)) (outermost : Bool) where
           (λ deep. inr (suc deep.0, omega (arith, begins, deep.1), record { parent = deep.2.parent; child = deep.2.child; parent_at = deep.2.parent_at; child_at = deep.2.child_at; stands = deep.2.stands }))
           (a.each place holder (h.0, h.1, h.2))
 
-      inside : outermost ≡ false → (inner : ℕ) (holder child : Found) → slice_get (f ∷ found) inner ≡ Some holder → StandsIn (children_found holder) child → IsTrue (is_one_of names child.element)
+      inside : outermost ≡ false → (inner : ℕ) (holder child : Found) → slice_get (f ∷ found) inner ≡ Some holder → StandsIn (children_found holder) child → IsTrue (is_searched child.element) → IsTrue (is_one_of names child.element)
           → (place : ℕ) × (slice_get (f ∷ found) place ≡ Some child) × HasParent (kept ∷ keeps) place (offset + inner)
-      inside e zero holder child at s one =
-          let h = a.own e child (subst (λ g. StandsIn (children_found g) child) (sym (same_Some f holder at)) s) one in
+      inside e zero holder child at s q one =
+          let h = a.own e child (subst (λ g. StandsIn (children_found g) child) (sym (same_Some f holder at)) s) q one in
           let same : offset ≡ offset + zero = omega arith in
           (suc h.0, h.1, (h.2, h.3, h.4 ∙ ap Some same))
-      inside e (suc inner) holder child at s one =
-          let h = a.inside e inner holder child at s one in
+      inside e (suc inner) holder child at s q one =
+          let h = a.inside e inner holder child at s q one in
           let same : next + inner ≡ offset + suc inner = omega (arith, begins) in
           (suc h.0, h.1, (h.2.0, h.2.1, h.2.2 ∙ ap Some same))
 
@@ -193,5 +193,5 @@ module _ (names : List (List ℕ)) (outermost : Bool) where
   pub all_parents : (f : Found) (keeps : List Kept) (found : List Found) → ArePartParents names outermost 0 None (f ∷ []) keeps found → AreParents names outermost keeps found
   all_parents f keeps found a = record {
     each = λ place holder h. ⊎_elim (λ own. absurd (none-some _ own.0)) (λ deep. let same : deep.0 ≡ holder = omega (arith, deep.1) in subst (λ n. IsChildAt found n place) same deep.2) (a.each place holder h);
-    all = λ e holder parent child at s one. let h = a.inside e holder parent child at s one in let same : 0 + holder ≡ holder = omega arith in (h.0, h.1, subst (HasParent keeps h.0) same h.2);
+    all = λ e holder parent child at s q one. let h = a.inside e holder parent child at s q one in let same : 0 + holder ≡ holder = omega arith in (h.0, h.1, subst (HasParent keeps h.0) same h.2);
   }

@@ -4,7 +4,7 @@ use Rattle.std.proofs.lemmas.Option.{same_Some}
 use Rattle.std.specs.List.{Contains}
 use Rattle.std.specs.Prelude.{codes}
 use Rattle.odd_graph.proofs.OneMore.{contains_with}
-use Rattle.odd_tree.proofs.InList.{nothing_stands, stands_first, stands_later, first_or_later}
+use Rattle.odd_text.proofs.InList.{nothing_stands, stands_first, stands_later, first_or_later}
 use Rattle.odd_tree.specs.Elements.{given}
 use Rattle.odd_tree.specs.declared.tree.Tree.{Tree}
 use Rattle.odd_forms.specs.Names.{is_one_of}

@@ -7,8 +7,10 @@ use Rattle.std.specs.List.{list_all}
 use Rattle.odd_text.specs.declared.name.Bind.{Bind}
 use Rattle.odd_tokens.specs.Characters.{IsLegal, IsNCName, is_char}
 use Rattle.odd_tokens.specs.Tokens.{NoneTwice}
-use Rattle.odd_tree.proofs.InList.{element_shown, stands_first, stands_later, text_shown, with_element, with_text}
-use Rattle.odd_tree.specs.Elements.{StandsIn, StandsWithin, children_of, elements_of, within}
+use Rattle.odd_tree.proofs.InTree.{element_shown, text_shown, with_element, with_text}
+use Rattle.odd_text.proofs.InList.{stands_first, stands_later}
+use Rattle.odd_text.specs.Standing.{StandsIn}
+use Rattle.odd_tree.specs.Elements.{StandsWithin, children_of, elements_of, within}
 use Rattle.odd_tree.specs.Elements as elements
 use Rattle.odd_tree.specs.Formed.{AreApart, AreFormed, IsFormed, IsFormedTag, IsPrefix}
 use Rattle.odd_tree.specs.Formed as formed

@@ -7,7 +7,7 @@ use Rattle.std.proofs.lemmas.Map.Views.{Contains-from_any, list_any-from_Contain
 use Rattle.std.specs.BTreeSet.{BTreeSet, contains}
 use Rattle.std.specs.List.{Contains}
 use Rattle.std.specs.Ordering.{eq_by_cmp, nat_cmp}
-use Rattle.odd_tree.proofs.InList.{begins}
+use Rattle.odd_text.proofs.InList.{begins}
 use Rattle.odd_tree.specs.declared.tree.Node.{Node, Element, Text}
 use Rattle.odd_tree.specs.declared.tree.Tree.{Tree}
 use Rattle.odd_items.specs.Left.{before_rest}

@@ -1,8 +1,10 @@
 -- An element of a file stands at one place: two that begin there are one. What is found stands in the file, and its places rise.
 use Rattle.std.proofs.Common.{◌≡◌, ℕ, suc, ◌<◌, ◌≤◌, ◌⊎◌, inl, inr, ⊎_elim, Bool, true, false, if◌then◌else◌, List, [], ◌∷◌, ◌++◌, refl, sym, subst, ◌∙◌, arith}
 use Rattle.odd_text.specs.declared.name.Bind.{Bind}
-use Rattle.odd_tree.proofs.InList.{first_or_later, nothing_stands, only_item, stands_first, stands_later, stands_map, with_element, with_text}
-use Rattle.odd_tree.specs.Elements.{StandsIn, children_of, elements_of, within}
+use Rattle.odd_tree.proofs.InTree.{with_element, with_text}
+use Rattle.odd_text.proofs.InList.{first_or_later, nothing_stands, only_item, stands_first, stands_later, stands_map}
+use Rattle.odd_text.specs.Standing.{StandsIn}
+use Rattle.odd_tree.specs.Elements.{children_of, elements_of, within}
 use Rattle.odd_tree.specs.Formed.{AreFormed, IsFormed}
 use Rattle.odd_tree.specs.Formed as formed
 use Rattle.odd_tree.specs.declared.tree.Node.{Node}
@@ -141,8 +143,8 @@ own_under names outer t f s = by_name (is_one_of names t) s
 mutual
   pub found_under : (names : List (List ℕ)) (outermost : Bool) (outer : List Bind) (t : Tree) (found : List Found) → Finds names outermost outer t found → (f : Found) → StandsIn found f
       → StandsUnder outer t f
-  found_under names outermost outer t found (search.foreign other) f s = absurd (nothing_stands f s)
-  found_under names outermost outer t found (search.outer o named) f s = subst (StandsUnder outer t) (sym (only_item (record { around = outer; element = t }) f s)) itself
+  found_under names outermost outer t found (search.passed other) f s = absurd (nothing_stands f s)
+  found_under names outermost outer t found (search.outer q o named) f s = subst (StandsUnder outer t) (sym (only_item (record { around = outer; element = t }) f s)) itself
   found_under names outermost outer t found (search.through inner tei apart among is) f s =
       ⊎_elim (λ k. own_under names outer t f k) (λ k. let h = among_under names outermost (within outer t) (children_of t) inner among f k in inside h.0 h.1 h.2)
       (stands_either (own names outer t) inner f (subst (λ fs. StandsIn fs f) is s))
@@ -208,8 +210,8 @@ none_found names outermost around found search.nothing = refl
 mutual
   found_lie : {names : List (List ℕ)} {outermost : Bool} {around : List Bind} {first end : ℕ} {t : Tree} {found : List Found} → IsFormed first end t → Finds names outermost around t found
       → LieIn first end found
-  found_lie (formed.element h tag apart nodes) (search.foreign other) = room_from h (nodes_room nodes)
-  found_lie (formed.element h tag apart nodes) (search.outer o named) = (h, nodes_room nodes)
+  found_lie (formed.element h tag apart nodes) (search.passed other) = room_from h (nodes_room nodes)
+  found_lie (formed.element h tag apart nodes) (search.outer q o named) = (h, nodes_room nodes)
   found_lie {names = names} {around = around} {first = first} {end = end} {t = t} {found = found} (formed.element h tag apart nodes) (search.through inner tei apart_from among is) =
       own_lie names around first end t inner found h (among_lie nodes among) is
 

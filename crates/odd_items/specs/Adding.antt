@@ -1,10 +1,11 @@
 -- What the steps of the search add to what was found.
 use Rattle.std.specs.Prelude.{◌≡◌, ℕ, ◌+◌, ◌⊎◌, Bool, false, List, [], ◌∷◌, ◌++◌, map, length, Option, Some, None, slice_get, if◌then◌else◌, IsTrue}
 use Rattle.odd_text.specs.declared.name.Bind.{Bind}
-use Rattle.odd_tree.specs.Elements.{StandsIn, within}
+use Rattle.odd_text.specs.Standing.{StandsIn}
+use Rattle.odd_tree.specs.Elements.{within}
 use Rattle.odd_tree.specs.declared.tree.Tree.{Tree}
 use Rattle.odd_forms.specs.Names.{is_one_of}
-use Rattle.odd_items.specs.Search.{Finds, FindsAmong, Found, children_found}
+use Rattle.odd_items.specs.Search.{Finds, FindsAmong, Found, children_found, is_searched}
 use Rattle.odd_items.specs.Searching.{AreKept, HasParent, IsAround, IsChildAt}
 use Rattle.odd_items.specs.declared.searching.Level.{Level}
 use Rattle.odd_items.specs.declared.searching.Kept.{Kept}
@@ -26,9 +27,9 @@ pub record ArePartParents (names : List (List ℕ)) (outermost : Bool) (offset :
   pub as_many : length keeps ≡ length found
   pub each : (place holder : ℕ) → HasParent keeps place holder
       → ((parent ≡ Some holder) × (child : Found) × (slice_get found place ≡ Some child) × StandsIn roots child) ⊎ ((inner : ℕ) × (holder ≡ offset + inner) × IsChildAt found inner place)
-  pub own : outermost ≡ false → (child : Found) → StandsIn roots child → IsTrue (is_one_of names child.element)
+  pub own : outermost ≡ false → (child : Found) → StandsIn roots child → IsTrue (is_searched child.element) → IsTrue (is_one_of names child.element)
       → (place : ℕ) × (slice_get found place ≡ Some child) × (kept : Kept) × (slice_get keeps place ≡ Some kept) × (kept.parent ≡ parent)
-  pub inside : outermost ≡ false → (inner : ℕ) (holder child : Found) → slice_get found inner ≡ Some holder → StandsIn (children_found holder) child → IsTrue (is_one_of names child.element)
+  pub inside : outermost ≡ false → (inner : ℕ) (holder child : Found) → slice_get found inner ≡ Some holder → StandsIn (children_found holder) child → IsTrue (is_searched child.element) → IsTrue (is_one_of names child.element)
       → (place : ℕ) × (slice_get found place ≡ Some child) × HasParent keeps place (offset + inner)
 
 -- what is found in an element is put at the end, with the levels on the way

@@ -1,7 +1,8 @@
 -- What the private functions of `holding` add to the arrows.
 use Rattle.std.specs.Prelude.{◌≡◌, ◌↔◌, ◌⊎◌, ◌<◌, ℕ, List, [], Some, length, get_or, IsTrue}
 use Rattle.std.specs.List.{Contains}
-use Rattle.odd_tree.specs.Elements.{StandsIn, children_of}
+use Rattle.odd_text.specs.Standing.{StandsIn}
+use Rattle.odd_tree.specs.Elements.{children_of}
 use Rattle.odd_tree.specs.declared.tree.Tree.{Tree}
 use Rattle.odd_forms.specs.Names.{is_one_of}
 use Rattle.odd_items.specs.Groups.{RefersTo, group_names}

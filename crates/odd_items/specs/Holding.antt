@@ -1,6 +1,7 @@
 -- Which of the elements that were found lead to which: a `schemaSpec` and a group to the groups among their children, and to those that a child refers to.
 use Rattle.std.specs.Prelude.{◌≡◌, ℕ, List, Some, slice_get, IsTrue}
-use Rattle.odd_tree.specs.Elements.{StandsIn, children_of}
+use Rattle.odd_text.specs.Standing.{StandsIn}
+use Rattle.odd_tree.specs.Elements.{children_of}
 use Rattle.odd_tree.specs.declared.tree.Tree.{Tree}
 use Rattle.odd_forms.specs.Names.{is_one_of}
 use Rattle.odd_items.specs.Groups.{RefersTo, group_names}

@@ -1,6 +1,6 @@
 -- The items of a file as a list.
 use Rattle.std.specs.Prelude.{◌≡◌, ℕ, Bool, true, List, Some, slice_get}
-use Rattle.odd_tree.specs.Elements.{StandsIn}
+use Rattle.odd_text.specs.Standing.{StandsIn}
 use Rattle.odd_forms.specs.Faults.{child_in}
 use Rattle.odd_forms.specs.Table.{form_at}
 use Rattle.odd_forms.specs.declared.element.Element.TheVariants as element

@@ -1,9 +1,10 @@
 -- What the search keeps of what it finds.
 use Rattle.std.specs.Prelude.{◌≡◌, ℕ, ◌<◌, Bool, false, List, [], ◌∷◌, ◌++◌, Option, Some, None, slice_get, IsTrue}
 use Rattle.odd_text.specs.declared.name.Bind.{Bind}
-use Rattle.odd_tree.specs.Elements.{StandsIn, within}
+use Rattle.odd_text.specs.Standing.{StandsIn}
+use Rattle.odd_tree.specs.Elements.{within}
 use Rattle.odd_forms.specs.Names.{is_one_of}
-use Rattle.odd_items.specs.Search.{Found, children_found}
+use Rattle.odd_items.specs.Search.{Found, children_found, is_searched}
 use Rattle.odd_items.specs.declared.searching.Level.{Level}
 use Rattle.odd_items.specs.declared.searching.Kept.{Kept}
 
@@ -36,8 +37,8 @@ pub record IsChildAt (found : List Found) (holder place : ℕ) : Type 0 where
 abbrev pub HasParent : List Kept → ℕ → ℕ → Type 0
 HasParent keeps place holder = (kept : Kept) × (slice_get keeps place ≡ Some kept) × (kept.parent ≡ Some holder)
 
--- parents are told exactly: where all of the names are looked for, each child of one of these names has its parent
+-- parents are told exactly: where all of the names are looked for, each child of one of these names that is searched has its parent
 pub record AreParents (names : List (List ℕ)) (outermost : Bool) (keeps : List Kept) (found : List Found) : Type 0 where
   pub each : (place holder : ℕ) → HasParent keeps place holder → IsChildAt found holder place
-  pub all : outermost ≡ false → (holder : ℕ) (parent child : Found) → slice_get found holder ≡ Some parent → StandsIn (children_found parent) child → IsTrue (is_one_of names child.element)
+  pub all : outermost ≡ false → (holder : ℕ) (parent child : Found) → slice_get found holder ≡ Some parent → StandsIn (children_found parent) child → IsTrue (is_searched child.element) → IsTrue (is_one_of names child.element)
       → (place : ℕ) × (slice_get found place ≡ Some child) × HasParent keeps place holder

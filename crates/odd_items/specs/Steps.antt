@@ -1,6 +1,6 @@
 -- The steps from one place to another among the elements that may hold items.
 use Rattle.std.specs.Prelude.{◌≡◌, ◌≢◌, ◌<◌, ℕ, List, Some, slice_get, IsTrue}
-use Rattle.odd_tree.specs.Elements.{StandsIn}
+use Rattle.odd_text.specs.Standing.{StandsIn}
 use Rattle.odd_forms.specs.Names.{is_one_of}
 use Rattle.odd_items.specs.Groups.{RefersTo, group_names, id_of}
 use Rattle.odd_items.specs.Search.{Found, children_found}

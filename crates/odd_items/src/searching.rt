@@ -1,6 +1,6 @@
 ghost use Rattle.std.specs.Prelude.{◌≡◌, [], IfOk, List, OnOk, map};
 ghost use Rattle.odd_items.specs.Adding.{AddsKept, KeepsIt, LeadsInside};
-ghost use Rattle.odd_items.specs.Search.{Finds, Found as AFound};
+ghost use Rattle.odd_items.specs.Search.{Finds, Found as AFound, is_searched as the_is_searched};
 ghost use Rattle.odd_items.specs.Searching.{AreKept, AreParents};
 
 use odd_forms::{is_one_of, is_tei};
@@ -32,8 +32,8 @@ pub struct Search<'a> {
     pub found: Vec<Kept<'a>>,
 }
 
-/// Every element of one of the names in the element around which all elements are TEI's; or of these the outermost alone. The only
-/// error is NoMemory, for want of memory.
+/// Every element of one of the names in the element, where it and all elements around it are TEI's and none is a `constraintSpec`; or of
+/// these the outermost alone. The only error is NoMemory, for want of memory.
 pub fn find_elements<'a>(
     alloc: Global,
     tree: &'a Tree,
@@ -62,7 +62,7 @@ impl<'a> Search<'a> {
     ) -> Result<(), NoMemory>
         ensures { OnOk result (AddsKept (map (λ n. n.now) names.now) outermost tree.entry.now level parent self.old.levels.items self.new.levels.items self.old.found.items self.new.found.items) }
     {
-        if !is_tei(tree) {
+        if !is_searched(tree) {
             return Ok(());
         }
         let inside = self.level_in(tree, level)?;
@@ -114,4 +114,11 @@ impl<'a> Search<'a> {
         })?;
         Ok(Some(at))
     }
+}
+
+// Whether the search goes into an element: it is TEI's and no constraint.
+fn is_searched(tree: &Tree) -> bool
+    ensures { result ≡ the_is_searched tree.now }
+{
+    is_tei(tree) && !is_one_of(tree, &["constraintSpec"])
 }

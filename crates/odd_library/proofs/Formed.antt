@@ -10,13 +10,13 @@ use Rattle.odd_text.specs.declared.key.Kind.{Kind}
 use Rattle.odd_text.specs.declared.key.Kind.TheVariants as kind
 use Rattle.odd_tokens.proofs.Ascii.{ascii_legal, is_name}
 use Rattle.odd_tokens.specs.Characters.{IsLegal, IsNCName}
-use Rattle.odd_tree.proofs.InList.{nothing_stands}
-use Rattle.odd_forms.proofs.SetOf.{none_rising, rising_more}
+use Rattle.odd_text.proofs.InList.{nothing_stands}
+use Rattle.odd_text.proofs.SetOf.{none_rising, rising_more}
 use Rattle.odd_forms.specs.Names.{tei_namespace}
 use Rattle.odd_attributes.proofs.Formed.{joined_formed}
 use Rattle.odd_content.specs.declared.content.Content.{Content}
 use Rattle.odd_content.specs.declared.content.Content.TheVariants as content
-use Rattle.odd_members.proofs.Formed.{classes_formed}
+use Rattle.odd_library.proofs.FormedMembers.{classes_formed}
 use Rattle.odd_overlay.proofs.Laid.{or_else_holds}
 use Rattle.odd_library.specs.Formed.{AreStartWords, IsFormedContentOf, IsFormedLibrary, IsFormedPart, IsFormedSpec, StandsAlone}
 use Rattle.odd_library.specs.Library.{IsEmptyLibrary, component_as, component_of}

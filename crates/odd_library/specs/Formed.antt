@@ -10,12 +10,12 @@ use Rattle.odd_text.specs.declared.key.Kind.{Kind}
 use Rattle.odd_text.specs.declared.key.Kind.TheVariants as kind
 use Rattle.odd_tokens.specs.Characters.{IsLegal, IsNCName}
 use Rattle.odd_tokens.specs.Tokens.{NoneTwice}
-use Rattle.odd_tree.specs.Elements.{StandsIn}
-use Rattle.odd_forms.specs.Sorted.{AreRising}
+use Rattle.odd_text.specs.Standing.{StandsIn}
+use Rattle.odd_text.specs.Sorted.{AreRising}
 use Rattle.odd_attributes.specs.Formed.{AreFormedEdits}
 use Rattle.odd_content.specs.Formed.{IsFormedContent, IsFormedPick, IsOfData}
 use Rattle.odd_content.specs.declared.content.Content.{Content}
-use Rattle.odd_members.specs.Formed.{AreClasses, IsFormedMembership}
+use Rattle.odd_library.specs.FormedMembers.{AreClasses, IsFormedMembership}
 use Rattle.odd_library.specs.declared.library.ClassPart.{ClassPart}
 use Rattle.odd_library.specs.declared.library.Component.{Component}
 use Rattle.odd_library.specs.declared.library.Component.TheVariants as component

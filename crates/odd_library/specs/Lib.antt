@@ -1,6 +1,9 @@
 pub mod First
 pub mod Formed
+pub mod FormedMembers
 pub mod Library
+pub mod Members
+pub mod Membership
 pub mod Odd
 pub mod Over
 pub mod OverLaws

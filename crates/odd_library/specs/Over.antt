@@ -3,7 +3,7 @@ use Rattle.std.specs.Prelude.{◌≡◌, ℕ, List, [], ◌∷◌, Option, Some,
 use Rattle.std.specs.Option.{option_map}
 use Rattle.odd_overlay.specs.Overlaid.{joined_at}
 use Rattle.odd_overlay.specs.Tabled.{or_else}
-use Rattle.odd_members.specs.Membership.{classes_over, membership_joined}
+use Rattle.odd_library.specs.Membership.{classes_over, membership_joined}
 use Rattle.odd_attributes.specs.Attributes.{atts_joined}
 use Rattle.odd_library.specs.Library.{component_of}
 use Rattle.odd_library.specs.declared.library.ClassPart.{ClassPart}

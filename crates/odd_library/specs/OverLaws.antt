@@ -8,7 +8,7 @@ use Rattle.odd_attributes.specs.Attributes.{atts_joined, atts_regrouped}
 use Rattle.odd_attributes.specs.Values.{or_else_assoc, unwrap_or_else}
 use Rattle.odd_content.specs.declared.content.Content.TheVariants as content
 use Rattle.odd_forms.specs.Names.{tei_namespace}
-use Rattle.odd_members.specs.Membership.{classes_twice, membership_joined, membership_regrouped}
+use Rattle.odd_library.specs.Membership.{classes_twice, membership_joined, membership_regrouped}
 use Rattle.odd_overlay.specs.Overlaid.{regrouped_at}
 use Rattle.odd_overlay.specs.Tabled.{or_else}
 use Rattle.odd_library.specs.Library.{component_as}

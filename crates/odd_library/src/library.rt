@@ -6,13 +6,12 @@ ghost use Rattle.odd_forms.specs.Names.{tei_namespace};
 ghost use Rattle.odd_library.specs.Formed.{IsFormedLibrary, IsFormedPart, IsFormedSpec, StandsAlone};
 ghost use Rattle.odd_library.specs.Library.{IsEmptyLibrary, class_of as the_class_of, component_of as the_component_of, content_of, element_of as the_element_of, module_of, other_of as the_other_of};
 
+use crate::classes_over;
 use crate::spec::Spec;
 use odd_attributes::AttEdits;
 use odd_content::Content;
 use odd_forms::TEI;
-use odd_members::classes_over;
-use odd_tables::Table;
-use odd_text::{Key, Kind, NoMemory, Text, TryCopy, Words};
+use odd_text::{Key, Kind, NoMemory, Table, Text, TryCopy, Words};
 use std::alloc::Global;
 
 /// An element of a library: its module, which may be empty, its namespace in documents and its name there, where that is not

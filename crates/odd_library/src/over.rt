@@ -3,9 +3,9 @@ ghost use Rattle.odd_library.specs.Formed.{IsFormedPart, IsFormedSpec};
 ghost use Rattle.odd_library.specs.Over.{HaveOneKey, both_changed as the_both_changed, class_laid_over, element_laid_over, laid_over as the_laid_over, module_joined as the_module_joined, other_laid_over, set_changed as the_set_changed, spec_joined, spec_laid};
 ghost use Rattle.odd_library.specs.OverLaws.{spec_joined_follows, spec_joined_leads, spec_one_by_one, spec_regrouped};
 
+use crate::classes_over;
 use crate::library::{ClassPart, Component, ElementPart, OtherPart};
 use crate::spec::{Mode, Spec};
-use odd_members::classes_over;
 use odd_overlay::{Overlay, joined_pair};
 use odd_text::{NoMemory, Text};
 use std::alloc::Global;

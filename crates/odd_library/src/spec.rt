@@ -1,6 +1,6 @@
+use crate::Membership;
 use odd_attributes::AttEdits;
 use odd_content::Content;
-use odd_members::Membership;
 use odd_text::{Key, NoMemory, Text, TryCopy};
 use std::alloc::Global;
 

@@ -9,7 +9,7 @@ use Rattle.odd_library.specs.declared.library.Component.TheVariants as component
 use Rattle.odd_library.specs.declared.library.ElementPart.{ElementPart}
 use Rattle.odd_library.specs.declared.library.Library.{Library}
 use Rattle.odd_forms.specs.Names.{tei, tei_namespace}
-use Rattle.odd_tree.proofs.InList.{first_or_later, nothing_stands}
+use Rattle.odd_text.proofs.InList.{first_or_later, nothing_stands}
 use Rattle.odd_tree.specs.Significant.{Marking, depth}
 use Rattle.odd_tree.specs.declared.tree.Tree.{Tree, out-Tree}
 use Rattle.odd_meaning.specs.Admission.{Admits, IsValidBy, IsValidWithin, children}

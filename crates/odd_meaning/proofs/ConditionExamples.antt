@@ -2,8 +2,10 @@
 use Rattle.std.proofs.Common.{◌≡◌, ⊎_elim, ℕ, List, [], ◌∷◌, ◌++◌, ◌⊎◌, inl, inr, refl, sym, ap, subst, ◌∙◌, codes}
 use Rattle.odd_text.specs.declared.name.Name.{Name}
 use Rattle.odd_content.specs.declared.content.Condition.{Condition}
-use Rattle.odd_tree.proofs.InList.{element_shown, nothing_stands, only_item, stands_first}
-use Rattle.odd_tree.specs.Elements.{StandsIn, StandsWithin, children_of, inside, itself}
+use Rattle.odd_tree.proofs.InTree.{element_shown}
+use Rattle.odd_text.proofs.InList.{nothing_stands, only_item, stands_first}
+use Rattle.odd_text.specs.Standing.{StandsIn}
+use Rattle.odd_tree.specs.Elements.{StandsWithin, children_of, inside, itself}
 use Rattle.odd_tree.specs.declared.tree.Node.{Element}
 use Rattle.odd_tree.specs.declared.tree.Tree.{Tree, out-Tree}
 use Rattle.odd_meaning.specs.Conditions.{IsMetBy, IsMetThroughout}

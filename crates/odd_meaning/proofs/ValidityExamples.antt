@@ -18,10 +18,10 @@ use Rattle.odd_library.specs.declared.library.Component.TheVariants as component
 use Rattle.odd_library.specs.declared.library.ElementPart.{ElementPart}
 use Rattle.odd_library.specs.declared.library.Library.{Library}
 use Rattle.odd_forms.specs.Names.{tei_namespace}
-use Rattle.odd_tree.proofs.InList.{nothing_stands}
+use Rattle.odd_text.proofs.InList.{nothing_stands}
 use Rattle.odd_tree.specs.Significant.{IsSignificant, Marking, depth, is_element, whole}
 use Rattle.odd_tree.specs.declared.tree.Node.{Node}
-use Rattle.odd_tree.specs.Elements.{StandsIn}
+use Rattle.odd_text.specs.Standing.{StandsIn}
 use Rattle.odd_tree.specs.declared.tree.Tree.{Tree, out-Tree}
 use Rattle.odd_meaning.specs.Admission.{AreAdmitted, IsValid, IsValidBy, IsValidWithin, children, counting, value}
 use Rattle.odd_meaning.specs.Attributed.{AreAdmittedAttributes, IsAdmittedAttribute}

@@ -8,9 +8,9 @@ use Rattle.std.proofs.lemmas.Option.{same_Some}
 use Rattle.odd_text.proofs.Entries.{found_contained}
 use Rattle.odd_text.specs.Text.{text_cmp}
 use Rattle.odd_text.specs.declared.key.Key.{Key}
-use Rattle.odd_tree.proofs.InList.{first_or_later, nothing_stands, only_item, standing, stands_first, stands_later}
+use Rattle.odd_text.proofs.InList.{first_or_later, nothing_stands, only_item, standing, stands_first, stands_later}
 use Rattle.odd_tree.proofs.PrintedTrees.{apart}
-use Rattle.odd_tree.specs.Elements.{StandsIn}
+use Rattle.odd_text.specs.Standing.{StandsIn}
 use Rattle.odd_tree.specs.declared.tree.Attr.{Attr}
 use Rattle.rng_types.specs.declared.bounds.Bounds.{Bounds}
 use Rattle.rng_types.specs.declared.data_type.DataType.TheVariants as kind

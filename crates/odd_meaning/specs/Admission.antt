@@ -4,7 +4,8 @@ use Rattle.std.specs.FinMap.{find}
 use Rattle.std.specs.List.{list_any}
 use Rattle.std.specs.Str.{chars}
 use Rattle.odd_text.specs.Key.{key_cmp}
-use Rattle.odd_tree.specs.Elements.{StandsIn, texts_in}
+use Rattle.odd_text.specs.Standing.{StandsIn}
+use Rattle.odd_tree.specs.Elements.{texts_in}
 use Rattle.odd_tree.specs.Significant.{IsSignificant, Marking, depth, is_element}
 use Rattle.odd_tree.specs.declared.tree.Node.{Node}
 use Rattle.odd_tree.specs.declared.tree.Tree.{Tree, out-Tree}

@@ -1,7 +1,7 @@
 -- Which attributes an element may have, and which it has to have (TEI Guidelines, the chapter Documentation Elements).
 use Rattle.std.specs.Prelude.{◌≡◌, ℕ, List, All, IsTrue}
 use Rattle.odd_text.specs.declared.key.Key.{Key}
-use Rattle.odd_tree.specs.Elements.{StandsIn}
+use Rattle.odd_text.specs.Standing.{StandsIn}
 use Rattle.odd_tree.specs.declared.tree.Attr.{Attr}
 use Rattle.odd_attributes.specs.declared.att_def.AttDef.{AttDef}
 use Rattle.odd_library.specs.Odd.{element_key}

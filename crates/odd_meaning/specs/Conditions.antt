@@ -1,7 +1,8 @@
 -- The condition of `anyElement`, which is asked of the element and of every element below it.
 use Rattle.std.specs.Prelude.{◌≡◌, ◌⊎◌, []}
 use Rattle.odd_text.specs.declared.name.Name.{Name}
-use Rattle.odd_tree.specs.Elements.{StandsIn, StandsWithin}
+use Rattle.odd_text.specs.Standing.{StandsIn}
+use Rattle.odd_tree.specs.Elements.{StandsWithin}
 use Rattle.odd_tree.specs.declared.tree.Tree.{Tree, out-Tree}
 use Rattle.odd_content.specs.declared.content.Condition.{Condition}
 

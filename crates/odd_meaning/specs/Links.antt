@@ -5,7 +5,7 @@ use Rattle.odd_text.specs.Key.{key_cmp}
 use Rattle.odd_text.specs.declared.key.Key.{Key}
 use Rattle.odd_text.specs.declared.key.Kind.{Kind}
 use Rattle.odd_text.specs.declared.key.Kind.TheVariants as kind
-use Rattle.odd_tree.specs.Elements.{StandsIn}
+use Rattle.odd_text.specs.Standing.{StandsIn}
 use Rattle.rng_types.specs.declared.item.Item.{Item}
 use Rattle.rng_types.specs.declared.item.Item.TheVariants as item
 use Rattle.odd_attributes.specs.declared.att_def.Datatype.{Datatype}

@@ -1,7 +1,7 @@
 -- The names of elements and of attributes in documents (TEI Guidelines, the chapter Documentation Elements; Namespaces in XML 1.0, section 3).
 use Rattle.std.specs.Prelude.{ℕ, List, [], codes, drop, length, take, if◌then◌else◌, unwrap_or}
 use Rattle.odd_text.specs.declared.name.Name.{Name}
-use Rattle.odd_tokens.specs.Same.{is_same}
+use Rattle.odd_text.specs.Same.{is_same}
 use Rattle.odd_tree.specs.Names.{xml_namespace}
 use Rattle.odd_attributes.specs.declared.att_def.AttDef.{AttDef}
 use Rattle.odd_library.specs.declared.library.ElementPart.{ElementPart}

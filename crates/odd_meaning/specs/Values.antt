@@ -3,7 +3,7 @@ use Rattle.std.specs.Prelude.{◌≡◌, ◌≢◌, ◌⊎◌, ℕ, zero, suc, L
 use Rattle.std.specs.FinMap.{find}
 use Rattle.std.specs.Str.{chars}
 use Rattle.odd_text.specs.Key.{key_cmp}
-use Rattle.odd_tree.specs.Elements.{StandsIn}
+use Rattle.odd_text.specs.Standing.{StandsIn}
 use Rattle.rng_types.specs.Words.{words_of}
 use Rattle.rng_types.specs.declared.bounds.Bounds.{Bounds}
 use Rattle.rng_types.specs.declared.facet.Facet.{Facet}

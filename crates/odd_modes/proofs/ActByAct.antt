@@ -7,7 +7,7 @@ use Rattle.std.specs.List.{AllByRecursion}
 use Rattle.std.specs.Ordering.{eq_by_cmp, is_eq, ordering_reverse}
 use Rattle.std.specs.declared.cmp.Ordering.{Ordering}
 use Rattle.std.specs.declared.cmp.Ordering.TheVariants.{Equal}
-use Rattle.odd_tables.proofs.Rise.{IsAboveAll, IsBelowAll, Rises, above_push}
+use Rattle.odd_text.proofs.Rise.{IsAboveAll, IsBelowAll, Rises, above_push}
 use Rattle.odd_modes.specs.Swept.{pushed, rest_taken, swept_at, value_taken}
 use Rattle.odd_modes.specs.declared.sweeping.Act.{Act}
 use Rattle.odd_modes.proofs.Finds.{found_above, found_more, none_above, taken_others, taken_rises, taken_value}

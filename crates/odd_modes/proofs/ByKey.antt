@@ -11,9 +11,9 @@ use Rattle.std.specs.declared.cmp.Ordering.TheVariants.{Less, Equal, Greater}
 use Rattle.odd_text.specs.Key.{key_cmp}
 use Rattle.odd_text.specs.KeyOrder.{key_exact, key_total}
 use Rattle.odd_text.specs.declared.key.Key.{Key}
-use Rattle.odd_keyed.specs.Keyed.{key_of, keyed_cmp}
-use Rattle.odd_keyed.specs.declared.keyed.Keyed.{Keyed}
-use Rattle.odd_tree.proofs.InList.{ends}
+use Rattle.odd_text.specs.Keyed.{key_of, keyed_cmp}
+use Rattle.odd_text.specs.declared.keyed.Keyed.{Keyed}
+use Rattle.odd_text.proofs.InList.{ends}
 use Rattle.odd_library.specs.declared.odd.Entry.{Entry}
 use Rattle.odd_library.specs.declared.odd.Entry.TheVariants as entry
 use Rattle.odd_library.specs.declared.spec.Spec.{Spec}

@@ -7,7 +7,7 @@ use Rattle.std.specs.FinMap.Entries.{by_order}
 use Rattle.std.specs.Ordering.{eq_by_cmp, is_eq, ordering_reverse}
 use Rattle.std.specs.declared.cmp.Ordering.{Ordering}
 use Rattle.std.specs.declared.cmp.Ordering.TheVariants.{Less, Equal, Greater}
-use Rattle.odd_tables.proofs.Rise.{IsAboveAll, IsBelowAll, Rises}
+use Rattle.odd_text.proofs.Rise.{IsAboveAll, IsBelowAll, Rises}
 use Rattle.odd_modes.specs.Swept.{rest_taken, value_taken}
 
 module _ {K : Type 0} (R : K → K → Ordering) (o : IsTotalOrder R) (exact : (x y : K) → R x y ≡ Equal → x ≡ y) where

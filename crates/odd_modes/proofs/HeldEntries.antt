@@ -8,8 +8,8 @@ use Rattle.std.specs.FinMap.{find, is_sorted}
 use Rattle.std.specs.List.{Contains}
 use Rattle.std.specs.Prelude.{IsTrue}
 use Rattle.std.specs.declared.cmp.Ordering.TheVariants.{Less}
-use Rattle.odd_forms.proofs.SetOf.{turned}
-use Rattle.odd_forms.specs.Sorted.{IsSet}
+use Rattle.odd_text.proofs.SetOf.{turned}
+use Rattle.odd_text.specs.Sorted.{IsSet}
 use Rattle.odd_library.specs.declared.library.Component.{Component}
 use Rattle.odd_library.specs.declared.library.Library.{Library}
 use Rattle.odd_library.specs.declared.odd.OddDoc.{OddDoc}
@@ -18,8 +18,8 @@ use Rattle.odd_text.specs.Key.{key_cmp}
 use Rattle.odd_text.specs.KeyOrder.{key_exact, key_total}
 use Rattle.odd_text.specs.Map.{IsAfter}
 use Rattle.odd_text.specs.declared.key.Key.{Key}
-use Rattle.odd_tree.proofs.InList.{contained, map_stands, standing, stands_map}
-use Rattle.odd_tree.specs.Elements.{StandsIn}
+use Rattle.odd_text.proofs.InList.{contained, map_stands, standing, stands_map}
+use Rattle.odd_text.specs.Standing.{StandsIn}
 use Rattle.odd_modes.specs.After.{IsLibraryAfter}
 use Rattle.odd_modes.specs.Choosing.{IsChosen, is_referred}
 use Rattle.odd_modes.specs.Index.{AreReferencesOf, is_listed, keys_listed}

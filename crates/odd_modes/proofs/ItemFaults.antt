@@ -11,8 +11,8 @@ use Rattle.std.specs.Ordering.{ord_min}
 use Rattle.std.specs.Option.{option_copied}
 use Rattle.std.specs.Prelude.{IsTrue}
 use Rattle.odd_content.specs.declared.content.Pick.{Pick}
-use Rattle.odd_forms.proofs.Least.{least_if, any_stands}
-use Rattle.odd_forms.specs.Least.{IsLeast}
+use Rattle.odd_text.proofs.Least.{least_if, any_stands}
+use Rattle.odd_text.specs.Least.{IsLeast}
 use Rattle.odd_library.proofs.OffenceOrder.{earlier_is, fault_cmp, not_after_through}
 use Rattle.odd_library.specs.Library.{module_of}
 use Rattle.odd_library.specs.Odd.{place_of, element_key}
@@ -27,10 +27,10 @@ use Rattle.odd_library.specs.declared.spec.Spec.{Spec}
 use Rattle.odd_text.specs.Key.{key_cmp}
 use Rattle.odd_text.specs.Lesser.{lesser_of}
 use Rattle.odd_text.specs.declared.key.Key.{Key}
-use Rattle.odd_tokens.specs.Same.{is_same}
-use Rattle.odd_tree.proofs.InList.{StandsOnce, ends, nothing_stands, once_push}
+use Rattle.odd_text.specs.Same.{is_same}
+use Rattle.odd_text.proofs.InList.{StandsOnce, ends, nothing_stands, once_push}
 use Rattle.odd_tree.proofs.PrintedTrees.{same_from}
-use Rattle.odd_tree.specs.Elements.{StandsIn}
+use Rattle.odd_text.specs.Standing.{StandsIn}
 use Rattle.odd_modes.proofs.HeldEntries.{held_stands, stands_held}
 use Rattle.odd_modes.specs.Choosing.{IsChosen}
 use Rattle.odd_modes.specs.Index.{IsFirst, fault_of, is_of_module}

@@ -5,8 +5,8 @@ use Rattle.std.specs.FinMap.{is_sorted}
 use Rattle.std.specs.Prelude.{IsTrue}
 use Rattle.odd_text.specs.Key.{key_cmp}
 use Rattle.odd_text.specs.declared.key.Key.{Key}
-use Rattle.odd_tables.proofs.Rise.{IsAboveAll, Rises, above_before, rises_of, sorted_front}
-use Rattle.odd_tree.proofs.InList.{ends}
+use Rattle.odd_text.proofs.Rise.{IsAboveAll, Rises, above_before, rises_of, sorted_front}
+use Rattle.odd_text.proofs.InList.{ends}
 use Rattle.odd_library.specs.Over.{spec_laid}
 use Rattle.odd_library.specs.declared.library.Component.{Component}
 use Rattle.odd_library.specs.declared.odd.OddDoc.{OddDoc}

@@ -13,7 +13,7 @@ use Rattle.std.specs.declared.cmp.Ordering.TheVariants.{Less, Equal, Greater}
 use Rattle.odd_text.specs.Key.{key_cmp}
 use Rattle.odd_text.specs.KeyOrder.{key_exact, key_total}
 use Rattle.odd_text.specs.declared.key.Key.{Key}
-use Rattle.odd_tables.proofs.Rise.{IsAboveAll, IsBelowAll, Rises, above_before, above_push, rises_of}
+use Rattle.odd_text.proofs.Rise.{IsAboveAll, IsBelowAll, Rises, above_before, above_push, rises_of}
 use Rattle.odd_library.proofs.OffenceOrder.{key_itself, same_key}
 use Rattle.odd_library.specs.declared.library.Component.{Component}
 use Rattle.odd_library.specs.declared.odd.Entry.{Entry}

@@ -9,8 +9,8 @@ use Rattle.odd_library.specs.declared.spec.Spec.{Spec}
 use Rattle.odd_text.specs.Key.{key_cmp}
 use Rattle.odd_text.specs.KeyOrder.{key_exact}
 use Rattle.odd_text.specs.declared.key.Key.{Key}
-use Rattle.odd_tree.proofs.InList.{stands_first, stands_later}
-use Rattle.odd_tree.specs.Elements.{StandsIn}
+use Rattle.odd_text.proofs.InList.{stands_first, stands_later}
+use Rattle.odd_text.specs.Standing.{StandsIn}
 use Rattle.odd_modes.specs.After.{spec_at, spec_in}
 
 -- with none before it the last is the last

@@ -10,7 +10,7 @@ use Rattle.std.specs.Cmp.Lexicographic.{same_text}
 use Rattle.std.specs.List.{list_any}
 use Rattle.odd_content.specs.Picking.{is_picked}
 use Rattle.odd_content.specs.declared.content.Pick.{Pick}
-use Rattle.odd_forms.specs.Words.{is_among}
+use Rattle.odd_text.specs.Same.{is_among}
 use Rattle.odd_library.specs.Library.{module_of}
 use Rattle.odd_library.specs.declared.library.Component.{Component}
 use Rattle.odd_text.specs.Key.{key_cmp}
@@ -18,7 +18,7 @@ use Rattle.odd_text.specs.Text.{text_cmp}
 use Rattle.odd_text.specs.declared.key.Key.{Key}
 use Rattle.odd_text.specs.declared.key.Kind.{Kind}
 use Rattle.odd_text.specs.declared.key.Kind.TheVariants as kind
-use Rattle.odd_tokens.specs.Same.{is_same}
+use Rattle.odd_text.specs.Same.{is_same}
 use Rattle.odd_tree.proofs.LastBound.{is_at_text}
 use Rattle.odd_modes.specs.Choosing.{is_taken}
 use Rattle.odd_modes.specs.Index.{is_listed, is_taken_of, names}

@@ -7,8 +7,8 @@ use Rattle.std.specs.Ordering.{eq_by_cmp, is_lt}
 use Rattle.std.specs.declared.cmp.Ordering.TheVariants.{Less}
 use Rattle.odd_text.specs.Key.{key_cmp}
 use Rattle.odd_text.specs.declared.key.Key.{Key}
-use Rattle.odd_keyed.specs.Keyed.{key_of}
-use Rattle.odd_keyed.specs.declared.keyed.Keyed.{Keyed}
+use Rattle.odd_text.specs.Keyed.{key_of}
+use Rattle.odd_text.specs.declared.keyed.Keyed.{Keyed}
 use Rattle.odd_library.specs.declared.odd.Entry.{Entry}
 use Rattle.odd_library.specs.declared.odd.Entry.TheVariants as entry
 use Rattle.odd_library.specs.declared.spec.Spec.{Spec}

@@ -2,7 +2,7 @@ ghost use Rattle.std.specs.Prelude.{◌≡◌, ◌↔◌, not, IfOk, IsTrue};
 ghost use Rattle.std.specs.FinMap.{find};
 ghost use Rattle.std.specs.List.{list_any};
 ghost use Rattle.odd_text.specs.Key.{key_cmp};
-ghost use Rattle.odd_forms.specs.Least.{IsLeast};
+ghost use Rattle.odd_text.specs.Least.{IsLeast};
 ghost use Rattle.odd_library.specs.Odd.{element_key};
 ghost use Rattle.odd_library.specs.declared.odd.OddDoc.{OddDoc as ADoc};
 ghost use Rattle.odd_modes.specs.Choosing.{IsChosen};

@@ -8,10 +8,8 @@ ghost use Rattle.odd_modes.specs.Layering.{AreBelow, AreKeyed, AreRising, is_at,
 
 use crate::references::References;
 use crate::sweeping::Act;
-use odd_keyed::Keyed;
 use odd_library::{Entry, Library, Spec};
-use odd_tables::Table;
-use odd_text::{Key, NoMemory, TryCopy};
+use odd_text::{Key, Keyed, NoMemory, Table, TryCopy};
 use std::alloc::Global;
 
 /// What a file does at keys.

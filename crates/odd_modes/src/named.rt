@@ -1,5 +1,5 @@
 ghost use Rattle.std.specs.Prelude.{◌≡◌, ◌&&◌, ◌||◌, not, ℕ, List, IfOk, if◌then◌else◌};
-ghost use Rattle.odd_forms.specs.Words.{is_among};
+ghost use Rattle.odd_text.specs.Same.{is_among};
 ghost use Rattle.odd_content.specs.Picking.{is_picked};
 ghost use Rattle.odd_modes.specs.Index.{has_text, names};
 

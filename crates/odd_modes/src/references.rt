@@ -1,6 +1,6 @@
 ghost use Rattle.std.specs.Prelude.{◌≡◌, ◌||◌, ◌&&◌, IfOk, OnOk};
 ghost use Rattle.odd_text.specs.declared.key.Key.{Key as AKey};
-ghost use Rattle.odd_tokens.specs.Same.{is_same};
+ghost use Rattle.odd_text.specs.Same.{is_same};
 ghost use Rattle.odd_library.specs.Library.{module_of};
 ghost use Rattle.odd_library.specs.declared.library.Component.{Component as AComponent};
 ghost use Rattle.odd_modes.specs.Choosing.{is_taken, refers};

@@ -2,8 +2,8 @@ ghost use Rattle.std.specs.Prelude.{◌≡◌, ◌↔◌, ℕ, Err, IfOk, IsOk};
 ghost use Rattle.odd_text.specs.Key.{key_cmp};
 ghost use Rattle.odd_text.specs.declared.key.Key.{Key as AKey};
 ghost use Rattle.odd_text.specs.declared.offence.Offence.{Offence as AnOffence};
-ghost use Rattle.odd_tree.specs.Elements.{StandsIn};
-ghost use Rattle.odd_forms.specs.Sorted.{IsSet};
+ghost use Rattle.odd_text.specs.Standing.{StandsIn};
+ghost use Rattle.odd_text.specs.Sorted.{IsSet};
 ghost use Rattle.odd_modes.specs.Choosing.{IsChosen};
 ghost use Rattle.odd_modes.specs.Index.{AreReferencesOf, keys_listed};
 ghost use Rattle.odd_modes.specs.Offences.{IsFirstOffence, RefersWrongly};
@@ -11,9 +11,8 @@ ghost use Rattle.odd_library.specs.declared.odd.OddDoc.{OddDoc as ADoc};
 
 use crate::faults::first_reference_fault;
 use crate::references::References;
-use odd_forms::sorted;
 use odd_library::{Library, OddDoc, OddRefusal};
-use odd_text::{Keys, NoMemory, TryCopy};
+use odd_text::{Keys, NoMemory, TryCopy, sorted};
 use std::alloc::Global;
 
 /// The components of a library that a file chooses, which is number `file` of its chain, counted from 1: those that its

@@ -1,11 +1,10 @@
 ghost use Rattle.std.specs.Prelude.{◌≡◌, ◌≤◌, ◌+◌, Some, IfOk, IsTrue, OnOk, length, reverse, vec_len};
 ghost use Rattle.std.specs.FinMap.{find, is_sorted};
-ghost use Rattle.odd_tables.specs.Above.{IsAboveLast};
+ghost use Rattle.odd_text.specs.Above.{IsAboveLast};
 ghost use Rattle.odd_modes.specs.Swept.{pushed, rest_taken, swept_at, value_taken};
 
 use odd_overlay::Overlay;
-use odd_tables::{Ranked, Steps, Table};
-use odd_text::NoMemory;
+use odd_text::{NoMemory, Ranked, Steps, Table};
 use std::alloc::Global;
 use std::cmp::Ordering;
 use std::sync::ledger::Ledger;

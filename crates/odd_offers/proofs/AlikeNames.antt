@@ -12,9 +12,9 @@ use Rattle.std.specs.declared.cmp.Ordering.TheVariants.{Equal, Less}
 use Rattle.odd_text.proofs.Entries.{as_T, is_less}
 use Rattle.odd_text.specs.NameOrder.{name_cmp, name_exact}
 use Rattle.odd_text.specs.declared.name.Name.{Name}
-use Rattle.odd_tree.proofs.InList.{StandsOnce, nothing_stands, once_push}
+use Rattle.odd_text.proofs.InList.{StandsOnce, nothing_stands, once_push}
 use Rattle.odd_content.specs.ConditionOrder.{name_total}
-use Rattle.odd_forms.specs.Standing.{StandsTwice}
+use Rattle.odd_text.specs.Standing.{StandsTwice}
 use Rattle.odd_forms.proofs.Children.{twice_push, twice_with}
 use Rattle.odd_offers.specs.Names.{IsNamedTwice}
 

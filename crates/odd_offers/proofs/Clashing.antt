@@ -5,8 +5,8 @@ use Rattle.std.specs.FinMap.{find, is_sorted, slice_cmp-IsAntisymmetric, nat_cmp
 use Rattle.std.specs.List.{list_any}
 use Rattle.odd_text.proofs.Entries.{as_T, found_contained}
 use Rattle.odd_text.specs.Text.{text_cmp}
-use Rattle.odd_tree.specs.Elements.{StandsIn}
-use Rattle.odd_tree.proofs.InList.{first_or_later, nothing_stands, standing, stands_first, stands_later}
+use Rattle.odd_text.specs.Standing.{StandsIn}
+use Rattle.odd_text.proofs.InList.{first_or_later, nothing_stands, standing, stands_first, stands_later}
 use Rattle.odd_attributes.specs.Attributes.{def_changed}
 use Rattle.odd_attributes.specs.declared.att_def.AttDef.{AttDef}
 use Rattle.odd_attributes.specs.declared.att_edit.AttEdit.{AttEdit}

@@ -11,8 +11,8 @@ use Rattle.odd_text.specs.KeyOrder.{key_total}
 use Rattle.odd_text.specs.Text.{text_cmp}
 use Rattle.odd_text.specs.declared.key.Key.{Key}
 use Rattle.odd_text.specs.declared.key.Kind.TheVariants as kind
-use Rattle.odd_tree.specs.Elements.{StandsIn}
-use Rattle.odd_tree.proofs.InList.{first_or_later, nothing_stands, stands_first, stands_later}
+use Rattle.odd_text.specs.Standing.{StandsIn}
+use Rattle.odd_text.proofs.InList.{first_or_later, nothing_stands, stands_first, stands_later}
 use Rattle.odd_overlay.proofs.Laid.{zipped_rises}
 use Rattle.odd_overlay.specs.Overlaid.{find_zipped}
 use Rattle.odd_attributes.specs.Attributes.{def_changed}

@@ -3,8 +3,8 @@ use Rattle.std.proofs.Common.{◌≡◌, ◌≤◌, ◌<◌, length, get_or, suc
 use Rattle.std.proofs.lemmas.List.Elements.{Contains-append_cases, Contains-append_left, Contains-append_right}
 use Rattle.std.proofs.lemmas.List.{take-append-drop}
 use Rattle.std.specs.List.{list_any}
-use Rattle.odd_tree.specs.Elements.{StandsIn}
-use Rattle.odd_tree.proofs.InList.{contained, first_or_later, nothing_stands, standing, stands_first, stands_later}
+use Rattle.odd_text.specs.Standing.{StandsIn}
+use Rattle.odd_text.proofs.InList.{contained, first_or_later, nothing_stands, standing, stands_first, stands_later}
 use Rattle.odd_offers.specs.Same.{Test}
 
 -- what stands in a list and a list after it stands in one of them

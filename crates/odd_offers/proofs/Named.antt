@@ -10,10 +10,10 @@ use Rattle.std.specs.declared.cmp.Ordering.TheVariants.{Equal, Less}
 use Rattle.odd_text.proofs.Entries.{as_T, first as first_T, found_contained, is_less, second as second_T}
 use Rattle.odd_text.specs.Text.{text_cmp}
 use Rattle.odd_text.specs.declared.name.Name.{Name}
-use Rattle.odd_tree.specs.Elements.{StandsIn}
-use Rattle.odd_tree.proofs.InList.{Stands, map_stands, standing, stands_around}
+use Rattle.odd_text.specs.Standing.{StandsIn}
+use Rattle.odd_text.proofs.InList.{Stands, map_stands, standing, stands_around}
 use Rattle.odd_forms.proofs.Children.{twice_with}
-use Rattle.odd_forms.specs.Standing.{StandsTwice}
+use Rattle.odd_text.specs.Standing.{StandsTwice}
 use Rattle.odd_library.specs.declared.library.Library.{Library}
 use Rattle.odd_meaning.specs.Naming.{attribute_name}
 use Rattle.odd_meaning.specs.Offering.{giver_key}

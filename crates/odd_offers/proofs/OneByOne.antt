@@ -9,7 +9,7 @@ use Rattle.std.specs.declared.cmp.Ordering.TheVariants.{Less, Equal, Greater}
 use Rattle.odd_text.proofs.Entries.{first, is_less, second}
 use Rattle.odd_text.specs.Map.{SetsOnly}
 use Rattle.odd_text.specs.Text.{text_cmp}
-use Rattle.odd_tree.proofs.InList.{nothing_stands}
+use Rattle.odd_text.proofs.InList.{nothing_stands}
 use Rattle.odd_attributes.specs.declared.att_def.AttDef.{AttDef}
 use Rattle.odd_attributes.specs.declared.att_edit.AttEdit.{AttEdit}
 use Rattle.odd_offers.specs.Tables.{IsOwnTable, StandsAt, Table, own_at}

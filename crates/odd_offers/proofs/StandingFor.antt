@@ -6,8 +6,8 @@ use Rattle.std.specs.FinMap.{slice_cmp-IsAntisymmetric, nat_cmp-IsAntisymmetric}
 use Rattle.std.specs.Ordering.{is_lt, ordering_reverse}
 use Rattle.std.specs.declared.cmp.Ordering.TheVariants.{Equal, Greater, Less}
 use Rattle.odd_text.specs.Text.{text_cmp}
-use Rattle.odd_tree.specs.Elements.{StandsIn}
-use Rattle.odd_tree.proofs.InList.{first_or_later, nothing_stands, only_item, stands_first, stands_later}
+use Rattle.odd_text.specs.Standing.{StandsIn}
+use Rattle.odd_text.proofs.InList.{first_or_later, nothing_stands, only_item, stands_first, stands_later}
 use Rattle.odd_attributes.specs.Attributes.{def_changed}
 use Rattle.odd_attributes.specs.declared.att_def.AttDef.{AttDef}
 use Rattle.odd_attributes.specs.declared.att_edit.AttFields.{AttFields}

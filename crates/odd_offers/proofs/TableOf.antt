@@ -6,8 +6,8 @@ use Rattle.std.specs.FinMap.{find, slice_cmp-IsAntisymmetric, nat_cmp-IsAntisymm
 use Rattle.odd_text.specs.Key.{key_cmp}
 use Rattle.odd_text.specs.Text.{text_cmp}
 use Rattle.odd_text.specs.declared.key.Key.{Key}
-use Rattle.odd_tree.specs.Elements.{StandsIn}
-use Rattle.odd_tree.proofs.InList.{map_stands, nothing_stands, only_item, stands_first, stands_map}
+use Rattle.odd_text.specs.Standing.{StandsIn}
+use Rattle.odd_text.proofs.InList.{map_stands, nothing_stands, only_item, stands_first, stands_map}
 use Rattle.odd_overlay.specs.Overlaid.{find_zipped, zipped}
 use Rattle.odd_attributes.specs.Attributes.{att_one_by_one, def_changed, fields_joined}
 use Rattle.odd_attributes.specs.declared.att_def.AttDef.{AttDef}

@@ -6,11 +6,11 @@ use Rattle.std.specs.List.{list_all, list_any}
 use Rattle.std.specs.Option.{is_some, option_map}
 use Rattle.std.specs.Prelude.{unwrap_or}
 use Rattle.odd_text.specs.Text.{text_cmp}
-use Rattle.odd_tree.specs.Elements.{StandsIn}
-use Rattle.odd_tree.proofs.InList.{first_or_later, nothing_stands}
+use Rattle.odd_text.specs.Standing.{StandsIn}
+use Rattle.odd_text.proofs.InList.{first_or_later, nothing_stands}
 use Rattle.rng_types.specs.declared.val_list.ListKind.{ListKind}
 use Rattle.rng_types.specs.declared.val_list.ValList.{ValList}
-use Rattle.odd_forms.proofs.SetOf.{one_set, set_same}
+use Rattle.odd_text.proofs.SetOf.{one_set, set_same}
 use Rattle.odd_overlay.specs.Marks.{IsWordAfter, words_laid}
 use Rattle.odd_overlay.specs.Overlaid.{laid_at}
 use Rattle.odd_overlay.specs.Tabled.{or_else}

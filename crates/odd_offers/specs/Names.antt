@@ -1,7 +1,7 @@
 -- The names that attributes have in documents.
 use Rattle.std.specs.Prelude.{◌≡◌, ℕ, List, map}
 use Rattle.odd_text.specs.declared.name.Name.{Name}
-use Rattle.odd_forms.specs.Standing.{StandsTwice}
+use Rattle.odd_text.specs.Standing.{StandsTwice}
 use Rattle.odd_meaning.specs.Naming.{attribute_name}
 use Rattle.odd_offers.specs.declared.given.Given.{Given}
 

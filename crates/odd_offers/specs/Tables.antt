@@ -4,7 +4,7 @@ use Rattle.std.specs.FinMap.{find}
 use Rattle.std.specs.List.{list_any}
 use Rattle.std.specs.declared.cmp.Ordering.TheVariants.{Greater}
 use Rattle.odd_text.specs.Text.{text_cmp}
-use Rattle.odd_tree.specs.Elements.{StandsIn}
+use Rattle.odd_text.specs.Standing.{StandsIn}
 use Rattle.odd_overlay.specs.Overlaid.{joined_at, zipped}
 use Rattle.odd_attributes.specs.Attributes.{def_changed}
 use Rattle.odd_attributes.specs.declared.att_def.AttDef.{AttDef}

@@ -3,7 +3,7 @@ ghost use Rattle.std.specs.List.{list_all, list_any};
 ghost use Rattle.odd_attributes.specs.declared.att_def.AttDef.{AttDef as ADef};
 ghost use Rattle.odd_offers.specs.declared.table.Offer.{Offer as AnOffer};
 ghost use Rattle.odd_offers.specs.declared.telling.DefPart.TheVariants as DefPart;
-ghost use Rattle.odd_tree.specs.Elements.{StandsIn};
+ghost use Rattle.odd_text.specs.Standing.{StandsIn};
 ghost use Rattle.odd_offers.specs.Telling.{alike_at, alike_word, are_in_order as the_are_in_order, are_words_told as the_are_words_told, has_word as the_has_word, in_order};
 ghost use Rattle.odd_offers.specs.Telling.{is_def_told as the_is_def_told, is_given as the_is_given, is_told as the_is_told, told_by, words_of as the_words_of};
 

@@ -11,10 +11,10 @@ use Rattle.std.specs.declared.cmp.Ordering.{Ordering}
 use Rattle.std.specs.declared.cmp.Ordering.TheVariants.{Less, Equal, Greater}
 use Rattle.odd_text.proofs.Entries.{as_T, first, is_less, second}
 use Rattle.odd_text.specs.Text.{text_cmp}
-use Rattle.odd_tree.proofs.InList.{contained, first_or_later, nothing_stands, standing}
-use Rattle.odd_tree.specs.Elements.{StandsIn}
-use Rattle.odd_forms.proofs.SetOf.{none_rising, rising_more, set_same}
-use Rattle.odd_forms.specs.Sorted.{AreRising, IsSet}
+use Rattle.odd_text.proofs.InList.{contained, first_or_later, nothing_stands, standing}
+use Rattle.odd_text.specs.Standing.{StandsIn}
+use Rattle.odd_text.proofs.SetOf.{none_rising, rising_more, set_same}
+use Rattle.odd_text.specs.Sorted.{AreRising, IsSet}
 use Rattle.odd_overlay.specs.Marks.{IsWordAfter, mark_laid, word_entries, words_laid}
 use Rattle.odd_overlay.specs.Overlaid.{find_zipped, laid_at, laid_maps, zipped}
 use Rattle.odd_overlay.specs.Tabled.{keys_of, or_else, put_some, tabled, tabled_sorted}

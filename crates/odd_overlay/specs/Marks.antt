@@ -5,7 +5,7 @@ use Rattle.std.proofs.lemmas.Cmp.{nat_list_cmp_total}
 use Rattle.std.specs.FinMap.{slice_cmp-IsAntisymmetric, nat_cmp-IsAntisymmetric}
 use Rattle.std.specs.FinMap.{find}
 use Rattle.odd_text.specs.Text.{text_cmp}
-use Rattle.odd_tree.specs.Elements.{StandsIn}
+use Rattle.odd_text.specs.Standing.{StandsIn}
 use Rattle.odd_overlay.specs.Overlaid.{joined_maps, laid_maps, maps_one_by_one, maps_regrouped}
 use Rattle.odd_overlay.specs.Tabled.{keys_of}
 

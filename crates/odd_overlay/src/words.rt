@@ -1,7 +1,7 @@
 ghost use Rattle.std.specs.Prelude.{◌≡◌, ℕ, List, IfOk};
 ghost use Rattle.std.specs.FinMap.{find};
 ghost use Rattle.odd_text.specs.Text.{text_cmp};
-ghost use Rattle.odd_forms.specs.Sorted.{IsSet};
+ghost use Rattle.odd_text.specs.Sorted.{IsSet};
 ghost use Rattle.odd_overlay.specs.Marks.{IsWordAfter, word_entries, words_laid as the_words_laid};
 ghost use Rattle.odd_overlay.specs.Tabled.{keys_of};
 

@@ -13,7 +13,7 @@ use Rattle.odd_tokens.proofs.Ascii.{ascii_legal}
 use Rattle.odd_tokens.proofs.Characters.{Lacks, Distinct, distinct, none_twice}
 use Rattle.odd_tokens.specs.Characters.{is_char, is_space, IsLegal, is_ncname}
 use Rattle.odd_tokens.specs.Lines.{lines_read}
-use Rattle.odd_tokens.specs.Same.{is_same}
+use Rattle.odd_text.specs.Same.{is_same}
 use Rattle.odd_tokens.specs.Tokens.{Reference, lt, gt, amp, apos, quot, decimal, hexadecimal, Piece, itself, reference, IsPieceIn, Token, character, referred, cdata, character_of, IsReference, IsToken, QName, Attribute, Tag, IsQName, IsAttribute, IsTag, NoneTwice, name_written}
 use Rattle.odd_tokens.specs.Values.{value_read}
 use Rattle.odd_tree.proofs.LastBound.{last_bound_some, last_bound_none}

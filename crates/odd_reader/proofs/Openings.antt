@@ -8,7 +8,7 @@ use Rattle.std.specs.Cmp.Lexicographic.{same_text}
 use Rattle.std.specs.List.{list_all}
 use Rattle.odd_tokens.specs.Characters.{is_space, is_name_char, is_name_start, is_white}
 use Rattle.odd_tree.specs.Fitting.{AreOpen, none, more, Fits, FitsIn, AllFit}
-use Rattle.odd_tokens.specs.Same.{is_same}
+use Rattle.odd_text.specs.Same.{is_same}
 use Rattle.odd_tokens.specs.Openings.{Setting, setting_written, IsSetting, Declaration, declaration_written, IsDeclaration, Opening, opening_written, IsOpening}
 use Rattle.odd_tokens.specs.Tokens.{Tag, Token, character, instruction, start_tag, IsToken, token_written, tokens_written, size_of}
 use Rattle.odd_reader.specs.Reading.{is_fresh}

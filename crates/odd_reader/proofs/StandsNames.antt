@@ -14,7 +14,7 @@ use Rattle.odd_tree.specs.declared.tree.Attr.{Attr}
 use Rattle.odd_tokens.specs.declared.token.WrittenAttr.{WrittenAttr}
 use Rattle.odd_reader.specs.Resolving.{prefix_declared, binds_made, plain_made, may_bind, element_named, attribute_named, attributes_named}
 use Rattle.odd_tokens.specs.Making.{name_made, attribute_made}
-use Rattle.odd_tokens.specs.Same.{is_same}
+use Rattle.odd_text.specs.Same.{is_same}
 use Rattle.odd_tokens.specs.Values.{value_read}
 use Rattle.odd_tree.specs.Names.{declared_prefix, binds_of, plain_attributes, element_name, attribute_name, attribute_read, IsBinding, xml_namespace, xmlns_namespace}
 use Rattle.odd_tokens.specs.Tokens.{QName, Attribute}

@@ -17,7 +17,7 @@ use Rattle.odd_text.specs.declared.name.Name.{Name}
 use Rattle.odd_tokens.proofs.AttributesLexed.{one_name}
 use Rattle.odd_tokens.proofs.Characters.{each_weaker, Lacks, Distinct, distinct, none_twice, distinct_made}
 use Rattle.odd_tokens.specs.Making.{name_made, attribute_made}
-use Rattle.odd_tokens.specs.Same.{is_same}
+use Rattle.odd_text.specs.Same.{is_same}
 use Rattle.odd_tokens.specs.Tokens.{QName, IsQName, Attribute, IsAttribute, NoneTwice, name_written}
 use Rattle.odd_tokens.specs.declared.token.WrittenAttr.{WrittenAttr}
 use Rattle.odd_tokens.specs.declared.token.WrittenName.{WrittenName}

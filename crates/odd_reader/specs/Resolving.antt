@@ -5,7 +5,7 @@ use Rattle.std.specs.Option.{option_map}
 use Rattle.std.specs.List.{list_all, list_any}
 use Rattle.odd_text.specs.declared.name.Bind.{Bind}
 use Rattle.odd_text.specs.declared.name.Name.{Name}
-use Rattle.odd_tokens.specs.Same.{is_same}
+use Rattle.odd_text.specs.Same.{is_same}
 use Rattle.odd_tree.specs.Names.{in_force, last_bound, xml_namespace, xmlns_namespace}
 use Rattle.odd_reader.specs.declared.misfit.Misfit.{Misfit}
 use Rattle.odd_reader.specs.declared.misfit.Misfit.TheVariants as misfit

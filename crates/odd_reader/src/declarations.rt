@@ -1,7 +1,7 @@
 ghost use Rattle.std.specs.Prelude.{◌≡◌, None, Some, IfOk, MatchResult, codes, ◌||◌, not, if◌then◌else◌};
 ghost use Rattle.std.specs.List.{list_all, list_any};
 ghost use Rattle.odd_reader.specs.Resolving.{binds_made, is_declared, is_nothing, may_bind as can_bind, plain_made, prefix_declared};
-ghost use Rattle.odd_tokens.specs.Same.{is_same};
+ghost use Rattle.odd_text.specs.Same.{is_same};
 ghost use Rattle.odd_tree.specs.Names.{xml_namespace};
 
 use odd_text::{Bind, NoMemory, Scope};

@@ -1,1 +1,5 @@
 pub mod Entries
+pub mod InList
+pub mod Least
+pub mod Rise
+pub mod SetOf

@@ -5,7 +5,7 @@ use Rattle.std.proofs.lemmas.List.Elements.{All-head, All-tail}
 use Rattle.std.specs.List.{list_all}
 use Rattle.odd_tokens.proofs.Characters.{Stops, same_front, all_weaker, decimal_base, hexadecimal_base, decimal_no_x}
 use Rattle.odd_tokens.specs.Characters.{is_space, is_name_start, is_name_char, is_ncname, is_white}
-use Rattle.odd_tokens.specs.Same.{is_same}
+use Rattle.odd_text.specs.Same.{is_same}
 use Rattle.odd_tokens.specs.Tokens.{QName, IsQName, name_written, Reference, lt, gt, amp, apos, quot, decimal, hexadecimal, IsReference, is_decimal_digit, is_hexadecimal_digit, reference_written, Piece, itself, reference, Attribute, IsPieceIn, IsAttribute, value_written, attribute_written}
 
 abbrev pub is_name_part : ℕ → Bool

@@ -8,7 +8,7 @@ use Rattle.std.specs.List.{list_all}
 use Rattle.odd_tokens.proofs.Characters.{char_is_small, number_of, number_push, IsBase, decimal_value, hexadecimal_value, not_empty, list_all_more, decimal_base, hexadecimal_base}
 use Rattle.odd_tokens.specs.Characters.{last_character, is_char}
 use Rattle.odd_tokens.specs.Lexing.{Lexed, Taken, go, referred, reference, letter, digit, base_of, entity_named, end_letters, end_digits}
-use Rattle.odd_tokens.specs.Same.{is_same}
+use Rattle.odd_text.specs.Same.{is_same}
 use Rattle.odd_tokens.specs.Tokens.{is_decimal_digit, is_hexadecimal_digit}
 use Rattle.odd_tokens.specs.Tokens as written
 use Rattle.odd_tokens.specs.declared.lexer.Place.{Place}

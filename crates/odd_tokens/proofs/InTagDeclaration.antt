@@ -17,7 +17,7 @@ use Rattle.odd_tokens.specs.Characters.{is_space, is_white}
 use Rattle.odd_tokens.specs.Declaring.{is_set_by, version_is_set, encoding_is_set, standalone_is_set, is_declaration_of}
 use Rattle.odd_tokens.specs.Making.{attribute_made}
 use Rattle.odd_tokens.specs.Openings.{Setting, IsSetting, setting_written, Declaration, IsDeclaration, declaration_written}
-use Rattle.odd_tokens.specs.Same.{is_same}
+use Rattle.odd_text.specs.Same.{is_same}
 use Rattle.odd_tokens.specs.Tokens.{QName, Piece, itself, reference, Attribute, IsAttribute, name_written, value_written, attribute_written, attributes_written}
 use Rattle.odd_tokens.specs.Values.{value_read}
 use Rattle.odd_tokens.specs.declared.token.Token.TheVariants as token

@@ -9,7 +9,7 @@ use Rattle.std.specs.Str.{encode_utf8_all, str_eq_ignore_ascii_case}
 use Rattle.std.specs.Cmp.Lexicographic.{same_text}
 use Rattle.odd_tokens.specs.Characters.{is_char, is_space, is_name_start, is_name_char, is_ncname}
 use Rattle.odd_tokens.specs.Lexing.{is_empty}
-use Rattle.odd_tokens.specs.Same.{is_same}
+use Rattle.odd_text.specs.Same.{is_same}
 use Rattle.odd_tokens.specs.Tokens.{LacksPart, instruction, is_xml, is_set_off}
 use Rattle.odd_tokens.specs.declared.token.Token.TheVariants as token
 use Rattle.odd_tokens.proofs.LexedSteps.{IsRead}

@@ -10,7 +10,7 @@ use Rattle.odd_tokens.proofs.InTokenTexts.{InComment, InEndName, AfterName, comm
 use Rattle.odd_tokens.proofs.LexedSteps.{IsIdle, IsWhole, IsRead}
 use Rattle.odd_tokens.specs.Characters.{is_char, is_name_start, is_space, is_name_char}
 use Rattle.odd_tokens.specs.Lexing.{Lexed, Taken, go, done, less, exclamation, comment_dash, comment, cdata_open, cdata, cdata_text, target, target_ends, target_question, instruction, end_space, named_in, reference, fresh_tag, no_name, is_empty}
-use Rattle.odd_tokens.specs.Same.{is_same}
+use Rattle.odd_text.specs.Same.{is_same}
 use Rattle.odd_tokens.specs.Tokens as written
 use Rattle.odd_tokens.specs.declared.lexer.NamePart.{NamePart}
 use Rattle.odd_tokens.specs.declared.lexer.NamePart.TheVariants as part

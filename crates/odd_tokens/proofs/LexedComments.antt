@@ -17,7 +17,7 @@ use Rattle.odd_tokens.proofs.Lexing.{IsInComment, lacks_later, comment_later}
 use Rattle.odd_tokens.specs.Characters.{is_char, is_space, is_name_start, is_name_char, is_ncname}
 use Rattle.odd_tokens.specs.Lexing.{Lexed, next, target_ends, brackets_before}
 use Rattle.odd_tokens.specs.Lines.{lines_read}
-use Rattle.odd_tokens.specs.Same.{is_same}
+use Rattle.odd_text.specs.Same.{is_same}
 use Rattle.odd_tokens.specs.Tokens.{IsText, LacksPart, is_xml, is_set_off}
 use Rattle.odd_tokens.specs.declared.lexer.State.TheVariants as state
 use Rattle.odd_tokens.specs.declared.token.Token.{Token}

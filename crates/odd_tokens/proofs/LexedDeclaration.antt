@@ -20,7 +20,7 @@ use Rattle.odd_tokens.specs.Declaring.{version_is_set, encoding_is_set, standalo
 use Rattle.odd_tokens.specs.Lexing.{Lexed, next, fresh_tag}
 use Rattle.odd_tokens.specs.Making.{attribute_made, token_made}
 use Rattle.odd_tokens.specs.Openings.{Setting, IsSetting, setting_written, Declaration, IsDeclaration, declaration_written}
-use Rattle.odd_tokens.specs.Same.{is_same}
+use Rattle.odd_text.specs.Same.{is_same}
 use Rattle.odd_tokens.specs.Tokens.{Piece, itself, Attribute, IsAttribute, IsPieceIn, IsQName, attribute_written, value_written, attributes_written}
 use Rattle.odd_tokens.specs.Tokens as written
 use Rattle.odd_tokens.specs.Values.{value_read}

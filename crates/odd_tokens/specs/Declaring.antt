@@ -1,7 +1,7 @@
 -- Whether the settings of an XML declaration are allowed, as they are read.
 use Rattle.std.specs.Prelude.{ℕ, Bool, false, ◌&&◌, ◌||◌, List, [], ◌∷◌, codes}
 use Rattle.std.specs.Str.{str_eq_ignore_ascii_case}
-use Rattle.odd_tokens.specs.Same.{is_same}
+use Rattle.odd_text.specs.Same.{is_same}
 use Rattle.odd_tokens.specs.declared.token.WrittenAttr.{WrittenAttr}
 
 abbrev pub is_set_by : WrittenAttr → List ℕ → Bool

@@ -4,7 +4,7 @@ use Rattle.std.specs.Char.{digit_value}
 use Rattle.std.specs.Str.{str_eq_ignore_ascii_case}
 use Rattle.odd_tokens.specs.Characters.{last_character, is_char, is_space, is_name_start, is_name_char}
 use Rattle.odd_tokens.specs.Declaring.{is_declaration_of}
-use Rattle.odd_tokens.specs.Same.{is_same}
+use Rattle.odd_text.specs.Same.{is_same}
 use Rattle.odd_tokens.specs.declared.lexer.Fault.{Fault}
 use Rattle.odd_tokens.specs.declared.lexer.Fault.TheVariants as fault
 use Rattle.odd_tokens.specs.declared.lexer.Lexer.{Lexer}

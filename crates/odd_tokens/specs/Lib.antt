@@ -4,7 +4,6 @@ pub mod Lexing
 pub mod Lines
 pub mod Making
 pub mod Openings
-pub mod Same
 pub mod Tokens
 pub mod Unfinished
 pub mod Values

@@ -1,7 +1,7 @@
 -- The opening of a file: a byte order mark and an XML declaration (XML 1.0, sections 2.8 and 4.3.3).
 use Rattle.std.specs.Prelude.{◌≢◌, ℕ, ◌+◌, Bool, ◌||◌, ◌==◌, if◌then◌else◌, List, [], ◌∷◌, ◌++◌, map, Option, Some, None, IsTrue, codes}
 use Rattle.odd_tokens.specs.Characters.{is_within, is_white}
-use Rattle.odd_tokens.specs.Same.{is_same}
+use Rattle.odd_text.specs.Same.{is_same}
 
 -- section 2.8: one of version, encoding and standalone, with the white space before it and around its equals sign
 pub record Setting : Type 0 where

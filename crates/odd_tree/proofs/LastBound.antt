@@ -13,7 +13,7 @@ use Rattle.odd_text.specs.Text.{text_cmp}
 use Rattle.odd_text.specs.declared.name.Bind.{Bind}
 use Rattle.odd_text.specs.declared.name.Name.{Name}
 use Rattle.odd_tokens.proofs.Characters.{Lacks, distinct, none_twice, kept_distinct}
-use Rattle.odd_tokens.specs.Same.{is_same}
+use Rattle.odd_text.specs.Same.{is_same}
 use Rattle.odd_tokens.specs.Tokens.{QName, Piece, Attribute, Tag, NoneTwice, name_written}
 use Rattle.odd_tree.specs.Elements.{all_binds}
 use Rattle.odd_tree.specs.Markup.{Pair}

@@ -1,4 +1,4 @@
 pub mod Fits
-pub mod InList
+pub mod InTree
 pub mod LastBound
 pub mod PrintedTrees

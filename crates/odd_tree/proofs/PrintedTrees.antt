@@ -5,7 +5,7 @@ use Rattle.std.specs.Cmp.Lexicographic.{other_text}
 use Rattle.std.specs.Prelude.{◌≡◌, ◌≢◌, ℕ, List, [], ◌∷◌, ◌++◌, map, All, codes}
 use Rattle.odd_text.specs.declared.name.Bind.{Bind}
 use Rattle.odd_tokens.specs.Characters.{IsNCName, IsLegal}
-use Rattle.odd_tokens.specs.Same.{is_same}
+use Rattle.odd_text.specs.Same.{is_same}
 use Rattle.odd_tokens.specs.Tokens.{NoneTwice}
 use Rattle.odd_tree.specs.Markup.{Pair, Markup, element, line, declaring, Markups, none, more}
 use Rattle.odd_tree.specs.Names.{xml_namespace, xmlns_namespace}

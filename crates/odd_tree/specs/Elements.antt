@@ -1,15 +1,12 @@
 -- What stands in a tree: the elements among the children of an element, their texts, and the value of an attribute.
-use Rattle.std.specs.Prelude.{◌≡◌, ℕ, Bool, ◌&&◌, if◌then◌else◌, List, [], ◌∷◌, ◌++◌, Option, Some, None}
+use Rattle.std.specs.Prelude.{ℕ, Bool, ◌&&◌, if◌then◌else◌, List, [], ◌∷◌, ◌++◌, Option, Some, None}
 use Rattle.odd_text.specs.declared.name.Bind.{Bind}
-use Rattle.odd_tokens.specs.Same.{is_same}
+use Rattle.odd_text.specs.Same.{is_same}
+use Rattle.odd_text.specs.Standing.{StandsIn}
 use Rattle.odd_tree.specs.declared.tree.Attr.{Attr}
 use Rattle.odd_tree.specs.declared.tree.Tree.{Tree, out-Tree}
 use Rattle.odd_tree.specs.declared.tree.Node.{Node, Node-F, out-Node}
 use Rattle.odd_tree.specs.declared.tree.Node.TheOpen.{Element, Text}
-
--- the item stands somewhere in the list
-abbrev pub StandsIn : {A : Type 0} → List A → A → Type 0
-StandsIn {A} items item = (before : List A) × (after : List A) × (items ≡ before ++ item ∷ after)
 
 -- the element that a child is, if it is one
 abbrev pub shown_elements : Node-F Node Tree → List Tree

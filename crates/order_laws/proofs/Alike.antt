@@ -1,12 +1,13 @@
 -- Trees that say the same in another order have the same tags, and their children are the same as sets and in number.
-use Rattle.std.proofs.Common.{◌≡◌, ◌&&◌, ℕ, List, ◌++◌, ap}
+use Rattle.std.proofs.Common.{◌≡◌, ◌&&◌, not, ℕ, List, [], ◌∷◌, ◌++◌, ap, codes}
 use Rattle.odd_text.specs.declared.name.Bind.{Bind}
-use Rattle.odd_tokens.specs.Same.{is_same}
+use Rattle.odd_text.specs.Same.{is_same}
 use Rattle.odd_tree.specs.Elements.{attribute_value, given, within}
 use Rattle.odd_tree.specs.declared.tree.Tree.{Tree, out-Tree}
 use Rattle.odd_forms.specs.Names.{is_one_of, is_tei, tei_namespace}
-use Rattle.odd_forms.specs.Words.{is_among}
+use Rattle.odd_text.specs.Same.{is_among}
 use Rattle.odd_items.specs.Groups.{id_among, id_of}
+use Rattle.odd_items.specs.Search.{is_searched}
 use Rattle.order_laws.specs.Reordered.{IsReordered, element}
 
 pub same_name : {t u : Tree} → IsReordered t u → (out-Tree t).name ≡ (out-Tree u).name
@@ -32,3 +33,6 @@ same_one_of locals r = ap (λ name. is_same name.ns tei_namespace && is_among lo
 
 pub same_tei : {t u : Tree} → IsReordered t u → is_tei t ≡ is_tei u
 same_tei r = ap (λ name. is_same name.ns tei_namespace) (same_name r)
+
+pub same_searched : {t u : Tree} → IsReordered t u → is_searched t ≡ is_searched u
+same_searched r = ap (λ name. is_same name.ns tei_namespace && not (is_same name.ns tei_namespace && is_among (codes "constraintSpec" ∷ []) name.local)) (same_name r)

@@ -1,6 +1,7 @@
 -- Of two files that say the same in another order the same constraints are taken out, so what is read of them says the same in another order too.
 use Rattle.std.proofs.Common.{◌≡◌, ℕ, ◌≤◌, Bool, true, false, List, [], ◌∷◌, length, refl, sym, subst, ◌∙◌, codes}
-use Rattle.odd_tree.specs.Elements.{StandsIn, children_of}
+use Rattle.odd_text.specs.Standing.{StandsIn}
+use Rattle.odd_tree.specs.Elements.{children_of}
 use Rattle.odd_tree.specs.Formed.{IsFormed}
 use Rattle.odd_tree.specs.declared.tree.Tree.{Tree}
 use Rattle.odd_forms.specs.Table.{form_at}
@@ -13,9 +14,9 @@ use Rattle.odd_decls.proofs.ReadWith.{one_read}
 use Rattle.odd_decls.specs.Aside.{IsConstraintOf, IsLeftOut, IsReadOf}
 use Rattle.odd_decls.specs.Aside as left
 use Rattle.order_laws.specs.Reordered.{IsReordered}
-use Rattle.order_laws.specs.Reorderings.{IsReordering}
 use Rattle.order_laws.proofs.Alike.{same_one_of}
 use Rattle.order_laws.proofs.FaultsThere.{is_item_there, same_child_in}
+use Rattle.order_laws.proofs.OnceEach.{HasOneOfEach}
 use Rattle.order_laws.proofs.OneToOne.{matched_few}
 use Rattle.order_laws.proofs.PairsProofs.{paired}
 use Rattle.order_laws.proofs.Pairing.{AreBeside, AreFirstsBeside, HasOwnIds, IsPairing, firsts_of_few, firsts_turned, item_there, own_ids_there, pairing, turned}
@@ -62,12 +63,12 @@ module _ {Beside : Tree → Tree → Type 0} {t u : Tree} (p : IsPairing Beside 
       (h.0, h.1, firsts_of_few (matched_few (AreBeside Beside) schemas h.0 h.2 (few schemas finds)))
 
 -- of a file that says the same in another order something is read that does so too, and as many constraints are taken out
-pub read_made : (aside : Bool) {t u r : Tree} {m first end other_first other_end : ℕ} → IsFormed first end t → IsFormed other_first other_end u → IsReordering aside t u → IsReadOf t aside r m
-    → (s : Tree) × IsReadOf u aside s m × IsReordered r s
-read_made false {u = u} formed other_formed is left.whole = (u, left.whole, is.same)
-read_made true {t = t} {u = u} formed other_formed is (left.without schemas finds without) =
-    let once = is.each_once refl in
-    let pairs = paired is.same in
+pub read_made : (aside : Bool) {t u r : Tree} {m first end other_first other_end : ℕ} → IsFormed first end t → IsFormed other_first other_end u → IsReordered t u → (aside ≡ true → HasOneOfEach t)
+    → IsReadOf t aside r m → (s : Tree) × IsReadOf u aside s m × IsReordered r s
+read_made false {u = u} formed other_formed is each left.whole = (u, left.whole, is)
+read_made true {t = t} {u = u} formed other_formed is each (left.without schemas finds without) =
+    let once = each refl in
+    let pairs = paired is in
     let p = pairing formed other_formed pairs.1 in
     let (others, found, firsts) = schemas_there p once.schema finds in
     let gone : SameGone (IsLeftOut t schemas) (IsLeftOut u others) pairs.0 =
@@ -76,9 +77,9 @@ read_made true {t = t} {u = u} formed other_formed is (left.without schemas find
     (h.0, left.without others found h.1.is_left, h.1.reordered)
 
 -- so what is read of two files that say the same in another order, with `aside` or without, does so, and as many constraints are taken out
-pub read_there : (aside : Bool) {t u r s : Tree} {m n first end other_first other_end : ℕ} → IsFormed first end t → IsFormed other_first other_end u → IsReordering aside t u → IsReadOf t aside r m
-    → IsReadOf u aside s n → IsReordered r s × (m ≡ n)
-read_there aside {u = u} {r = r} {s = s} {m = m} {n = n} formed other_formed is read other_read =
-    let h = read_made aside formed other_formed is read in
+pub read_there : (aside : Bool) {t u r s : Tree} {m n first end other_first other_end : ℕ} → IsFormed first end t → IsFormed other_first other_end u → IsReordered t u → (aside ≡ true → HasOneOfEach t)
+    → IsReadOf t aside r m → IsReadOf u aside s n → IsReordered r s × (m ≡ n)
+read_there aside {u = u} {r = r} {s = s} {m = m} {n = n} formed other_formed is each read other_read =
+    let h = read_made aside formed other_formed is each read in
     let same = one_read u h.0 s aside m n h.1 other_read in
     (subst (IsReordered r) same.0 h.2, same.1)

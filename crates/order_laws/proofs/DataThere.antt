@@ -3,14 +3,15 @@ use Rattle.std.proofs.Common.{◌≡◌, ◌⊎◌, inl, inr, ⊎_elim, ℕ, tru
 use Rattle.std.specs.Prelude.{codes, find}
 use Rattle.odd_text.specs.declared.name.Bind.{Bind}
 use Rattle.odd_text.specs.declared.name.Name.{Name}
-use Rattle.odd_tokens.specs.Same.{is_same}
-use Rattle.odd_tree.specs.Elements.{StandsIn, children_of}
+use Rattle.odd_text.specs.Same.{is_same}
+use Rattle.odd_text.specs.Standing.{StandsIn}
+use Rattle.odd_tree.specs.Elements.{children_of}
 use Rattle.odd_tree.specs.declared.tree.Tree.{Tree, out-Tree}
 use Rattle.odd_forms.specs.Children.{IsChild}
 use Rattle.odd_forms.specs.Deep.{DeepFault}
 use Rattle.odd_forms.specs.Names.{HasName, is_one_of, tei_namespace}
 use Rattle.odd_forms.specs.Table.{data_parts, form_at}
-use Rattle.odd_forms.specs.Words.{is_among}
+use Rattle.odd_text.specs.Same.{is_among}
 use Rattle.odd_forms.specs.declared.element.Element.{Element}
 use Rattle.odd_forms.specs.declared.element.Element.TheVariants as element
 use Rattle.odd_forms.proofs.Children.{child_named}

@@ -8,11 +8,12 @@ use Rattle.std.specs.Prelude.{codes}
 use Rattle.odd_text.specs.Text.{text_cmp}
 use Rattle.odd_text.specs.declared.key.Key.{Key}
 use Rattle.odd_tokens.specs.Tokens.{NoneTwice}
-use Rattle.odd_tree.proofs.InList.{first_or_later, nothing_stands}
-use Rattle.odd_tree.specs.Elements.{StandsIn, given}
+use Rattle.odd_text.proofs.InList.{first_or_later, nothing_stands}
+use Rattle.odd_text.specs.Standing.{StandsIn}
+use Rattle.odd_tree.specs.Elements.{given}
 use Rattle.odd_tree.specs.declared.tree.Tree.{Tree}
-use Rattle.odd_forms.proofs.SetOf.{one_set}
-use Rattle.odd_forms.specs.Sorted.{IsSet}
+use Rattle.odd_text.proofs.SetOf.{one_set}
+use Rattle.odd_text.specs.Sorted.{IsSet}
 use Rattle.odd_library.specs.Formed.{key_of}
 use Rattle.odd_library.specs.declared.odd.Entry.{Entry}
 use Rattle.odd_library.specs.declared.odd.Entry.TheVariants as entry

@@ -6,22 +6,23 @@ use Rattle.std.proofs.lemmas.Option.{same_Some}
 use Rattle.odd_text.specs.declared.key.Kind.{Kind}
 use Rattle.odd_text.specs.declared.key.Kind.TheVariants as kind
 use Rattle.odd_text.specs.declared.name.Bind.{Bind}
-use Rattle.odd_tokens.specs.Same.{is_same}
-use Rattle.odd_tree.specs.Elements.{StandsIn, children_of, within}
+use Rattle.odd_text.specs.Same.{is_same}
+use Rattle.odd_text.specs.Standing.{StandsIn}
+use Rattle.odd_tree.specs.Elements.{children_of, within}
 use Rattle.odd_tree.specs.declared.tree.Tree.{Tree, out-Tree}
 use Rattle.odd_forms.specs.Children.{GivesOne, IsChild}
 use Rattle.odd_forms.specs.Deep.{DeepFault}
 use Rattle.odd_forms.specs.Names.{first_named, is_one_of, tei_namespace}
 use Rattle.odd_forms.specs.Table.{form_at}
-use Rattle.odd_forms.specs.Words.{is_among}
+use Rattle.odd_text.specs.Same.{is_among}
 use Rattle.odd_forms.specs.declared.element.Element.{Element}
 use Rattle.odd_forms.specs.declared.element.Element.TheVariants as element
 use Rattle.odd_forms.proofs.Children.{child_named, named_one, one_named}
 use Rattle.odd_content.specs.Giving.{pick_in}
 use Rattle.odd_content.specs.Giving as giving
 use Rattle.odd_content.specs.declared.content.Content.{Content}
-use Rattle.odd_members.specs.Members.{IsMembershipOf, IsSetOf}
-use Rattle.odd_members.specs.declared.membership.Membership.{Membership}
+use Rattle.odd_library.specs.Members.{IsMembershipOf, IsSetOf}
+use Rattle.odd_library.specs.declared.membership.Membership.{Membership}
 use Rattle.odd_attributes.specs.Giving.{AreEditsGiven, AreEditsOf, edits_of}
 use Rattle.odd_attributes.specs.declared.att_edit.AttEdit.{AttEdit}
 use Rattle.odd_library.specs.declared.odd.Entry.TheVariants as entry

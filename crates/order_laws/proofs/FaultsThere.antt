@@ -4,10 +4,11 @@ use Rattle.std.specs.Prelude.{codes, find, is_some, nat_le, unwrap_or}
 use Rattle.std.specs.List.{list_all}
 use Rattle.std.proofs.lemmas.Bool.{and_parts}
 use Rattle.odd_text.specs.declared.name.Bind.{Bind}
-use Rattle.odd_tokens.specs.Same.{is_same}
-use Rattle.odd_tree.specs.Elements.{StandsIn, given, within}
+use Rattle.odd_text.specs.Same.{is_same}
+use Rattle.odd_text.specs.Standing.{StandsIn}
+use Rattle.odd_tree.specs.Elements.{given, within}
 use Rattle.odd_tree.specs.declared.tree.Tree.{Tree}
-use Rattle.odd_tree.proofs.InList.{first_or_later, nothing_stands}
+use Rattle.odd_text.proofs.InList.{first_or_later, nothing_stands}
 use Rattle.rng_values.specs.Items.{ItemFault}
 use Rattle.rng_values.specs.Treated.{collapsed_text}
 use Rattle.odd_forms.specs.Deep.{DeepFault, has_several, is_level, left_inside, level_by}
@@ -18,7 +19,8 @@ use Rattle.odd_forms.specs.Names.{is_one_of, is_passed_over, is_relax_ng, relax_
 use Rattle.odd_forms.specs.Table.{form_at}
 use Rattle.odd_forms.specs.Tags.{facets_given, facets_in}
 use Rattle.odd_forms.specs.Texts.{collapsed_in}
-use Rattle.odd_forms.specs.Words.{is_among, is_given_among, words_given, words_of}
+use Rattle.odd_text.specs.Same.{is_among}
+use Rattle.odd_forms.specs.Words.{is_given_among, words_given, words_of}
 use Rattle.odd_forms.specs.declared.element.Element.{Element}
 use Rattle.odd_forms.specs.declared.element.Element.TheVariants as elements
 use Rattle.odd_forms.specs.declared.form.Level.{Level}

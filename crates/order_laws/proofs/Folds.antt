@@ -9,11 +9,11 @@ use Rattle.std.specs.List.{cons_option, filter_map}
 use Rattle.std.specs.Ordering.{eq_by_cmp}
 use Rattle.std.specs.declared.cmp.Ordering.TheVariants.{Equal}
 use Rattle.odd_text.specs.Text.{text_cmp}
-use Rattle.odd_tree.specs.Elements.{StandsIn}
+use Rattle.odd_text.specs.Standing.{StandsIn}
 use Rattle.odd_tree.specs.declared.tree.Tree.{Tree}
-use Rattle.odd_tree.proofs.InList.{before, after, first_or_later, stands_first, stands_later, stands_map}
-use Rattle.odd_tree.proofs.InList as standing
-use Rattle.odd_forms.specs.Standing.{StandsTwice}
+use Rattle.odd_text.proofs.InList.{before, after, first_or_later, stands_first, stands_later, stands_map}
+use Rattle.odd_text.proofs.InList as standing
+use Rattle.odd_text.specs.Standing.{StandsTwice}
 use Rattle.order_laws.specs.Reordered.{AreReordered, IsReordered}
 use Rattle.order_laws.proofs.Shuffled.{AreShuffled, shuffled_back, stands_left}
 

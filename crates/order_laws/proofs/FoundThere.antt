@@ -2,7 +2,8 @@
 use Rattle.std.proofs.Common.{◌≡◌, ℕ, ◌&&◌, Bool, true, false, List, [], ◌∷◌, ◌++◌, append_assoc, inl, inr, refl, sym, ap, subst, ◌∙◌}
 use Rattle.std.proofs.lemmas.Bool.{cases_Bool}
 use Rattle.odd_text.specs.declared.name.Bind.{Bind}
-use Rattle.odd_tree.specs.Elements.{StandsIn, children_of, within}
+use Rattle.odd_text.specs.Standing.{StandsIn}
+use Rattle.odd_tree.specs.Elements.{children_of, within}
 use Rattle.odd_tree.specs.declared.tree.Tree.{Tree}
 use Rattle.odd_forms.specs.Names.{is_one_of}
 use Rattle.odd_items.proofs.ByNames.{one_search}
@@ -10,12 +11,12 @@ use Rattle.odd_items.specs.Search.{Finds, FindsAmong, Found, own}
 use Rattle.odd_items.specs.Search as search
 use Rattle.order_laws.specs.Pairs.{AreAllPaired, ArePaired}
 use Rattle.order_laws.specs.Pairs as pairs
-use Rattle.order_laws.proofs.Alike.{same_one_of, same_tei, same_within}
+use Rattle.order_laws.proofs.Alike.{same_one_of, same_searched, same_within}
 use Rattle.order_laws.proofs.OneToOne.{AreMatched, matched_amid, matched_both, matched_pair, matched_weaker}
 use Rattle.order_laws.proofs.OneToOne as matched
 use Rattle.order_laws.proofs.PairsProofs.{pair_itself, paired_reordered}
 use Rattle.order_laws.proofs.Shuffled.{stands_left, stands_right}
-use Rattle.odd_tree.proofs.InList.{stands_later}
+use Rattle.odd_text.proofs.InList.{stands_later}
 
 -- the same is declared around both, and they are one of these pairs
 pub record ArePairedFound (all : List (Tree × Tree)) (f g : Found) : Type 0 where
@@ -56,10 +57,10 @@ module _ (names : List (List ℕ)) (outermost : Bool) where
     -- a search finds in the other what is paired with what it finds in the one
     pub finds_paired : (around : List Bind) {t u : Tree} {all : List (Tree × Tree)} {found : List Found} → ArePaired t u all → Finds names outermost around t found
         → (others : List Found) × Finds names outermost around u others × AreMatched (ArePairedFound all) found others
-    finds_paired around p (search.foreign other) = ([], search.foreign (sym (same_tei (paired_reordered p)) ∙ other), matched.nothing)
-    finds_paired around {t = t} {u = u} {all = all} p (search.outer o named) = (
+    finds_paired around p (search.passed other) = ([], search.passed (sym (same_searched (paired_reordered p)) ∙ other), matched.nothing)
+    finds_paired around {t = t} {u = u} {all = all} p (search.outer q o named) = (
       record { around = around; element = u } ∷ [],
-      search.outer o (sym (same_one_of names (paired_reordered p)) ∙ named),
+      search.outer (sym (same_searched (paired_reordered p)) ∙ q) o (sym (same_one_of names (paired_reordered p)) ∙ named),
       matched_pair (ArePairedFound all) (record { around = around; element = t }) (record { around = around; element = u }) (record { around = refl; pair = pair_itself p }),
     )
     finds_paired around (pairs.element {t = t} {u = u} {below = below} r are) (search.through inner tei apart among is) =
@@ -68,7 +69,7 @@ module _ (names : List (List ℕ)) (outermost : Bool) where
         let inside = matched_weaker (ArePairedFound below) (ArePairedFound ((t, u) ∷ below))
         (λ f g k. paired_in below ((t, u) ∷ below) (λ q s. stands_later (t, u) q below s) f g k) h.2 in (
           own names around u ++ h.0,
-          search.through h.0 (sym (same_tei r) ∙ tei) (ap (λ b. outermost && b) (sym (same_one_of names r)) ∙ apart)
+          search.through h.0 (sym (same_searched r) ∙ tei) (ap (λ b. outermost && b) (sym (same_one_of names r)) ∙ apart)
               (subst (λ bs. FindsAmong names outermost bs (children_of u) h.0) (same_within around r) h.1) refl,
           subst (λ fs. AreMatched (ArePairedFound ((t, u) ∷ below)) fs (own names around u ++ h.0)) (sym is)
               (matched_both (ArePairedFound ((t, u) ∷ below)) (own_paired around p) inside),

@@ -6,13 +6,14 @@ use Rattle.std.specs.Option.{option_map}
 use Rattle.std.proofs.lemmas.List.Folds.{fold-map}
 use Rattle.std.proofs.lemmas.Option.{same_Some}
 use Rattle.odd_text.specs.declared.name.Bind.{Bind}
-use Rattle.odd_tokens.specs.Same.{is_same}
-use Rattle.odd_tree.specs.Elements.{StandsIn, children_of, given, within}
+use Rattle.odd_text.specs.Same.{is_same}
+use Rattle.odd_text.specs.Standing.{StandsIn}
+use Rattle.odd_tree.specs.Elements.{children_of, given, within}
 use Rattle.odd_tree.specs.declared.tree.Tree.{Tree, out-Tree}
 use Rattle.rng_values.specs.Treated.{collapsed_text}
 use Rattle.odd_overlay.specs.Marks.{words_laid}
 use Rattle.odd_overlay.specs.Overlaid.{laid_at}
-use Rattle.odd_tree.proofs.InList.{first_or_later, nothing_stands, stands_first, stands_later}
+use Rattle.odd_text.proofs.InList.{first_or_later, nothing_stands, stands_first, stands_later}
 use Rattle.odd_forms.proofs.Listed.{lists_one}
 use Rattle.odd_forms.specs.Deep.{DeepFault}
 use Rattle.odd_forms.specs.Faults.{DemandFault, FormFault, OwnFault, idents_of, value_in, values_in}
@@ -20,18 +21,18 @@ use Rattle.odd_forms.specs.Listing.{Lists, ListsAmong, is_definition}
 use Rattle.odd_forms.specs.Names.{first_named, is_one_of, tei_namespace}
 use Rattle.odd_forms.specs.Tags.{Tag, tag_of, tags_in}
 use Rattle.odd_forms.specs.Texts.{collapsed_in}
-use Rattle.odd_forms.specs.Words.{is_among}
+use Rattle.odd_text.specs.Same.{is_among}
 use Rattle.odd_forms.specs.Table.{form_at}
 use Rattle.odd_forms.specs.declared.element.Element.{Element}
 use Rattle.odd_forms.specs.declared.element.Element.TheVariants as element
 use Rattle.odd_forms.proofs.Children.{child_named, named_one, one_named}
-use Rattle.odd_data.specs.Items.{item_given, item_in}
-use Rattle.odd_data.specs.Occurrence.{bounds_in}
-use Rattle.odd_data.specs.Values.{has_mode, kind_in, list_given, marks_in, value_tagged, with_mark, with_value}
+use Rattle.odd_content.specs.Items.{item_given, item_in}
+use Rattle.odd_content.specs.Occurrence.{bounds_in}
+use Rattle.odd_content.specs.Values.{has_mode, kind_in, list_given, marks_in, value_tagged, with_mark, with_value}
 use Rattle.rng_types.specs.declared.val_list.ListKind.TheVariants as kind
-use Rattle.odd_members.specs.Members.{adds, marks_of, membership_of, with_child}
-use Rattle.odd_members.specs.Members as members
-use Rattle.odd_members.specs.declared.membership.Membership.TheVariants as membership
+use Rattle.odd_library.specs.Members.{adds, marks_of, membership_of, with_child}
+use Rattle.odd_library.specs.Members as members
+use Rattle.odd_library.specs.declared.membership.Membership.TheVariants as membership
 use Rattle.odd_attributes.specs.Giving.{AreEditsOf, alt_given, datatype_by, datatype_given, datatype_in, edit_of, usage_given, val_edit_given, val_edit_of, with_definition, with_ident}
 use Rattle.odd_attributes.specs.Values.{val_laid}
 use Rattle.odd_attributes.specs.declared.att_edit.AttEdit.{AttEdit}

@@ -6,9 +6,9 @@ use Rattle.std.specs.Ordering.{eq_by_cmp, is_eq}
 use Rattle.odd_text.specs.Key.{key_cmp}
 use Rattle.odd_text.specs.KeyOrder.{key_total}
 use Rattle.odd_text.specs.declared.key.Key.{Key}
-use Rattle.odd_tree.specs.Elements.{StandsIn}
-use Rattle.odd_tree.proofs.InList.{first_or_later, nothing_stands}
-use Rattle.odd_forms.proofs.Least.{any_stands}
+use Rattle.odd_text.specs.Standing.{StandsIn}
+use Rattle.odd_text.proofs.InList.{first_or_later, nothing_stands}
+use Rattle.odd_text.proofs.Least.{any_stands}
 use Rattle.odd_library.specs.declared.library.Component.{Component}
 use Rattle.odd_library.specs.declared.library.Library.{Library}
 use Rattle.odd_library.specs.declared.odd.Entry.TheVariants as entry

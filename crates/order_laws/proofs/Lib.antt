@@ -12,6 +12,7 @@ pub mod GivenThere
 pub mod HeldThere
 pub mod Matched
 pub mod OffendsThere
+pub mod OnceEach
 pub mod OneToOne
 pub mod Pairing
 pub mod PairsProofs

@@ -6,14 +6,15 @@ use Rattle.std.proofs.lemmas.List.Sums.{sum_by-append, sum_by-cons}
 use Rattle.std.specs.Prelude.{codes}
 use Rattle.std.specs.List.{cons_option, filter_map, list_any}
 use Rattle.odd_text.specs.declared.name.Name.{Name}
-use Rattle.odd_tree.specs.Elements.{StandsIn, children_of}
+use Rattle.odd_text.specs.Standing.{StandsIn}
+use Rattle.odd_tree.specs.Elements.{children_of}
 use Rattle.odd_tree.specs.declared.tree.Attr.{Attr}
 use Rattle.odd_tree.specs.declared.tree.Tree.{Tree}
-use Rattle.odd_tree.proofs.InList.{first_or_later, nothing_stands}
+use Rattle.odd_text.proofs.InList.{first_or_later, nothing_stands}
 use Rattle.odd_forms.specs.Listing.{Lists, ListsAmong, is_definition, is_list}
 use Rattle.odd_forms.specs.Listing as listing
 use Rattle.odd_forms.specs.Names.{is_one_of}
-use Rattle.odd_forms.specs.Standing.{StandsTwice}
+use Rattle.odd_text.specs.Standing.{StandsTwice}
 use Rattle.odd_forms.specs.Tags.{Tag, tag_of}
 use Rattle.order_laws.specs.Reordered.{AreReordered, IsReordered, SaysTheSame, element, is_loose, next, nothing}
 use Rattle.order_laws.proofs.Alike.{same_attrs, same_name, same_one_of}

@@ -1,8 +1,8 @@
 -- Two lists match: each item of the one has an item of the other to itself, in any order.
 use Rattle.std.proofs.Common.{◌≡◌, ◌≤◌, ⊎_elim, List, [], ◌∷◌, ◌++◌, length, append_assoc, refl, sym, ap, subst, ◌∙◌, arith}
-use Rattle.odd_tree.proofs.InList.{first_or_later, nothing_stands}
-use Rattle.odd_tree.specs.Elements.{StandsIn}
-use Rattle.odd_forms.specs.Standing.{StandsTwice}
+use Rattle.odd_text.proofs.InList.{first_or_later, nothing_stands}
+use Rattle.odd_text.specs.Standing.{StandsIn}
+use Rattle.odd_text.specs.Standing.{StandsTwice}
 use Rattle.order_laws.proofs.Shuffled.{none_twice, one_more, stands_with, twice_cases, twice_more}
 
 module _ {A B : Type 0} (Match : A → B → Type 0) where

@@ -7,8 +7,10 @@ use Rattle.std.specs.List.{AllByRecursion, IsDistinct}
 use Rattle.std.specs.List.Sorted.{IsPermutation}
 use Rattle.odd_tokens.proofs.Characters.{Distinct, Lacks, distinct, each_weaker, none_twice}
 use Rattle.odd_tokens.specs.Tokens.{NoneTwice}
-use Rattle.odd_tree.proofs.InList.{first_or_later, nothing_stands, stands_first, stands_later, with_element, with_text}
-use Rattle.odd_tree.specs.Elements.{StandsIn, children_of, elements_of}
+use Rattle.odd_tree.proofs.InTree.{with_element, with_text}
+use Rattle.odd_text.proofs.InList.{first_or_later, nothing_stands, stands_first, stands_later}
+use Rattle.odd_text.specs.Standing.{StandsIn}
+use Rattle.odd_tree.specs.Elements.{children_of, elements_of}
 use Rattle.odd_tree.specs.Formed.{AreFormed, IsFormed}
 use Rattle.odd_tree.specs.Formed as formed
 use Rattle.odd_tree.specs.declared.tree.Node.{Node}

@@ -1,7 +1,8 @@
 -- A chain whose files say the same in another order as those of a chain without an offence has none, and the same library comes of it.
-use Rattle.std.proofs.Common.{◌≡◌, ℕ, suc, Bool, false, List, [], ◌∷◌, ◌++◌, length, ⊎_elim, refl, sym, ap, subst}
-use Rattle.odd_tree.proofs.InList.{first_or_later, nothing_stands, stands_first, stands_later}
-use Rattle.odd_tree.specs.Elements.{StandsIn}
+use Rattle.std.proofs.Common.{◌≡◌, ℕ, suc, Bool, true, false, List, [], ◌∷◌, ◌++◌, length, ⊎_elim, refl, sym, ap, subst}
+use Rattle.std.proofs.lemmas.Bool.{false≢true}
+use Rattle.odd_text.proofs.InList.{first_or_later, nothing_stands, stands_first, stands_later}
+use Rattle.odd_text.specs.Standing.{StandsIn}
 use Rattle.odd_tree.specs.Formed.{IsFormed}
 use Rattle.odd_tree.specs.declared.tree.Tree.{Tree}
 use Rattle.odd_library.specs.declared.library.Library.{Library}
@@ -17,13 +18,15 @@ use Rattle.odd_chain.specs.Offences.{OffendsIn}
 use Rattle.odd_chain.specs.Order.{Position}
 use Rattle.order_laws.specs.AlikeDocs.{AreAlike, AreAllAlike}
 use Rattle.order_laws.specs.AlikeDocs as docs
-use Rattle.order_laws.specs.Reorderings.{AreReorderings, IsReordering, none, more}
+use Rattle.order_laws.specs.Reordered.{IsReordered}
+use Rattle.order_laws.specs.Reorderings.{AreReorderings, none, more}
 use Rattle.order_laws.proofs.AsideThere.{read_made, read_there}
 use Rattle.order_laws.proofs.DocOffences.{all_turned, alike_reversed, offence_there}
 use Rattle.order_laws.proofs.DocMade.{doc_made}
 use Rattle.order_laws.proofs.DocsThere.{docs_there}
 use Rattle.order_laws.proofs.HeldThere.{same_library}
 use Rattle.order_laws.proofs.OffendsThere.{unoffended_there}
+use Rattle.order_laws.proofs.OnceEach.{HasOneOfEach, once_each}
 use Rattle.order_laws.proofs.Pairing.{IsPairing, pairing}
 use Rattle.order_laws.proofs.PairsProofs.{paired}
 
@@ -44,10 +47,10 @@ record ReadPaired (r s : Tree) (m n : ℕ) : Type 0 where
   is : IsPairing (λ x y. StandsIn pairs (x, y)) r s
   asides : m ≡ n
 
-read_paired : (aside : Bool) {t u r s : Tree} {m n : ℕ} → IsFormedFile t → IsFormedFile u → IsReordering aside t u → IsReadOf t aside r m → IsReadOf u aside s n
+read_paired : (aside : Bool) {t u r s : Tree} {m n : ℕ} → IsFormedFile t → IsFormedFile u → IsReordered t u → (aside ≡ true → HasOneOfEach t) → IsReadOf t aside r m → IsReadOf u aside s n
     → ReadPaired r s m n
-read_paired aside {t = t} {u = u} {r = r} {s = s} {m = m} {n = n} formed other_formed reordering one other =
-    let same = read_there aside formed.1 other_formed.1 reordering one other in
+read_paired aside {t = t} {u = u} {r = r} {s = s} {m = m} {n = n} formed other_formed reordering each one other =
+    let same = read_there aside formed.1 other_formed.1 reordering each one other in
     let p = paired same.0 in
     record {
       pairs = p.0;
@@ -55,22 +58,27 @@ read_paired aside {t = t} {u = u} {r = r} {s = s} {m = m} {n = n} formed other_f
       asides = same.1;
     }
 
+-- a file that declares a doc, read without its constraints, has one `schemaSpec` at most and of each id one group
+once_of : (aside : Bool) {t : Tree} {doc : OddDoc} → Declares t aside doc → aside ≡ true → HasOneOfEach t
+once_of true d is = once_each d.is_read d.declares.unoffended
+once_of false d is = absurd (false≢true is)
+
 -- a file has no offence where one declares a doc that says the same in another order
-file_unoffended : (aside : Bool) {t u : Tree} {doc : OddDoc} → IsFormedFile t → IsFormedFile u → IsReordering aside t u → Declares t aside doc → (place rule : ℕ) → HasOffence u aside place rule → ⊥
+file_unoffended : (aside : Bool) {t u : Tree} {doc : OddDoc} → IsFormedFile t → IsFormedFile u → IsReordered t u → Declares t aside doc → (place rule : ℕ) → HasOffence u aside place rule → ⊥
 file_unoffended aside formed other_formed reordering d place rule o =
-    let p = read_paired aside formed other_formed reordering d.is_read o.is_read in
+    let p = read_paired aside formed other_formed reordering (once_of aside d) d.is_read o.is_read in
     unoffended_there p.is d.declares.unoffended place rule o.offends
 
 -- and where it declares a doc, that differs in the places of items alone
-docs_alike : (aside : Bool) {t u : Tree} {doc other : OddDoc} → IsFormedFile t → IsFormedFile u → IsReordering aside t u → Declares t aside doc → Declares u aside other → AreAlike doc other
+docs_alike : (aside : Bool) {t u : Tree} {doc other : OddDoc} → IsFormedFile t → IsFormedFile u → IsReordered t u → Declares t aside doc → Declares u aside other → AreAlike doc other
 docs_alike aside formed other_formed reordering d e =
-    let p = read_paired aside formed other_formed reordering d.is_read e.is_read in
+    let p = read_paired aside formed other_formed reordering (once_of aside d) d.is_read e.is_read in
     docs_there p.is d.declares e.declares p.asides
 
 -- and it declares one
-doc_there : (aside : Bool) {t u : Tree} {doc : OddDoc} → IsFormedFile t → IsFormedFile u → IsReordering aside t u → Declares t aside doc → (other : OddDoc) × Declares u aside other
+doc_there : (aside : Bool) {t u : Tree} {doc : OddDoc} → IsFormedFile t → IsFormedFile u → IsReordered t u → Declares t aside doc → (other : OddDoc) × Declares u aside other
 doc_there aside {t = t} {u = u} {doc = doc} formed other_formed reordering d =
-    let read = read_made aside formed.1 other_formed.1 reordering d.is_read in
+    let read = read_made aside formed.1 other_formed.1 reordering (once_of aside d) d.is_read in
     let p = paired read.2 in
     let is_formed = formed_read 0 formed.0 t d.read aside doc.asides formed.1 d.is_read in
     let there_formed = formed_read 0 other_formed.0 u read.0 aside doc.asides other_formed.1 read.1 in
@@ -84,14 +92,14 @@ record HasDeclared (aside : Bool) (u : Tree) : Type 0 where
   tree : Tree
   doc : OddDoc
   formed : IsFormedFile tree
-  reordering : IsReordering aside tree u
+  reordering : IsReordered tree u
   declares : Declares tree aside doc
 
-declared_beside : {aside : Bool} {trees others : List Tree} {docs : List OddDoc} → AreFormedFiles trees → AreReorderings aside trees others → AreDeclared aside trees docs → (u : Tree) → StandsIn others u
+declared_beside : {aside : Bool} {trees others : List Tree} {docs : List OddDoc} → AreFormedFiles trees → AreReorderings trees others → AreDeclared aside trees docs → (u : Tree) → StandsIn others u
     → HasDeclared aside u
 declared_beside formed none declared u s = absurd (nothing_stands u s)
 declared_beside formed (more {t = t} {u = v} {ts = ts} {us = us} r rest) (files.more {doc = doc} d ds) u s =
-    ⊎_elim (λ e. record { tree = t; doc = doc; formed = formed t (stands_first t ts); reordering = subst (IsReordering _ t) (sym e) r; declares = d })
+    ⊎_elim (λ e. record { tree = t; doc = doc; formed = formed t (stands_first t ts); reordering = subst (IsReordered t) (sym e) r; declares = d })
     (λ later. declared_beside (later_formed t ts formed) rest ds u later) (first_or_later v u us s)
 
 -- the first files of a chain, whose docs are alike
@@ -104,7 +112,7 @@ record AlikeUpto (aside : Bool) (trees upto : List Tree) (found : List OddDoc) :
   declared : AreDeclared aside first docs
   alike : AreAllAlike docs found
 
-alike_upto : {aside : Bool} {trees others upto : List Tree} (later : List Tree) {docs found : List OddDoc} → AreFormedFiles trees → AreFormedFiles others → AreReorderings aside trees others → AreDeclared aside trees docs
+alike_upto : {aside : Bool} {trees others upto : List Tree} (later : List Tree) {docs found : List OddDoc} → AreFormedFiles trees → AreFormedFiles others → AreReorderings trees others → AreDeclared aside trees docs
     → others ≡ upto ++ later → AreDeclared aside upto found → AlikeUpto aside trees upto found
 alike_upto {trees = trees} later formed other_formed r d is files.none =
     record { first = []; later = trees; docs = []; parts = refl; as_many = refl; declared = files.none; alike = docs.none }
@@ -125,14 +133,14 @@ alike_upto {aside = aside} later formed other_formed (more {t = t} {u = u} {ts =
     }
 
 -- and so are all of them
-all_alike : {aside : Bool} {trees others : List Tree} {docs found : List OddDoc} → AreFormedFiles trees → AreFormedFiles others → AreReorderings aside trees others → AreDeclared aside trees docs
+all_alike : {aside : Bool} {trees others : List Tree} {docs found : List OddDoc} → AreFormedFiles trees → AreFormedFiles others → AreReorderings trees others → AreDeclared aside trees docs
     → AreDeclared aside others found → AreAllAlike docs found
 all_alike formed other_formed none files.none files.none = docs.none
 all_alike {aside = aside} formed other_formed (more {t = t} {u = u} {ts = ts} {us = us} r rest) (files.more d ds) (files.more e es) =
     docs.more (docs_alike aside (formed t (stands_first t ts)) (other_formed u (stands_first u us)) r d e) (all_alike (later_formed t ts formed) (later_formed u us other_formed) rest ds es)
 
 -- and each of the others declares one
-all_made : {aside : Bool} {trees others : List Tree} {docs : List OddDoc} → AreFormedFiles trees → AreFormedFiles others → AreReorderings aside trees others → AreDeclared aside trees docs
+all_made : {aside : Bool} {trees others : List Tree} {docs : List OddDoc} → AreFormedFiles trees → AreFormedFiles others → AreReorderings trees others → AreDeclared aside trees docs
     → (found : List OddDoc) × AreDeclared aside others found
 all_made formed other_formed none files.none = ([], files.none)
 all_made {aside = aside} formed other_formed (more {t = t} {u = u} {ts = ts} {us = us} r rest) (files.more d ds) =
@@ -140,7 +148,7 @@ all_made {aside = aside} formed other_formed (more {t = t} {u = u} {ts = ts} {us
     let later = all_made (later_formed t ts formed) (later_formed u us other_formed) rest ds in
     (one.0 ∷ later.0, files.more one.1 later.1)
 
-module _ {aside : Bool} {trees others : List Tree} {library : Library} (formed : AreFormedFiles trees) (other_formed : AreFormedFiles others) (reorderings : AreReorderings aside trees others)
+module _ {aside : Bool} {trees others : List Tree} {library : Library} (formed : AreFormedFiles trees) (other_formed : AreFormedFiles others) (reorderings : AreReorderings trees others)
     (g : Gives aside trees library) where
   -- the other chain has no offence
   pub reordered_unoffended : (file : ℕ) (at : Position) → ChainOffends aside others file at → ⊥

@@ -1,10 +1,10 @@
 -- Lists with one item more, and lists of the same items: what stands in them, once and twice.
 use Rattle.std.proofs.Common.{◌≡◌, ◌⊎◌, List, [], ◌∷◌, ◌++◌, map, inl, inr, ⊎_elim, refl, sym, ap, subst, ◌∙◌, append_assoc}
 use Rattle.std.proofs.lemmas.List.{map-append}
-use Rattle.odd_tree.specs.Elements.{StandsIn}
-use Rattle.odd_tree.proofs.InList.{StandsOnce, first_or_later, nothing_stands, stands_around, stands_first, stands_later}
-use Rattle.odd_tree.proofs.InList as standing
-use Rattle.odd_forms.specs.Standing.{StandsTwice}
+use Rattle.odd_text.specs.Standing.{StandsIn}
+use Rattle.odd_text.proofs.InList.{StandsOnce, first_or_later, nothing_stands, stands_around, stands_first, stands_later}
+use Rattle.odd_text.proofs.InList as standing
+use Rattle.odd_text.specs.Standing.{StandsTwice}
 
 -- what stands in two lists stands in one of them
 pub stands_either : {A : Type 0} (xs ys : List A) (x : A) → StandsIn (xs ++ ys) x → StandsIn xs x ⊎ StandsIn ys x

@@ -3,20 +3,21 @@ use Rattle.std.proofs.Common.{◌≡◌, ⊎_elim, ℕ, Bool, true, false, ◌&&
 use Rattle.std.specs.Prelude.{codes, cond, find}
 use Rattle.std.proofs.lemmas.Option.{same_Some}
 use Rattle.odd_text.specs.declared.name.Bind.{Bind}
-use Rattle.odd_tokens.specs.Same.{is_same}
-use Rattle.odd_tree.specs.Elements.{StandsIn, children_of}
+use Rattle.odd_text.specs.Same.{is_same}
+use Rattle.odd_text.specs.Standing.{StandsIn}
+use Rattle.odd_tree.specs.Elements.{children_of}
 use Rattle.odd_tree.specs.declared.tree.Tree.{Tree}
-use Rattle.odd_tree.proofs.InList.{first_or_later, nothing_stands, stands_first, stands_later}
+use Rattle.odd_text.proofs.InList.{first_or_later, nothing_stands, stands_first, stands_later}
 use Rattle.odd_forms.specs.Children.{IsChild}
 use Rattle.odd_forms.specs.Deep.{DeepFault}
 use Rattle.odd_forms.specs.Faults.{DemandFault, FormFault, OwnFault, idents_of, values_in}
 use Rattle.odd_forms.specs.Listing.{Lists, ListsAmong, is_definition, is_list}
 use Rattle.odd_forms.specs.Names.{is_one_of, tei_namespace}
 use Rattle.odd_forms.specs.Table.{form_at}
-use Rattle.odd_forms.specs.Words.{is_among}
+use Rattle.odd_text.specs.Same.{is_among}
 use Rattle.odd_forms.specs.declared.element.Element.TheVariants as element
 use Rattle.odd_forms.proofs.Children.{one_named}
-use Rattle.odd_members.specs.Members.{membership_of}
+use Rattle.odd_library.specs.Members.{membership_of}
 use Rattle.odd_attributes.specs.Giving.{AreEditsOf}
 use Rattle.odd_attributes.specs.declared.att_edit.AttEdit.{AttEdit}
 use Rattle.order_laws.specs.Reordered.{IsReordered}

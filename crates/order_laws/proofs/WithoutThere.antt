@@ -1,16 +1,18 @@
 -- What is left of two trees that say the same in another order says the same in another order, where the same elements are taken out of both.
 use Rattle.std.proofs.Common.{◌≡◌, ℕ, zero, suc, ◌+◌, Bool, false, List, [], ◌∷◌, ◌++◌, append_assoc, refl, sym, ap, subst, ◌∙◌, arith}
 use Rattle.std.proofs.Common.{rules, codes, ◌&&◌}
-use Rattle.odd_tree.proofs.InList.{stands_later, with_element, with_text}
-use Rattle.odd_tree.specs.Elements.{StandsIn, children_of, elements_of, shown_text, texts_in}
+use Rattle.odd_tree.proofs.InTree.{with_element, with_text}
+use Rattle.odd_text.proofs.InList.{stands_later}
+use Rattle.odd_text.specs.Standing.{StandsIn}
+use Rattle.odd_tree.specs.Elements.{children_of, elements_of, shown_text, texts_in}
 use Rattle.odd_tree.specs.declared.tree.Node.{Node, Element, Text, out-Node, roll-Node, roll-out-Node}
 use Rattle.odd_tree.specs.declared.tree.Node as N
 use Rattle.odd_tree.specs.declared.tree.Node.TheOpen as shown
 use Rattle.odd_tree.specs.declared.tree.Node.TheVariants.{rolls-Element, rolls-Text}
 use Rattle.odd_tree.specs.declared.tree.Tree.{Tree, out-Tree, roll-Tree}
 use Rattle.odd_forms.specs.Names.{is_one_of, tei_namespace}
-use Rattle.odd_forms.specs.Words.{is_among}
-use Rattle.odd_tokens.specs.Same.{is_same}
+use Rattle.odd_text.specs.Same.{is_among}
+use Rattle.odd_text.specs.Same.{is_same}
 use Rattle.odd_forms.specs.Texts.{collapsed_in}
 use Rattle.rng_values.specs.Treated.{collapsed_text}
 use Rattle.odd_items.specs.Without.{AreWithout, IsWithout, text_before}
@@ -160,20 +162,20 @@ module _ (Gone : Tree → Type 0) where
   none_left us count nothing = refl
 
 -- an element and another of its name are of the same names
-same_names : (t u : Tree) (locals : List (List ℕ)) → (out-Tree t).name ≡ (out-Tree u).name → is_one_of locals t ≡ is_one_of locals u
+pub same_names : (t u : Tree) (locals : List (List ℕ)) → (out-Tree t).name ≡ (out-Tree u).name → is_one_of locals t ≡ is_one_of locals u
 same_names t u locals e = ap (λ name. is_same name.ns tei_namespace && is_among locals name.local) e
 
 -- the text of an element is left as it was
 text_kept : (Gone : Tree → Type 0) {t r : Tree} {count : ℕ} → IsWithout Gone t r count → collapsed_in r ≡ collapsed_in t
 text_kept Gone (left.element name attrs binds at are) = ap collapsed_text (text_left Gone are)
 
-name_kept : (Gone : Tree → Type 0) {t r : Tree} {count : ℕ} → IsWithout Gone t r count → (out-Tree r).name ≡ (out-Tree t).name
+pub name_kept : (Gone : Tree → Type 0) {t r : Tree} {count : ℕ} → IsWithout Gone t r count → (out-Tree r).name ≡ (out-Tree t).name
 name_kept Gone (left.element name attrs binds at are) = name
 
-attrs_kept : (Gone : Tree → Type 0) {t r : Tree} {count : ℕ} → IsWithout Gone t r count → (out-Tree r).attrs ≡ (out-Tree t).attrs
+pub attrs_kept : (Gone : Tree → Type 0) {t r : Tree} {count : ℕ} → IsWithout Gone t r count → (out-Tree r).attrs ≡ (out-Tree t).attrs
 attrs_kept Gone (left.element name attrs binds at are) = attrs
 
-binds_kept : (Gone : Tree → Type 0) {t r : Tree} {count : ℕ} → IsWithout Gone t r count → (out-Tree r).binds ≡ (out-Tree t).binds
+pub binds_kept : (Gone : Tree → Type 0) {t r : Tree} {count : ℕ} → IsWithout Gone t r count → (out-Tree r).binds ≡ (out-Tree t).binds
 binds_kept Gone (left.element name attrs binds at are) = binds
 
 module _ (Gone GoneThere : Tree → Type 0) where

@@ -1,6 +1,6 @@
 -- Docs that differ in the places of their items alone.
 use Rattle.std.specs.Prelude.{◌≡◌, ℕ, zero, List, [], ◌∷◌}
-use Rattle.odd_tree.specs.Elements.{StandsIn}
+use Rattle.odd_text.specs.Standing.{StandsIn}
 use Rattle.odd_library.specs.declared.odd.Entry.TheVariants as entry
 use Rattle.odd_library.specs.declared.odd.Entry.{Entry}
 use Rattle.odd_library.specs.declared.odd.OddDoc.{OddDoc}

@@ -5,8 +5,8 @@ use Rattle.std.specs.List.{AllByRecursion}
 use Rattle.std.specs.Prelude.{All}
 use Rattle.odd_text.specs.declared.name.Name.{Name}
 use Rattle.odd_tokens.specs.Characters.{IsLegal}
-use Rattle.odd_tokens.specs.Same.{is_same}
-use Rattle.odd_tree.proofs.InList.{with_element, with_text}
+use Rattle.odd_text.specs.Same.{is_same}
+use Rattle.odd_tree.proofs.InTree.{with_element, with_text}
 use Rattle.odd_tree.specs.Elements.{attribute_value, children_of, elements_of, given, is_named}
 use Rattle.odd_tree.specs.Formed as formed
 use Rattle.odd_tree.specs.Formed.{AreApart, AreFormed, IsFormed}

@@ -13,8 +13,8 @@ use Rattle.odd_text.specs.Text.{text_cmp}
 use Rattle.odd_text.specs.declared.memory.NoMemory.{NoMemory}
 use Rattle.odd_text.specs.declared.name.Name.{Name}
 use Rattle.odd_tokens.specs.Characters.{IsLegal}
-use Rattle.odd_tree.proofs.InList.{contained, first_or_later, map_stands, nothing_stands, only_item, standing, stands_first, stands_later, stands_map}
-use Rattle.odd_tree.specs.Elements.{StandsIn}
+use Rattle.odd_text.proofs.InList.{contained, first_or_later, map_stands, nothing_stands, only_item, standing, stands_first, stands_later, stands_map}
+use Rattle.odd_text.specs.Standing.{StandsIn}
 use Rattle.odd_tree.specs.declared.tree.Tree.{Tree}
 use Rattle.rng_grammar.proofs.OnePattern.{choice_shown, empty_shown, group_shown, list_shown, one_or_more_shown, optional_shown, ref_shown, text_shown, zero_or_more_shown}
 use Rattle.rng_grammar.specs.Denoting as denoting

@@ -7,7 +7,7 @@ use Rattle.odd_text.specs.declared.name.Name.{Name}
 use Rattle.odd_tokens.proofs.Ascii.{ascii_name, ascii_ncname, is_ascii_name, ascii_legal, ncname_legal}
 use Rattle.odd_tokens.proofs.Characters.{none_twice}
 use Rattle.odd_tokens.specs.Characters.{IsLegal, IsNCName}
-use Rattle.odd_tokens.specs.Same.{is_same}
+use Rattle.odd_text.specs.Same.{is_same}
 use Rattle.odd_tree.proofs.PrintedTrees.{IsNamespace, IsPlainAttribute, IsPlainTag, ArePlain, IsPlain}
 use Rattle.odd_tree.specs.Markup.{Pair, Markup, element, line, printed, all_printed, attributes_printed, all_of, plain}
 use Rattle.odd_tree.specs.Names.{xml_namespace, xmlns_namespace}

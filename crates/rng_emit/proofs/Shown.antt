@@ -5,10 +5,11 @@ use Rattle.std.proofs.lemmas.List.Elements.{All-map, All-nil, All-cons}
 use Rattle.std.specs.List.{list_all}
 use Rattle.std.specs.Prelude.{All, IsTrue, codes, filter}
 use Rattle.odd_text.specs.declared.name.Bind.{Bind}
-use Rattle.odd_tokens.specs.Same.{is_same}
-use Rattle.odd_tree.proofs.InList.{element_shown, text_shown}
+use Rattle.odd_text.specs.Same.{is_same}
+use Rattle.odd_tree.proofs.InTree.{element_shown, text_shown}
 use Rattle.odd_tree.proofs.PrintedTrees.{AreLines, HasHead, Shows, attr_of, line_break, text_nodes}
-use Rattle.odd_tree.specs.Elements.{StandsIn, attribute_value, elements_of, shown_elements, given}
+use Rattle.odd_text.specs.Standing.{StandsIn}
+use Rattle.odd_tree.specs.Elements.{attribute_value, elements_of, shown_elements, given}
 use Rattle.odd_tree.specs.Markup.{Pair, Markup, declaring, element, line, none, more, all_of, plain}
 use Rattle.odd_tree.specs.Significant.{is_blank, is_element}
 use Rattle.odd_tree.specs.declared.tree.Attr.{Attr}

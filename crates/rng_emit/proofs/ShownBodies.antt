@@ -9,7 +9,7 @@ use Rattle.odd_text.specs.declared.name.Name.{Name}
 use Rattle.odd_tokens.proofs.Characters.{some_encoded}
 use Rattle.odd_tokens.specs.Characters.{IsNCName, is_ncname}
 use Rattle.odd_tokens.specs.Lexing.{is_empty}
-use Rattle.odd_tokens.specs.Same.{is_same}
+use Rattle.odd_text.specs.Same.{is_same}
 use Rattle.odd_tree.proofs.PrintedTrees.{HasHead, Shows, attr_of, text_nodes}
 use Rattle.odd_tree.specs.Elements.{attribute_value, given}
 use Rattle.odd_tree.specs.Markup.{Markup, Pair, all_of, element, plain}

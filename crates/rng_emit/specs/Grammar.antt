@@ -22,7 +22,7 @@ use Rattle.rng_grammar.specs.declared.grammar.NameClass.TheVariants as class
 use Rattle.rng_grammar.specs.declared.grammar.NameClass.{NameClass}
 use Rattle.rng_grammar.specs.declared.grammar.NsPart.{NsPart}
 use Rattle.std.specs.Prelude.{if◌then◌else◌}
-use Rattle.odd_tokens.specs.Same.{is_same}
+use Rattle.odd_text.specs.Same.{is_same}
 
 -- an element with a name, and one with a namespace
 abbrev pub named : List ℕ → List ℕ → List Markup → Markup

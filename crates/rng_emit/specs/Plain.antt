@@ -1,6 +1,6 @@
 -- Which grammars a text can say: those that some bytes denote, where each list of patterns has two parts or more.
 use Rattle.std.specs.Prelude.{◌≤◌, ℕ, List, length}
-use Rattle.odd_tree.specs.Elements.{StandsIn}
+use Rattle.odd_text.specs.Standing.{StandsIn}
 use Rattle.rng_grammar.specs.Denoting.{Denotes}
 use Rattle.rng_grammar.specs.Linked.{StandsWithin, patterns_of}
 use Rattle.rng_grammar.specs.declared.grammar.Define.{Define}

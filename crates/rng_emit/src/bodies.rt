@@ -1,6 +1,6 @@
 ghost use Rattle.std.specs.Prelude.{◌≡◌, [], ◌∷◌, ◌++◌, map, OnOk, codes, if◌then◌else◌};
 ghost use Rattle.odd_tree.specs.Markup.{all_of, all_printed, attributes_printed, printed};
-ghost use Rattle.odd_tokens.specs.Same.{is_same};
+ghost use Rattle.odd_text.specs.Same.{is_same};
 ghost use Rattle.rng_grammar.specs.declared.grammar.Body.TheVariants as body;
 ghost use Rattle.rng_emit.specs.Grammar.{any_attributes, attribute_markup, attributes_markup, body_markup, define_markup, rule_markup};
 

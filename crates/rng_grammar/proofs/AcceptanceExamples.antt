@@ -3,7 +3,7 @@ use Rattle.std.proofs.Common.{◌≡◌, false, true, ◌||◌, [], ◌∷◌, i
 use Rattle.std.specs.Prelude.{filter, not}
 use Rattle.std.proofs.lemmas.List.Elements.{All-nil}
 use Rattle.odd_text.specs.declared.name.Name.{Name}
-use Rattle.odd_tree.proofs.InList.{first_or_later, only_item}
+use Rattle.odd_text.proofs.InList.{first_or_later, only_item}
 use Rattle.odd_tree.specs.Significant.{IsSignificant, beside_elements, depth, is_blank, is_element, whole}
 use Rattle.odd_tree.specs.declared.tree.Node as N
 use Rattle.odd_tree.specs.declared.tree.Node.{Element}

@@ -1,8 +1,8 @@
 -- Which names are of a name class: small cases on both sides.
 use Rattle.std.proofs.Common.{ℕ, List, [], ◌∷◌, refl, sym, ap, subst, ◌∙◌, codes}
 use Rattle.odd_text.specs.declared.name.Name.{Name}
-use Rattle.odd_tree.proofs.InList.{only_item, stands_first}
-use Rattle.odd_tree.specs.Elements.{StandsIn}
+use Rattle.odd_text.proofs.InList.{only_item, stands_first}
+use Rattle.odd_text.specs.Standing.{StandsIn}
 use Rattle.odd_tree.proofs.PrintedTrees.{apart}
 use Rattle.rng_grammar.specs.Acceptance.{IsInClass}
 use Rattle.rng_grammar.specs.declared.grammar.NameClass.TheVariants as class

@@ -11,8 +11,8 @@ use Rattle.std.specs.declared.cmp.Ordering.TheVariants.{Equal}
 use Rattle.odd_text.proofs.Entries.{as_T, find_at, rising}
 use Rattle.odd_text.specs.Map.{IsAfter}
 use Rattle.odd_text.specs.Text.{text_cmp}
-use Rattle.odd_tree.proofs.InList.{StandsOnce, nothing_stands, only_item, stands_first, stands_later}
-use Rattle.odd_tree.specs.Elements.{StandsIn}
+use Rattle.odd_text.proofs.InList.{StandsOnce, nothing_stands, only_item, stands_first, stands_later}
+use Rattle.odd_text.specs.Standing.{StandsIn}
 use Rattle.rng_grammar.proofs.OnePattern.{ref_shown, refers}
 use Rattle.rng_grammar.specs.Counted.{counted}
 use Rattle.rng_grammar.specs.Linked as linked

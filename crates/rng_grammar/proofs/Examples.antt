@@ -1,10 +1,11 @@
 -- What references and choices match: small cases on both sides.
 use Rattle.std.proofs.Common.{◌≡◌, ℕ, false, List, [], ◌∷◌, inl, inr, refl, sym, ap, subst, ◌∙◌, codes}
-use Rattle.odd_tree.proofs.InList.{element_shown, first_or_later, only_item}
+use Rattle.odd_tree.proofs.InTree.{element_shown}
+use Rattle.odd_text.proofs.InList.{first_or_later, only_item}
 use Rattle.odd_tree.specs.Significant.{Marking}
 use Rattle.odd_tree.specs.declared.tree.Node.{Node, Element}
 use Rattle.odd_tree.specs.declared.tree.Tree.{Tree, out-Tree, roll-Tree}
-use Rattle.odd_tokens.specs.Same.{is_same}
+use Rattle.odd_text.specs.Same.{is_same}
 use Rattle.rng_grammar.proofs.OnePattern.{ref_shown, choice_shown, told}
 use Rattle.rng_grammar.specs.Patterns as patterns
 use Rattle.rng_grammar.specs.Patterns.{IsDefined, IsMatched}

@@ -3,9 +3,9 @@ use Rattle.std.proofs.Common.{◌≡◌, ℕ, List, [], ◌∷◌, map, None, in
 use Rattle.std.proofs.lemmas.List.Elements.{All-nil}
 use Rattle.std.specs.FinMap.{find}
 use Rattle.odd_text.specs.Text.{text_cmp}
-use Rattle.odd_tree.proofs.InList.{nothing_stands, only_item, stands_first}
+use Rattle.odd_text.proofs.InList.{nothing_stands, only_item, stands_first}
 use Rattle.odd_reader.proofs.Refusing.{one_tree}
-use Rattle.odd_tree.specs.Elements.{StandsIn}
+use Rattle.odd_text.specs.Standing.{StandsIn}
 use Rattle.odd_tree.specs.Spelled.{Spells}
 use Rattle.odd_tree.specs.declared.tree.Tree.{Tree}
 use Rattle.odd_tokens.proofs.Characters.{none_twice}

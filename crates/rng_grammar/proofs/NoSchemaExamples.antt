@@ -1,8 +1,8 @@
 -- The namespace of an `element` in a schema, and schemas that stand for no grammar.
 use Rattle.std.proofs.Common.{◌≡◌, ℕ, List, [], ◌∷◌, ◌++◌, inl, inr, refl, sym, ap, ◌∙◌, codes}
 use Rattle.std.proofs.lemmas.List.Elements.{All-head}
-use Rattle.odd_tree.proofs.InList.{first_or_later, only_item}
-use Rattle.odd_tree.specs.Elements.{StandsIn}
+use Rattle.odd_text.proofs.InList.{first_or_later, only_item}
+use Rattle.odd_text.specs.Standing.{StandsIn}
 use Rattle.odd_tree.specs.declared.tree.Attr.{Attr}
 use Rattle.odd_tree.specs.declared.tree.Tree.{Tree, out-Tree}
 use Rattle.odd_tree.proofs.PrintedTrees.{apart}

@@ -1,6 +1,6 @@
 -- What groups, optional parts and repeated ones match: small cases on both sides.
 use Rattle.std.proofs.Common.{◌≡◌, ℕ, suc, false, List, [], ◌∷◌, ◌++◌, ◌⊎◌, inl, inr, refl, ap, subst, ◌∙◌, codes}
-use Rattle.odd_tokens.specs.Same.{is_same}
+use Rattle.odd_text.specs.Same.{is_same}
 use Rattle.odd_tree.specs.declared.tree.Node.{Node, Element}
 use Rattle.odd_tree.specs.declared.tree.Tree.{Tree}
 use Rattle.rng_grammar.proofs.Examples.{Matches, a, a_matched, b, b_matched, b_not_a, by_name, one_alone, other_name, ref_a, ref_b, sample, two_not_a}

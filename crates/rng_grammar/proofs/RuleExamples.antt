@@ -4,7 +4,7 @@ use Rattle.std.specs.Prelude.{IsTrue}
 use Rattle.std.proofs.lemmas.Bool.{false≢true}
 use Rattle.std.proofs.lemmas.List.Elements.{All-nil, All-cons, All-head}
 use Rattle.odd_text.specs.declared.name.Name.{Name}
-use Rattle.odd_tree.proofs.InList.{nothing_stands, only_item, stands_first, stands_later}
+use Rattle.odd_text.proofs.InList.{nothing_stands, only_item, stands_first, stands_later}
 use Rattle.odd_tree.specs.Significant.{Marking, is_element}
 use Rattle.odd_tree.specs.declared.tree.Attr.{Attr}
 use Rattle.odd_tree.specs.declared.tree.Node as N

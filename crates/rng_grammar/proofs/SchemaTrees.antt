@@ -3,8 +3,10 @@ use Rattle.std.proofs.Common.{◌≡◌, ℕ, Bool, true, ◌||◌, cond, List, 
 use Rattle.std.specs.List.{list_all}
 use Rattle.std.proofs.lemmas.Bool.{and_parts}
 use Rattle.std.proofs.lemmas.List.Elements.{All-cons, All-nil}
-use Rattle.odd_tree.proofs.InList.{element_shown, stands_first}
-use Rattle.odd_tree.specs.Elements.{StandsIn, elements_of}
+use Rattle.odd_tree.proofs.InTree.{element_shown}
+use Rattle.odd_text.proofs.InList.{stands_first}
+use Rattle.odd_text.specs.Standing.{StandsIn}
+use Rattle.odd_tree.specs.Elements.{elements_of}
 use Rattle.odd_tree.specs.Significant.{is_blank, is_element}
 use Rattle.odd_tree.specs.declared.tree.Attr.{Attr}
 use Rattle.odd_tree.specs.declared.tree.Node as N
@@ -12,7 +14,7 @@ use Rattle.odd_tree.specs.declared.tree.Node.{Element}
 use Rattle.odd_tree.specs.declared.tree.Tree.{Tree, out-Tree, roll-Tree}
 use Rattle.odd_tokens.proofs.Ascii.{is_ascii_name, is_name}
 use Rattle.odd_tokens.proofs.Characters.{none_twice}
-use Rattle.odd_tokens.specs.Same.{is_same}
+use Rattle.odd_text.specs.Same.{is_same}
 use Rattle.rng_grammar.specs.Denoting as denoting
 use Rattle.rng_grammar.specs.Denoting.{AreOnePattern, HasName, IsBody, IsDefine, IsElementOf, IsPart, IsPattern, IsStart, parts_of}
 use Rattle.rng_grammar.specs.Names.{relax_ng, relax_ng_namespace}

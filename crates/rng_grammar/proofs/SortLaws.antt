@@ -1,9 +1,9 @@
 -- A pattern of children allows no value, and one of a value matches no children.
 use Rattle.std.proofs.Common.{◌≡◌, ℕ, suc, List, [], ◌∷◌, ◌++◌, refl, sym, ap, subst, ◌∙◌, ⊎_elim}
-use Rattle.odd_tree.specs.Elements.{StandsIn}
+use Rattle.odd_text.specs.Standing.{StandsIn}
 use Rattle.odd_tree.specs.Significant.{Marking}
 use Rattle.odd_tree.specs.declared.tree.Node.{Node}
-use Rattle.odd_tree.proofs.InList.{stands_first, stands_later}
+use Rattle.odd_text.proofs.InList.{stands_first, stands_later}
 use Rattle.rng_grammar.proofs.OnePattern.{ToldBy, choice_shown, empty_shown, group_shown, list_shown, one_or_more_shown, optional_shown, ref_shown, text_shown, told, told_by, zero_or_more_shown}
 use Rattle.rng_grammar.proofs.Values.{ValueTold, same_shown, typed_shown, value_told}
 use Rattle.rng_types.specs.declared.data_type.DataType.{DataType}

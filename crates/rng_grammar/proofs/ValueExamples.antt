@@ -2,7 +2,7 @@
 use Rattle.std.proofs.Common.{◌≡◌, ℕ, Bool, true, false, List, [], ◌∷◌, codes, refl, sym, ap, subst, ◌∙◌, ⊎_elim}
 use Rattle.std.proofs.lemmas.Bool.{false≢true}
 use Rattle.std.specs.Str.{chars}
-use Rattle.odd_tree.proofs.InList.{first_or_later, nothing_stands, only_item, stands_first, stands_later}
+use Rattle.odd_text.proofs.InList.{first_or_later, nothing_stands, only_item, stands_first, stands_later}
 use Rattle.odd_tree.proofs.PrintedTrees.{apart}
 use Rattle.rng_types.specs.Words.{words_of}
 use Rattle.rng_types.specs.declared.data_type.DataType.TheVariants as kind

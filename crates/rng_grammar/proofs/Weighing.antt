@@ -22,8 +22,8 @@ use Rattle.odd_graph.specs.Graph.{HasArrow, Leads}
 use Rattle.odd_graph.specs.Ordering.{IsApart, IsOrder}
 use Rattle.odd_text.specs.Map.{SetsOnly}
 use Rattle.odd_text.specs.Text.{text_cmp}
-use Rattle.odd_tree.proofs.InList.{begins, standing}
-use Rattle.odd_tree.specs.Elements.{StandsIn}
+use Rattle.odd_text.proofs.InList.{begins, standing}
+use Rattle.odd_text.specs.Standing.{StandsIn}
 use Rattle.rng_grammar.proofs.Counting.{body_alike}
 use Rattle.rng_grammar.specs.Counted.{counted}
 use Rattle.rng_grammar.specs.Denoting.{entry_of}

@@ -5,9 +5,10 @@ use Rattle.std.specs.FinMap.{find, is_sorted}
 use Rattle.odd_text.specs.Text.{text_cmp}
 use Rattle.odd_text.specs.declared.name.Name.{Name}
 use Rattle.odd_tokens.specs.Characters.{IsNCName}
-use Rattle.odd_tokens.specs.Same.{is_same}
+use Rattle.odd_text.specs.Same.{is_same}
 use Rattle.odd_tokens.specs.Tokens.{NoneTwice}
-use Rattle.odd_tree.specs.Elements.{StandsIn, children_of, given}
+use Rattle.odd_text.specs.Standing.{StandsIn}
+use Rattle.odd_tree.specs.Elements.{children_of, given}
 use Rattle.odd_tree.specs.Significant.{is_blank, is_element}
 use Rattle.odd_tree.specs.Spelled.{Spells}
 use Rattle.odd_tree.specs.declared.tree.Node.{Node, Text}

@@ -1,6 +1,6 @@
 -- References of a grammar: each is to a define, and no define reaches itself outside an element (ISO/IEC 19757-2, sections 7.19 and 7.20).
 use Rattle.std.specs.Prelude.{◌≡◌, ℕ, List, [], ◌∷◌, map}
-use Rattle.odd_tree.specs.Elements.{StandsIn}
+use Rattle.odd_text.specs.Standing.{StandsIn}
 use Rattle.rng_types.specs.declared.data_type.DataType.{DataType}
 use Rattle.rng_types.specs.declared.facet.Facet.{Facet}
 use Rattle.rng_grammar.specs.Patterns.{IsDefined}

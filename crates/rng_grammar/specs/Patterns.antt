@@ -3,7 +3,7 @@
 use Rattle.std.specs.Prelude.{◌≡◌, ℕ, zero, suc, false, List, [], ◌∷◌, ◌++◌}
 use Rattle.std.specs.List.{list_any}
 use Rattle.std.specs.Str.{chars}
-use Rattle.odd_tree.specs.Elements.{StandsIn}
+use Rattle.odd_text.specs.Standing.{StandsIn}
 use Rattle.odd_tree.specs.Significant.{Marking, is_element}
 use Rattle.odd_tree.specs.declared.tree.Node.{Node, Element}
 use Rattle.odd_tree.specs.declared.tree.Tree.{Tree}

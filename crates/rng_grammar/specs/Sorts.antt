@@ -1,7 +1,7 @@
 -- Which patterns may stand where: in the content of elements, in a value, and in a `list` (ISO/IEC 19757-2, sections 10.3 and 10.2.4, with one addition: a define
 -- of `notAllowed` alone may be referred to from each).
 use Rattle.std.specs.Prelude.{◌≡◌, ◌⊎◌, ℕ, List, All}
-use Rattle.odd_tree.specs.Elements.{StandsIn}
+use Rattle.odd_text.specs.Standing.{StandsIn}
 use Rattle.rng_types.specs.declared.data_type.DataType.{DataType}
 use Rattle.rng_types.specs.declared.facet.Facet.{Facet}
 use Rattle.rng_grammar.specs.Patterns.{DefinesElement, IsDefined}

@@ -6,7 +6,7 @@ use Rattle.std.specs.Cmp.Lexicographic.{same_text}
 use Rattle.std.specs.List.{Contains}
 use Rattle.std.specs.Option.{option_map}
 use Rattle.std.specs.Prelude.{find}
-use Rattle.odd_tokens.specs.Same.{is_same}
+use Rattle.odd_text.specs.Same.{is_same}
 use Rattle.rng_values.specs.Items.{place_of}
 use Rattle.rng_values.specs.Making.{all_names, is_name, is_of}
 use Rattle.rng_values.specs.Names.{facet_names, named}

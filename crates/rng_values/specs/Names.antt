@@ -1,7 +1,7 @@
 -- The names of datatypes and facets (XML Schema, Part 2, sections 3 and 4.3), compared exactly.
 use Rattle.std.specs.Prelude.{ℕ, List, [], ◌∷◌, Option, find, codes}
 use Rattle.std.specs.Option.{option_map}
-use Rattle.odd_tokens.specs.Same.{is_same}
+use Rattle.odd_text.specs.Same.{is_same}
 use Rattle.rng_types.specs.declared.data_type.DataType.{DataType}
 use Rattle.rng_types.specs.declared.data_type.DataType.TheVariants as kind
 use Rattle.rng_types.specs.declared.facet.FacetName.{FacetName}

@@ -1,7 +1,7 @@
 use Rattle.std.proofs.Common.{◌<◌, ◌+◌, ◌^◌, List, length, rules, arith, refl, sym, subst, ap, Err}
 use Rattle.std.proofs.lemmas.Result.{err_from_is_err_and}
-use Rattle.compile_contents.specs.Budget.{HasTaken, IsMadeWithin, pattern_elements}
-use Rattle.compile_contents.specs.Contents.{listed_in, references_pattern}
+use Rattle.compile_defines.specs.Budget.{HasTaken, IsMadeWithin, pattern_elements}
+use Rattle.compile_defines.specs.Contents.{listed_in, references_pattern}
 use Rattle.compile_defines.proofs.NamedDefines.{defines_exist}
 use Rattle.compile_defines.specs.Blocks.{IsConditionDefine, component_defines}
 use Rattle.compile_defines.specs.Compiled.{IsGrammarOf, offers_in}

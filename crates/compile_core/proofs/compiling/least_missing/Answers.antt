@@ -2,8 +2,8 @@ use Rattle.std.proofs.Common.{◌≡◌, ◌+◌, ◌<◌, false, true, [], ◌�
 use Rattle.std.proofs.lemmas.Bool.{false≢true}
 use Rattle.std.proofs.lemmas.List.{take_more}
 use Rattle.std.specs.Option.{option_copied}
-use Rattle.odd_tree.proofs.InList.{nothing_stands}
-use Rattle.compile_contents.specs.Contents.{holds_element}
+use Rattle.odd_text.proofs.InList.{nothing_stands}
+use Rattle.compile_defines.specs.Contents.{holds_element}
 use Rattle.compile_core.specs.Schema.{IsLeast}
 use Rattle.compile_core.proofs.OneGrammarOf.{held_more, lesser_copied, missing_more}
 use Rattle.compile_core.proofs.compiling.least_missing.Goals as goal

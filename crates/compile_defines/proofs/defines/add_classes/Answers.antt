@@ -1,6 +1,6 @@
 use Rattle.std.proofs.Common.{◌≡◌, ◌∙◌, [], ◌∷◌, ap, sym, rules}
 use Rattle.odd_text.specs.declared.key.Kind.TheVariants as kind
-use Rattle.compile_contents.specs.Contents.{listed_in}
+use Rattle.compile_defines.specs.Contents.{listed_in}
 use Rattle.compile_defines.proofs.PutDefines.{put_refused}
 use Rattle.compile_defines.specs.Blocks.{class_defines, listed_defines}
 use Rattle.compile_defines.specs.Compiled.{class_define}

@@ -2,7 +2,7 @@ use Rattle.std.proofs.Common.{◌∙◌, [], ◌∷◌, ◌++◌, ap, sym, arith
 use Rattle.std.proofs.lemmas.List.Sums.{sum_by-append, sum_by-cons}
 use Rattle.std.specs.Option.{option_copied}
 use Rattle.std.specs.Prelude.{sum_by}
-use Rattle.compile_contents.specs.Contents.{listed_in}
+use Rattle.compile_defines.specs.Contents.{listed_in}
 use Rattle.compile_defines.proofs.OffersHeld.{defines_here, element_listed}
 use Rattle.compile_defines.proofs.PutDefines.{put_more, put_refused}
 use Rattle.compile_defines.specs.Blocks.{element_defines}

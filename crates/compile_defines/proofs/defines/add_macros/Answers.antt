@@ -1,5 +1,5 @@
 use Rattle.std.proofs.Common.{◌≡◌, [], ◌∷◌}
-use Rattle.compile_contents.specs.Contents.{listed_in}
+use Rattle.compile_defines.specs.Contents.{listed_in}
 use Rattle.compile_defines.proofs.PutDefines.{put_refused}
 use Rattle.compile_defines.specs.Blocks.{macro_defines}
 use Rattle.compile_defines.specs.Compiled.{macro_define}

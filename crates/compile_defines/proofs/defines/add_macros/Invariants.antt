@@ -1,6 +1,6 @@
 use Rattle.std.proofs.Common.{◌≡◌, ◌+◌, ◌++◌, take}
 use Rattle.std.specs.Prelude.{flat_map, sum_by}
-use Rattle.compile_contents.specs.Contents.{listed_in}
+use Rattle.compile_defines.specs.Contents.{listed_in}
 use Rattle.compile_defines.specs.Blocks.{macro_defines}
 use Rattle.compile_defines.specs.Elements.{define_elements}
 use Rattle.compile_defines.proofs.defines.add_macros.Given as goal

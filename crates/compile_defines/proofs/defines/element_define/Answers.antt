@@ -1,8 +1,8 @@
 use Rattle.std.proofs.Common.{map, rules, arith}
 use Rattle.odd_meaning.specs.Naming.{element_name}
-use Rattle.compile_contents.proofs.Taking.{making_refused}
-use Rattle.compile_contents.specs.Budget.{pattern_elements}
-use Rattle.compile_contents.specs.Contents.{content_pattern, define_name, listed_in}
+use Rattle.compile_defines.proofs.Taking.{making_refused}
+use Rattle.compile_defines.specs.Budget.{pattern_elements}
+use Rattle.compile_defines.specs.Contents.{content_pattern, define_name, listed_in}
 use Rattle.compile_defines.proofs.RuleElements.{element_elements}
 use Rattle.compile_defines.specs.Compiled.{element_define, offers_of, rule_of}
 use Rattle.compile_defines.specs.Elements.{define_elements, rules_elements}

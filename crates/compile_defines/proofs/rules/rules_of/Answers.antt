@@ -1,5 +1,5 @@
 use Rattle.std.proofs.Common.{map, ap, arith}
-use Rattle.compile_contents.proofs.Taking.{making_refused}
+use Rattle.compile_defines.proofs.Taking.{making_refused}
 use Rattle.compile_defines.proofs.RuleElements.{rules_within}
 use Rattle.compile_defines.specs.Compiled.{offers_of, rule_of}
 use Rattle.compile_defines.specs.Elements.{rule_elements, rules_elements}

@@ -1,11 +1,15 @@
 use Rattle.std.proofs.Common.{◌≡◌, None, Some, [], subst}
 use Rattle.odd_forms.specs.Deep.{DeepFault}
-use Rattle.odd_forms.specs.Least.{IsLeast}
+use Rattle.odd_text.specs.Least.{IsLeast}
 use Rattle.odd_forms.specs.declared.element.Element.TheVariants as element
 use Rattle.odd_attributes.specs.Giving.{AttListFault}
+use Rattle.odd_attributes.proofs.EditsSaid.{edits_said}
 use Rattle.odd_attributes.proofs.FormedReading.{read_formed}
 use Rattle.odd_attributes.proofs.ReadLists.{least_read, list_read}
 use Rattle.odd_attributes.proofs.reading.read_attlist.Goals as goal
+
+pub returns-in_ok-edits_in-in-None-clause-each : goal.returns-in_ok-edits_in-in-None-clause-each
+returns-in_ok-edits_in-in-None-clause-each c = edits_said c.args.tree.now c.in_ok-edits_in-in-None.field-0 c.in_ok-edits_in-in-None.ensures
 
 pub returns-in_ok-edits_in-in-None-clause-sound : goal.returns-in_ok-edits_in-in-None-clause-sound
 returns-in_ok-edits_in-in-None-clause-sound c = λ ok first end formed.

@@ -3,7 +3,7 @@ use Rattle.std.proofs.lemmas.Bool.{false≢true}
 use Rattle.std.proofs.lemmas.List.{take_all}
 use Rattle.std.specs.Prelude.{IsTrue}
 use Rattle.odd_content.specs.Formed.{once}
-use Rattle.odd_tree.proofs.InList.{ends}
+use Rattle.odd_text.proofs.InList.{ends}
 use Rattle.odd_classes.proofs.FactsTold.{alternate_facts, no_parts, parts_more, sequence_facts, told_filled}
 use Rattle.odd_classes.specs.DataFacts.{HasFactsOfParts}
 use Rattle.odd_classes.specs.declared.data.DataFacts.{DataFacts}

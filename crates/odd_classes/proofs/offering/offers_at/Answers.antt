@@ -1,5 +1,5 @@
 use Rattle.std.proofs.Common.{◌≡◌, inl, inr, sym, subst}
-use Rattle.odd_forms.specs.Sorted.{IsSet}
+use Rattle.odd_text.specs.Sorted.{IsSet}
 use Rattle.odd_classes.proofs.Asking.{one_element, right_at}
 use Rattle.odd_classes.proofs.OffersListed.{offers_set}
 use Rattle.odd_classes.specs.Offered.{IsOfferOfOne, IsRight, IsRightList, IsRightRule, offer_cmp}

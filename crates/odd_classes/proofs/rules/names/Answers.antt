@@ -1,8 +1,8 @@
 use Rattle.std.proofs.Common.{⊎_elim, refl, sym, ap, subst, take, ◌∙◌}
 use Rattle.std.proofs.lemmas.Bool.{false≢true}
 use Rattle.std.proofs.lemmas.List.{take_all}
-use Rattle.odd_tree.proofs.InList.{StandsOnce, ends, nothing_stands, once_push, standing}
-use Rattle.odd_tree.specs.Elements.{StandsIn}
+use Rattle.odd_text.proofs.InList.{StandsOnce, ends, nothing_stands, once_push, standing}
+use Rattle.odd_text.specs.Standing.{StandsIn}
 use Rattle.odd_meaning.specs.Links.{named_by}
 use Rattle.odd_classes.proofs.WrongNames.{wrong_among}
 use Rattle.odd_classes.specs.Placing.{IsWrong, those_of}

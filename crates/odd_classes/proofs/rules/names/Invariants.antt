@@ -1,5 +1,5 @@
 use Rattle.std.proofs.Common.{take}
-use Rattle.odd_tree.proofs.InList.{StandsOnce}
+use Rattle.odd_text.proofs.InList.{StandsOnce}
 use Rattle.odd_classes.specs.Placing.{IsWrong}
 use Rattle.odd_classes.proofs.rules.names.Given as goal
 

@@ -73,9 +73,20 @@ returns-in-Ok-write_whole-clause-base g c = λ files before aside first h b is a
     )
 
 pub returns-in-Ok-write_whole-clause-order : goal.returns-in-Ok-write_whole-clause-order
-returns-in-Ok-write_whole-clause-order g c = λ files before h b is.
-    let same : c.as_bytes.result.now ≡ c.in-Ok.answer.text = c.as_bytes.ensures.value ∙ c.as_str.ensures in
-    (c.in-Ok.answer.text, c.in-Ok-write_whole.ensures.whole before b ∙ ap (λ t. Some (before ++ t)) same, in_any_order c.args.words.now files c.in-Ok.answer.text (c.in-Ok.ensures.ok files h))
+returns-in-Ok-write_whole-clause-order g c = λ files before h b replied.
+    let same : c.as_bytes.result.now ≡ c.in-Ok.answer.text = c.as_bytes.ensures.value ∙ c.as_str.ensures in (
+      c.in-Ok.answer.text,
+      c.in-Ok-write_whole.ensures.whole before b ∙ ap (λ t. Some (before ++ t)) same,
+      in_any_order c.args.words.now files c.in-Ok.answer.text c.noted.result (subst (Reply c.args.words.now files c.in-Ok.answer.text) (sym c.noted.ensures.same) (c.in-Ok.ensures.ok files h)),
+    )
+
+pub returns-clause-order : goal.returns-clause-order
+returns-clause-order g c = λ files before h b replied. (
+  [],
+  b ∙ ap Some (sym (append-nil before)),
+  in_any_order c.args.words.now files [] c.noted-in-Err.result
+      (subst (Reply c.args.words.now files []) (sym c.noted-in-Err.ensures.same) (c.in-Err.ensures.err files h (subst IsReplied c.noted-in-Err.ensures.same replied))),
+)
 
 pub returns-in-Ok-write_whole-clause-note : goal.returns-in-Ok-write_whole-clause-note
 returns-in-Ok-write_whole-clause-note g c = λ before e. (

@@ -1,7 +1,7 @@
 use Rattle.std.proofs.Common.{◌++◌, map, sym, ap, ◌∙◌}
 use Rattle.odd_tree.specs.Elements.{all_binds}
 use Rattle.odd_forms.specs.Excepting.{excepted_of}
-use Rattle.odd_forms.specs.Sorted.{set_of}
+use Rattle.odd_text.specs.Sorted.{set_of}
 use Rattle.odd_text.specs.NameOrder.{name_cmp}
 use Rattle.odd_text.specs.Text.{text_cmp}
 use Rattle.odd_content.specs.Condition.{name_of, names_among, space_of, spaces_among}

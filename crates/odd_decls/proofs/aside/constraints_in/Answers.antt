@@ -1,6 +1,6 @@
 use Rattle.std.proofs.Common.{◌+◌, [], drop, refl, subst, sym}
 use Rattle.std.proofs.lemmas.List.{drop_all}
-use Rattle.odd_tree.proofs.InList.{begins, standing}
+use Rattle.odd_text.proofs.InList.{begins, standing}
 use Rattle.odd_tree.specs.declared.tree.Tree.{Tree}
 use Rattle.odd_items.proofs.ConstraintPlaces.{AddedSoFar, InOne, added_all, added_none, added_one, adds_same}
 use Rattle.odd_items.specs.Groups.{IsItemIn}

@@ -1,5 +1,5 @@
 use Rattle.std.proofs.Common.{[], drop}
-use Rattle.odd_tree.specs.Elements.{StandsIn}
+use Rattle.odd_text.specs.Standing.{StandsIn}
 use Rattle.odd_items.specs.declared.listing.Item.{Item}
 use Rattle.odd_decls.specs.Aside.{IsConstraintOf}
 use Rattle.odd_decls.specs.Items.{IsTold}

@@ -1,5 +1,5 @@
 use Rattle.std.proofs.Common.{sym, subst}
-use Rattle.odd_tree.proofs.InList.{ends}
+use Rattle.odd_text.proofs.InList.{ends}
 use Rattle.odd_decls.proofs.PlacedItems.{place_more}
 use Rattle.odd_decls.specs.FileItems.{AreByPlace}
 use Rattle.odd_decls.proofs.file_items.by_place.Goals as goal

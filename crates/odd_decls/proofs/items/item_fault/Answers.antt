@@ -1,6 +1,6 @@
 use Rattle.std.proofs.Common.{◌≡◌, None, sym, subst, ◌∙◌}
 use Rattle.odd_forms.specs.Faults.{ChildFault, child_in}
-use Rattle.odd_forms.specs.Least.{IsLeast}
+use Rattle.odd_text.specs.Least.{IsLeast}
 use Rattle.odd_decls.proofs.ItemFaults.{other_least}
 use Rattle.odd_decls.proofs.items.item_fault.Goals as goal
 

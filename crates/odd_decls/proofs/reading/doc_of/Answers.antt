@@ -1,7 +1,7 @@
 use Rattle.std.proofs.Common.{Some, slice_get, ap, sym, subst, refl, ◌∙◌}
-use Rattle.odd_forms.specs.Sorted.{IsSet}
+use Rattle.odd_text.specs.Sorted.{IsSet}
 use Rattle.odd_text.specs.Text.{text_cmp}
-use Rattle.odd_tree.specs.Elements.{StandsIn}
+use Rattle.odd_text.specs.Standing.{StandsIn}
 use Rattle.odd_decls.proofs.WholeRead.{first_kept, ident_given}
 use Rattle.odd_decls.proofs.reading.doc_of.Goals as goal
 

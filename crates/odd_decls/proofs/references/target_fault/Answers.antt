@@ -1,5 +1,5 @@
 use Rattle.std.proofs.Common.{sym, subst}
-use Rattle.odd_forms.specs.Least.{IsLeast}
+use Rattle.odd_text.specs.Least.{IsLeast}
 use Rattle.odd_decls.specs.Faults.{TargetFault}
 use Rattle.odd_decls.specs.FileItems.{IsGroupPlace}
 use Rattle.odd_decls.proofs.TargetFaults.{foreign_least, standing_least, unknown_least}

@@ -1,6 +1,6 @@
 use Rattle.std.proofs.Common.{[], sym, subst}
 use Rattle.std.proofs.lemmas.List.{length-take-le, take_all}
-use Rattle.odd_tree.proofs.InList.{ends}
+use Rattle.odd_text.proofs.InList.{ends}
 use Rattle.odd_decls.proofs.Tied.{AreKeyed, keyed_push, keyed_same, none_keyed, repeats_told}
 use Rattle.odd_decls.specs.Items.{IsTold}
 use Rattle.odd_decls.proofs.repeats.keyed_places.Goals.{in-Some+in_ok-push, in_default}

@@ -6,11 +6,11 @@ use Rattle.odd_tree.specs.Elements.{all_binds, children_of, elements_of, within}
 use Rattle.odd_forms.specs.Children.{IsChild}
 use Rattle.odd_forms.specs.Deep.{DeepFault, PlacedFault, is_level, left_inside}
 use Rattle.odd_forms.specs.Faults.{ChildFault, OwnFault, child_in}
-use Rattle.odd_forms.specs.Least.{Among, IsLeast}
+use Rattle.odd_text.specs.Least.{Among, IsLeast}
 use Rattle.odd_forms.specs.Seen as seen
 use Rattle.odd_forms.proofs.Children.{element_first}
 use Rattle.odd_forms.proofs.Forms.{deep_least, named_least, stray_least}
-use Rattle.odd_forms.proofs.Least.{all_passed, none_passed, one_passed}
+use Rattle.odd_text.proofs.Least.{all_passed, none_passed, one_passed}
 use Rattle.odd_forms.proofs.deep.+deep.Goals as goal
 
 pub children_fault-loop-node-init : goal.children_fault-loop-node-init

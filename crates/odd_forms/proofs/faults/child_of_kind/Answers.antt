@@ -1,7 +1,7 @@
 use Rattle.std.proofs.Common.{◌≡◌, None, Some, refl, sym, subst}
 use Rattle.std.proofs.lemmas.Bool.{both_ways}
-use Rattle.odd_tree.proofs.InList.{nothing_stands, stands_first}
-use Rattle.odd_tree.specs.Elements.{StandsIn}
+use Rattle.odd_text.proofs.InList.{nothing_stands, stands_first}
+use Rattle.odd_text.specs.Standing.{StandsIn}
 use Rattle.odd_forms.specs.Children.{GivesOne}
 use Rattle.odd_forms.proofs.Children.{gives_later}
 use Rattle.odd_forms.proofs.faults.child_of_kind.Goals as goal

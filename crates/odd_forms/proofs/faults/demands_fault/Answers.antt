@@ -2,7 +2,7 @@ use Rattle.std.proofs.Common.{map}
 use Rattle.odd_tree.specs.Elements.{all_binds}
 use Rattle.odd_forms.specs.Faults.{DemandFault}
 use Rattle.odd_forms.specs.Seen as seen
-use Rattle.odd_forms.proofs.Least.{all_passed, begins_seen, none_left, none_passed, one_passed}
+use Rattle.odd_text.proofs.Least.{all_passed, begins_seen, none_left, none_passed, one_passed}
 use Rattle.odd_forms.proofs.faults.demands_fault.Goals as goal
 
 pub loop-demand-init : goal.loop-demand-init

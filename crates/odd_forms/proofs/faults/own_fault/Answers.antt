@@ -4,7 +4,7 @@ use Rattle.std.specs.List.{list_any}
 use Rattle.odd_tree.specs.Elements.{all_binds, given}
 use Rattle.odd_forms.specs.Seen as seen
 use Rattle.odd_forms.proofs.Forms.{own_least}
-use Rattle.odd_forms.proofs.Least.{any_map}
+use Rattle.odd_text.proofs.Least.{any_map}
 use Rattle.odd_forms.proofs.faults.own_fault.Goals as goal
 
 pub returns : goal.returns

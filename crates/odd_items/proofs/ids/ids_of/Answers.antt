@@ -4,7 +4,7 @@ use Rattle.std.specs.BTreeMap.{get, is_at}
 use Rattle.std.specs.Borrow.{Bor}
 use Rattle.std.specs.Map.{lookup}
 use Rattle.std.specs.Option.{option_copied}
-use Rattle.odd_forms.specs.Least.{IsLeast}
+use Rattle.odd_text.specs.Least.{IsLeast}
 use Rattle.odd_text.specs.Text.{text_cmp}
 use Rattle.odd_items.specs.Ids.{HasId, id_of}
 use Rattle.odd_items.proofs.Placed.{groups_seen, group_at, nothing_first, nothing_again, first_put, again_put, first_there, again_held, again_new, is_again, first_unnamed, again_unnamed, all_first, all_again, is_missing, is_there, IsFirstBefore, IsAgainBefore}

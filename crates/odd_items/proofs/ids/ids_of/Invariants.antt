@@ -1,6 +1,6 @@
 use Rattle.std.proofs.Common.{ℕ, List}
 use Rattle.std.specs.BTreeMap.{get}
-use Rattle.odd_forms.specs.Least.{IsLeast}
+use Rattle.odd_text.specs.Least.{IsLeast}
 use Rattle.odd_text.specs.Text.{text_cmp}
 use Rattle.odd_items.proofs.Placed.{IsAgainBefore, IsFirstBefore, groups_seen}
 use Rattle.odd_items.proofs.ids.ids_of.Given as goal

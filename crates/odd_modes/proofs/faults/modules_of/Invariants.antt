@@ -1,6 +1,6 @@
 use Rattle.std.proofs.Common.{◌≡◌, ℕ, List, take}
 use Rattle.std.specs.List.{list_any}
-use Rattle.odd_tokens.specs.Same.{is_same}
+use Rattle.odd_text.specs.Same.{is_same}
 use Rattle.odd_library.specs.Library.{module_of}
 use Rattle.odd_modes.specs.Index.{has_text}
 use Rattle.odd_modes.proofs.faults.modules_of.Given as goal

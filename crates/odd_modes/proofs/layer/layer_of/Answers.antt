@@ -3,9 +3,9 @@ use Rattle.std.proofs.lemmas.List.{reverse-reverse}
 use Rattle.std.specs.FinMap.{find, is_sorted}
 use Rattle.std.specs.Prelude.{IsTrue}
 use Rattle.odd_text.specs.Key.{key_cmp}
-use Rattle.odd_tables.proofs.Rise.{above_last}
-use Rattle.odd_tables.specs.Above.{IsAboveLast}
-use Rattle.odd_tree.proofs.InList.{ends}
+use Rattle.odd_text.proofs.Rise.{above_last}
+use Rattle.odd_text.specs.Above.{IsAboveLast}
+use Rattle.odd_text.proofs.InList.{ends}
 use Rattle.odd_text.specs.declared.key.Key.{Key}
 use Rattle.odd_library.specs.declared.library.Component.{Component}
 use Rattle.odd_modes.specs.After.{spec_at}

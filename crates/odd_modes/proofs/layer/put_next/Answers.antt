@@ -1,8 +1,8 @@
 use Rattle.std.proofs.Common.{◌≡◌, false, ap, subst, sym, ◌∙◌}
 use Rattle.std.proofs.lemmas.Result.{on_ok_weaker}
 use Rattle.odd_text.specs.Key.{key_cmp}
-use Rattle.odd_tables.proofs.Rise.{above_last, above_push}
-use Rattle.odd_tables.specs.Above.{IsAboveLast}
+use Rattle.odd_text.proofs.Rise.{above_last, above_push}
+use Rattle.odd_text.specs.Above.{IsAboveLast}
 use Rattle.odd_modes.specs.Layering.{AreBelow, is_at, is_below, still_to_put}
 use Rattle.odd_modes.proofs.Layering.{is_less, put_above, put_first}
 use Rattle.odd_modes.proofs.layer.put_next.Goals as goal

@@ -1,6 +1,6 @@
 use Rattle.std.proofs.Common.{◌↔◌, sym, ap, subst, ◌∙◌}
 use Rattle.std.proofs.lemmas.List.{take_all}
-use Rattle.odd_tree.specs.Elements.{StandsIn}
+use Rattle.odd_text.specs.Standing.{StandsIn}
 use Rattle.odd_modes.specs.Choosing.{IsChosen}
 use Rattle.odd_modes.specs.Index.{keys_listed}
 use Rattle.odd_modes.proofs.HeldEntries.{lists_chosen}

@@ -1,5 +1,5 @@
 use Rattle.std.proofs.Common.{subst}
-use Rattle.odd_tree.specs.Elements.{StandsIn}
+use Rattle.odd_text.specs.Standing.{StandsIn}
 use Rattle.odd_modes.specs.Choosing.{IsChosen}
 use Rattle.odd_modes.specs.Index.{AreReferencesOf}
 use Rattle.odd_modes.proofs.HeldEntries.{set_same}

@@ -1,6 +1,6 @@
 use Rattle.std.proofs.Common.{◌≡◌, ◌∙◌, refl, ap, sym, subst, arith, List, [], ◌∷◌, ◌++◌, Some, reverse, length}
 use Rattle.std.proofs.lemmas.List.{length-reverse, reverse-append}
-use Rattle.odd_tables.proofs.Rise.{above_last, rises_of}
+use Rattle.odd_text.proofs.Rise.{above_last, rises_of}
 use Rattle.odd_modes.specs.Swept.{pushed, swept_at, value_taken}
 use Rattle.odd_modes.proofs.ActByAct.{Sweeps, act_found, held_found, sweep_begins, sweep_goes_on, sweep_ends}
 use Rattle.odd_modes.proofs.sweeping.sweep.Goals as goal

@@ -1,5 +1,5 @@
 use Rattle.std.proofs.Common.{sym}
-use Rattle.odd_tree.proofs.InList.{standing}
+use Rattle.odd_text.proofs.InList.{standing}
 use Rattle.odd_offers.proofs.telling.one_is_unlike.Goals as goal
 
 pub are_alike-requires-clause-other : goal.are_alike-requires-clause-other

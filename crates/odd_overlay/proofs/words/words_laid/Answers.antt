@@ -2,7 +2,7 @@
 use Rattle.std.proofs.Common.{◌≡◌, ap, subst, sym, ◌∙◌}
 use Rattle.std.proofs.lemmas.Result.{IfOk-weaker}
 use Rattle.odd_text.specs.Text.{text_cmp}
-use Rattle.odd_forms.specs.Sorted.{IsSet}
+use Rattle.odd_text.specs.Sorted.{IsSet}
 use Rattle.odd_overlay.specs.Marks.{IsWordAfter, words_laid as the_words_laid}
 use Rattle.odd_overlay.specs.Tabled.{keys_of}
 use Rattle.odd_overlay.proofs.Laid.{laid_set}

@@ -1,7 +1,7 @@
 use Rattle.std.proofs.Common.{◌≡◌, false, List, [], ◌∷◌, ◌++◌, codes, refl, sym, ap, ◌∙◌}
 use Rattle.std.proofs.lemmas.Bool.{or_parts}
 use Rattle.std.specs.List.{list_any}
-use Rattle.odd_tokens.specs.Same.{is_same}
+use Rattle.odd_text.specs.Same.{is_same}
 use Rattle.odd_tokens.specs.declared.token.WrittenAttr.{WrittenAttr}
 use Rattle.odd_reader.specs.Resolving.{binds_made, is_declared, plain_made}
 use Rattle.odd_reader.proofs.Tags.{declared_more, plain_more}

@@ -1,6 +1,6 @@
 use Rattle.std.proofs.Common.{sym, ap, ◌∙◌}
 use Rattle.odd_tree.specs.Elements.{attribute_value}
-use Rattle.odd_tree.proofs.InList.{attribute_here, attribute_next, attribute_none}
+use Rattle.odd_tree.proofs.InTree.{attribute_here, attribute_next, attribute_none}
 use Rattle.odd_tree.proofs.finding.attribute.Goals as goal
 
 pub loop-attr-init : goal.loop-attr-init

@@ -1,6 +1,6 @@
 use Rattle.std.proofs.Common.{take}
 use Rattle.std.proofs.lemmas.List.{take_all}
-use Rattle.odd_tree.proofs.InList.{ends, once_push}
+use Rattle.odd_text.proofs.InList.{ends, once_push}
 use Rattle.rng_grammar.proofs.Counting.{PartLeads, added_as, added_next, parts_lead, ref_leads}
 use Rattle.rng_grammar.proofs.nodes.+add_arrows.Goals as goal
 

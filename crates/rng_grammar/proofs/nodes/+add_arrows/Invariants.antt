@@ -1,6 +1,6 @@
 use Rattle.std.proofs.Common.{ℕ, ◌↔◌, ◌⊎◌, take}
 use Rattle.std.specs.List.{Contains}
-use Rattle.odd_tree.proofs.InList.{StandsOnce}
+use Rattle.odd_text.proofs.InList.{StandsOnce}
 use Rattle.rng_grammar.proofs.Counting.{PartLeads}
 use Rattle.rng_grammar.proofs.nodes.+add_arrows.Given as goal
 

@@ -1,7 +1,0 @@
-use Rattle.std.proofs.Common.{◌≡◌, take}
-use Rattle.std.specs.Prelude.{flat_map}
-use Rattle.compile_contents.proofs.Collected.{conditions_at}
-use Rattle.compile_contents.proofs.conditions.conditions_of.Given as goal
-
-abbrev pub invariant-loop-entry : goal.invariant-loop-entry
-invariant-loop-entry l = l.held ≡ flat_map conditions_at (take l.entry-index l.library.parts)

@@ -1,5 +1,0 @@
-use Rattle.std.proofs.Common.{◌≡◌, ◌++◌}
-use Rattle.compile_defines.proofs.conditions.by_name.Given as goal
-
-abbrev pub invariant-loop-define : goal.invariant-loop-define
-invariant-loop-define l = l.sorted ++ l.define-iterator.rest.items ≡ l.initial.define-iterator.rest.items

@@ -1,7 +1,0 @@
-use Rattle.std.proofs.Common.{◌≡◌, ◌++◌, take}
-use Rattle.std.specs.Prelude.{flat_map}
-use Rattle.odd_account.specs.Account.{offer_line}
-use Rattle.odd_account.proofs.lines.add_offers.Given as goal
-
-abbrev pub invariant-loop-offer : goal.invariant-loop-offer
-invariant-loop-offer l = l.out ≡ l.fn.out ++ flat_map offer_line (take l.offer-index l.offers)

@@ -1,4 +1,0 @@
-pub mod Formed
-pub mod Items
-pub mod Occurrence
-pub mod Values

@@ -1,5 +1,0 @@
-use Rattle.std.specs.Prelude.{◌<◌, length}
-use Rattle.odd_layer_cases.proofs.pooled.matches_pooled.Given as goal
-
-abbrev pub invariant-loop-symbol : goal.invariant-loop-symbol
-invariant-loop-symbol g l = l.at < length l.pool

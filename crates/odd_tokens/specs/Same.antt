@@ -1,6 +1,0 @@
--- Whether two texts are the same.
-use Rattle.std.specs.Prelude.{ℕ, Bool, ◌==◌, List}
-use Rattle.std.specs.Cmp.Lexicographic.{pointwise}
-
-abbrev pub is_same : List ℕ → List ℕ → Bool
-is_same = pointwise ◌==◌
