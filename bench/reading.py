@@ -25,8 +25,8 @@ Then it runs `PROGRAM compile FILE..` and `xmllint --noout FILE..` in turn, five
 (user and system) in seconds, the greatest memory in MB, how many times the file that is, and how many times xmllint's time
 and memory the program takes; where there is a half, also how many times the time and the memory that the half takes. The
 program compiles the first, the declarations and the contents, and answers the others with code 10. The last file goes to
-PROGRAM alone: xmllint compares its attributes in pairs, for many minutes. The chain of sixteen is also read alone: the last file is
-then one that is not XML, which the program answers after it has read the others, and before it merges them.
+PROGRAM alone: xmllint compares its attributes in pairs, for many minutes. The chain of sixteen is also read as XML
+alone: in the place of the last file one with an offence of form then stands first, after which none is merged.
 
 GNU time (Debian's package `time`) starts each run and tells its memory: the peak of a program that this interpreter starts
 counts what the interpreter held.
@@ -273,15 +273,15 @@ def main():
         if beside:
             readers.append(["xmllint", "--huge", "--noout", *paths])
         if len(paths) > 2:
-            broken = put(folder, "broken.xml", "<")
-            readers.append([program, "compile", *paths[:-1], *broken])
+            refused = put(folder, "refused.odd", '<schemaSpec xmlns="http://www.tei-c.org/ns/1.0" start=""/>')
+            readers.append([program, "compile", *refused, *paths[:-1]])
         results = list(measured(readers))
         for words, (seconds, memory, codes) in zip(readers, results):
             print(f"  {os.path.basename(words[0])}: {seconds:.3f} s, {memory:.0f} MB, {memory * 1048576 / size:.1f} times the file, codes {codes}")
         if beside:
             compared("xmllint", *results[:2])
         if len(paths) > 2:
-            compared("reading alone", results[0], results[2])
+            compared("reading as XML alone", results[0], results[2])
         own[name] = results[0]
         half = own.get(name.replace(".", "-half."))
         if half:

@@ -3,8 +3,8 @@
 
     checks/unused.py        at the top of the repository; it prints nothing where all is used
 
-It reads text and knows no scopes, so a name that stands for two things counts as used where either is. The laws that docs/proved.md and
-docs/admission.md name, and the small theorems (files that end in Examples, and those of ExampleTrees), are cited by nobody on purpose.
+It reads text and knows no scopes, so a name that stands for two things counts as used where either is. The small theorems (files that end
+in Examples, and those of ExampleTrees) are cited by nobody on purpose.
 """
 import glob
 import os
@@ -14,7 +14,6 @@ import sys
 IMPORT = re.compile(r"^\s*(?:ghost )?use (Rattle\.[\w.+]+)\.\{(.*)\};?$")
 ALIAS = re.compile(r"^\s*(?:ghost )?use (Rattle\.[\w.+]+) as (\w+);?$")
 DECLARED = re.compile(r"^(?:abbrev |data |record |pub )*([\w'-]+) :", re.M)
-LAWS = {"accepted_enough", "grammar_exists", "least_macros", "prefixed_read", "valid_enough"}
 
 
 def read(path):
@@ -71,7 +70,7 @@ def uncited_lemmas(path, text, taken):
             for line in text.split("\n")
             if not line.strip().startswith("--")
         )
-        if not used and not {name, "*"} & cited and name not in LAWS:
+        if not used and not {name, "*"} & cited:
             yield name
 
 

@@ -1,5 +1,5 @@
 -- Where a library's schema is too large: by the elements of its text, by its nodes after linking, or by the members of its classes.
-use Rattle.std.proofs.Common.{◌≡◌, ◌∙◌, ◌<◌, ◌≤◌, ◌+◌, ◌^◌, ℕ, length, List, [], ◌∷◌, ◌++◌, Option, Some, None, inl, inr, map, refl, sym, ap, arith}
+use Rattle.std.proofs.Common.{◌≡◌, ◌∙◌, ◌<◌, ◌≤◌, ◌+◌, ℕ, List, [], ◌∷◌, ◌++◌, Option, Some, None, inl, inr, map, refl, sym, ap, arith}
 use Rattle.std.proofs.lemmas.List.Sums.{sum_by-append, sum_by-cons, sum_by-le-sum_by}
 use Rattle.std.proofs.lemmas.Result.{err_from_is_err_and}
 use Rattle.std.specs.FinMap.{is_sorted}
@@ -12,9 +12,8 @@ use Rattle.compile_defines.specs.Conditions.{IsConditionOf}
 use Rattle.compile_defines.specs.declared.budget.MakeRefusal.{MakeRefusal}
 use Rattle.compile_defines.specs.declared.budget.MakeRefusal.TheVariants as refusal
 use Rattle.compile_defines.specs.Contents.{references_pattern}
-use Rattle.compile_defines.proofs.NamedDefines.{defines_exist}
 use Rattle.compile_defines.specs.Blocks.{IsConditionDefine, class_at, class_defines, component_defines, datatype_defines, element_defines, grammar_with, listed_defines, macro_defines}
-use Rattle.compile_defines.specs.Compiled.{AllOffers, AreAllOffers, HoldsStart, IsGrammarOf, define_cmp}
+use Rattle.compile_defines.specs.Compiled.{AllOffers, AreAllOffers, HoldsStart, define_cmp}
 use Rattle.compile_defines.specs.Elements.{define_elements}
 use Rattle.compile_laws.proofs.MacroLaw.{BreaksNone}
 use Rattle.odd_content.specs.ConditionOrder.{condition_cmp}
@@ -62,14 +61,6 @@ module _ (library : Library) (start : List (List ℕ)) (conditions : List Condit
     is_grammar = made library conditions members offers before up are_before are_members are_offers start are_conditions;
     too_large = let text = text_parts (references_pattern start) before (component_defines library conditions members offers) in inl (omega arith);
   }
-
--- a library that breaks no rule has a grammar, for any start words
-pub grammar_exists : (library : Library) (start : List (List ℕ)) (conditions : List Condition) (offers : AllOffers) → IsTrue (is_sorted key_cmp library.parts) → BreaksNone library
-    → IsSet condition_cmp (IsConditionOf library) conditions → AreAllOffers library offers → length conditions + 1 < 2 ^ 64 → (g : Grammar) × IsGrammarOf library start g
-grammar_exists library start conditions offers up none are_conditions are_offers small =
-    let before = defines_exist conditions are_conditions.rising small in
-    let exist = members_exist library none in
-    (grammar_with library start conditions exist.0 offers before.0, made library conditions exist.0 offers before.0 up before.1 exist.1 are_offers start are_conditions)
 
 -- a schema of more nodes after linking
 pub nodes_pass : (g : Grammar) (count : ℕ) → count ≡ counted (linked_nodes g) → 4000000 < count → IsTooLarge g

@@ -21,7 +21,7 @@ use compile_defines::{
     Budget, MakeRefusal, condition_defines, conditions_of, holds_element, library_defines,
     references_pattern,
 };
-use odd_classes::{MemberTable, TableRefusal, member_table, offer_table};
+use odd_classes::{Checked, LibraryRefusal, MemberTable, check};
 use odd_library::Library;
 use odd_text::{NoMemory, Offence, Text, TryCopy, Who, Words, lesser};
 use rng_grammar::{Grammar, linked_nodes};
@@ -90,7 +90,33 @@ pub fn compile(alloc: Global, library: &Library, start: &Words) -> Result<Gramma
     ensures offence { (offence : AnOffence) → result ≡ Err (CompileRefusal.Offence offence) → IsStartOffence library.now start.now offence }
     ensures too_large { result ≡ Err CompileRefusal.TooLarge → HasLargeSchema library.now start.now }
 {
-    if let Some(word) = least_missing(library, start) {
+    match check(alloc, library) {
+        Ok(checked) => compile_checked(alloc, &checked, start),
+        Err(LibraryRefusal::Rule { key, rule }) => Err(CompileRefusal::Offence(Offence {
+            file: 0,
+            who: Who::Part(key),
+            rule,
+        })),
+        Err(LibraryRefusal::NoMemory) => Err(CompileRefusal::NoMemory),
+    }
+}
+
+/// The same of a library that was checked, by what was found then.
+pub fn compile_checked(
+    alloc: Global,
+    library: &Checked<'_>,
+    start: &Words,
+) -> Result<Grammar, CompileRefusal>
+    ensures grammar { IfOk result (IsGrammarOf library.now start.now) }
+    ensures text { IfOk result (λ grammar. IsSchemaText library.now start.now (grammar_text grammar)) }
+    ensures plain { IfOk result (λ grammar. IsFormedLibrary library.now → IsPlain grammar) }
+    ensures accepts { IfOk result (λ grammar. IsFormedLibrary library.now → (t : ATree) → Accepts grammar t ↔ Admits library.now start.now t) }
+    ensures held { IsOk result → HoldsStart library.now start.now }
+    ensures within { IfOk result (λ grammar. IsTooLarge grammar → ⊥) }
+    ensures offence { (offence : AnOffence) → result ≡ Err (CompileRefusal.Offence offence) → IsStartOffence library.now start.now offence }
+    ensures too_large { result ≡ Err CompileRefusal.TooLarge → HasLargeSchema library.now start.now }
+{
+    if let Some(word) = least_missing(library.library(), start) {
         let who = Who::Start(word.copy(alloc)?);
         return Err(CompileRefusal::Offence(Offence {
             file: 0,
@@ -106,45 +132,46 @@ pub fn compile(alloc: Global, library: &Library, start: &Words) -> Result<Gramma
 }
 
 // The grammar of a library and a list of start words, made under the budget of its text: `grammar` and `start` are two elements.
-fn grammar_within(alloc: Global, library: &Library, start: &Words) -> Result<Grammar, MakeRefusal>
-    requires { (key : AKey) (rule : ℕ) → Breaks library.now key rule → ⊥ }
+fn grammar_within(
+    alloc: Global,
+    library: &Checked<'_>,
+    start: &Words,
+) -> Result<Grammar, MakeRefusal>
     ensures grammar { IfOk result (IsGrammarOf library.now start.now) }
     ensures within { IfOk result (λ grammar. text_nodes grammar ≤ 1000000) }
     ensures too_large { result ≡ Err refused.TooLarge → HoldsStart library.now start.now → HasLargeSchema library.now start.now }
 {
-    let offers = offer_table(alloc, library)?;
+    let held = library.library();
+    let offers = library.offers();
     let mut budget = Budget {
         left: MOST_ELEMENTS,
     };
     budget.take(2)?;
-    let conditions = conditions_of(alloc, library)?;
+    let conditions = conditions_of(alloc, held)?;
     let before = condition_defines(alloc, &conditions, &mut budget)?;
     let members = listed_members(alloc, library)?;
     let start = references_pattern(alloc, start, &mut budget)?;
     let defines = library_defines(
         alloc,
         before,
-        library,
+        held,
         &conditions,
         &members,
-        &offers,
+        offers,
         &mut budget,
     )?;
     Ok(Grammar { start, defines })
 }
 
 // The members of the classes of a library. Where they are more than a schema may have elements, the schema is too large.
-fn listed_members(alloc: Global, library: &Library) -> Result<MemberTable, MakeRefusal>
-    requires { (key : AKey) (rule : ℕ) → Breaks library.now key rule → ⊥ }
+fn listed_members(alloc: Global, library: &Checked<'_>) -> Result<MemberTable, MakeRefusal>
     ensures members { IfOk result (λ table. AreMembers library.now (listed_in table)) }
     ensures within { IfOk result (λ table. members_count (listed_in table) library.now ≤ 1000000) }
     ensures more { result ≡ Err refused.TooLarge → (members : Members) → AreMembers library.now members → 1000000 < members_count members library.now }
 {
-    match member_table(alloc, library, MOST_ELEMENTS as usize) {
-        Ok(members) => Ok(members),
-        Err(TableRefusal::Loop { .. }) => unreachable!(),
-        Err(TableRefusal::More) => Err(MakeRefusal::TooLarge),
-        Err(TableRefusal::NoMemory) => Err(MakeRefusal::NoMemory),
+    match library.members(alloc, MOST_ELEMENTS as usize)? {
+        Some(members) => Ok(members),
+        None => Err(MakeRefusal::TooLarge),
     }
 }
 

@@ -1,19 +1,14 @@
-ghost use Rattle.std.specs.Prelude.{◌≡◌, ℕ, Err, Some, IfOk, IsSome};
-ghost use Rattle.std.specs.FinMap.{find};
-ghost use Rattle.odd_text.specs.Key.{key_cmp};
+ghost use Rattle.std.specs.Prelude.{◌≡◌, ℕ, Err, Some, IfOk};
 ghost use Rattle.odd_text.specs.declared.key.Key.{Key as AKey};
 ghost use Rattle.odd_text.specs.declared.offence.Offence.{Offence as AnOffence};
 ghost use Rattle.odd_text.specs.declared.offence.Who.TheVariants as the_who;
-ghost use Rattle.odd_text.specs.Sorted.{IsSet};
-ghost use Rattle.odd_library.specs.Odd.{element_key};
 ghost use Rattle.odd_library.specs.declared.library.Component.TheVariants as the_component;
 ghost use Rattle.odd_meaning.specs.Rules.{Breaks};
-ghost use Rattle.odd_classes.specs.Offered.{IsOfferOfOne, offer_cmp};
 ghost use Rattle.compile_core.specs.Account.{IsAccount, IsAskedOffence};
 
 use crate::lines::account;
-use odd_classes::{OfferRefusal, Offers, memberships, offered};
-use odd_library::{Component, ElementPart, Library, OddRefusal};
+use odd_classes::{Checked, LibraryRefusal, check};
+use odd_library::{Component, Library, OddRefusal};
 use odd_text::{Kind, NoMemory, Offence, Text, TryCopy, Who};
 use std::alloc::Global;
 
@@ -36,10 +31,34 @@ pub fn explain(alloc: Global, library: &Library, ident: &Text) -> Result<Text, O
     ensures account { IfOk result (IsAccount library.now ident.now) }
     ensures offence { (offence : AnOffence) → result ≡ Err (OddRefusal.Offence offence) → IsAskedOffence library.now ident.now offence }
 {
-    match library.find_by(Kind::Element, ident) {
-        Some(Component::Element(part)) => Ok(account_of(alloc, library, ident, part)?),
-        _ => Err(OddRefusal::Offence(not_held(alloc, ident)?)),
+    match check(alloc, library) {
+        Ok(checked) => explain_checked(alloc, &checked, ident),
+        Err(LibraryRefusal::Rule { key, rule }) => Err(OddRefusal::Offence(Offence {
+            file: 0,
+            who: Who::Part(key),
+            rule,
+        })),
+        Err(LibraryRefusal::NoMemory) => Err(OddRefusal::NoMemory),
     }
+}
+
+/// The same of a library that was checked, by what was found then.
+pub fn explain_checked(
+    alloc: Global,
+    library: &Checked<'_>,
+    ident: &Text,
+) -> Result<Text, OddRefusal>
+    ensures account { IfOk result (IsAccount library.now ident.now) }
+    ensures offence { (offence : AnOffence) → result ≡ Err (OddRefusal.Offence offence) → IsAskedOffence library.now ident.now offence }
+{
+    let Some(Component::Element(part)) = library.library().find_by(Kind::Element, ident) else {
+        return Err(OddRefusal::Offence(not_held(alloc, ident)?));
+    };
+    let classes = library.memberships(alloc, ident)?;
+    let Some(offers) = library.offered(alloc, ident)? else {
+        unreachable!()
+    };
+    Ok(account(alloc, ident, part, &classes, &offers)?)
 }
 
 // The offence that no element is held at the ident.
@@ -52,33 +71,4 @@ fn not_held(alloc: Global, ident: &Text) -> Result<Offence, NoMemory>
         who,
         rule: NOT_HELD,
     })
-}
-
-// The account of an element that is held.
-fn account_of(
-    alloc: Global,
-    library: &Library,
-    ident: &Text,
-    part: &ElementPart,
-) -> Result<Text, NoMemory>
-    requires unbroken { (key : AKey) (rule : ℕ) → Breaks library.now key rule → ⊥ }
-    requires held { find key_cmp (element_key ident.now) library.now.parts ≡ Some (the_component.Element part.now) }
-    ensures { IfOk result (IsAccount library.now ident.now) }
-{
-    let classes = memberships(alloc, library, ident)?;
-    let offers = attributes_of(alloc, library, ident)?;
-    account(alloc, ident, part, &classes, &offers)
-}
-
-// The attributes that an element offers, where no rule is broken.
-fn attributes_of(alloc: Global, library: &Library, ident: &Text) -> Result<Offers, NoMemory>
-    requires unbroken { (key : AKey) (rule : ℕ) → Breaks library.now key rule → ⊥ }
-    requires held { IsSome (find key_cmp (element_key ident.now) library.now.parts) }
-    ensures { IfOk result (IsSet offer_cmp (IsOfferOfOne library.now ident.now)) }
-{
-    match offered(alloc, library, ident) {
-        Ok(offers) => Ok(offers),
-        Err(OfferRefusal::Rule(_)) => unreachable!(),
-        Err(OfferRefusal::NoMemory) => Err(NoMemory),
-    }
 }

@@ -5,5 +5,5 @@ pub mod compiling;
 mod explaining;
 mod lines;
 
-pub use compiling::{CompileRefusal, compile};
-pub use explaining::explain;
+pub use compiling::{CompileRefusal, compile, compile_checked};
+pub use explaining::{explain, explain_checked};

@@ -1,6 +1,7 @@
 -- The joining induction: an element is valid for a held element where the define of that element accepts it.
 use Rattle.std.proofs.Common.{◌≡◌, ◌↔◌, ℕ, List, [], ◌∷◌, refl, subst, sym, ◌≤◌, zero, suc, Bool, true, false, cond, inl, inr, ⊎_elim, map, ◌∙◌, ◌<◌, arith}
 use Rattle.std.proofs.lemmas.Bool.{false≢true}
+use Rattle.std.proofs.lemmas.List.Elements.{All-head}
 use Rattle.std.specs.Prelude.{All}
 use Rattle.compile_defines.proofs.Standing.{element_held, IsElementAt, stands_left}
 use Rattle.compile_defines.specs.Contents.{condition_name, condition_pattern, define_name, element_pattern, holds_element, reference, content_pattern}
@@ -42,7 +43,6 @@ use Rattle.compile_laws.proofs.Levels.{all_kept, child_less}
 use Rattle.compile_laws.proofs.MacroLaw.{BreaksNone, names_kept, macro_kept}
 use Rattle.compile_laws.proofs.ChildLaws.{none_matched}
 use Rattle.compile_laws.proofs.Pieces.{Same}
-use Rattle.compile_laws.proofs.SameMarkings.{alone_is}
 use Rattle.compile_laws.proofs.Sorted.{free_sort}
 use Rattle.compile_laws.proofs.DataOrChildren.{data_or_none}
 use Rattle.compile_laws.proofs.DataReached.{value_reached}
@@ -71,7 +71,7 @@ module _ (library : Library) (start : List (List ℕ)) (g : Grammar) (is : IsGra
 
   -- an element that is alone in the list is not too deep
   alone_under : (t : Tree) (children : List Node) → children ≡ Element t ∷ [] → All Q children → depth t ≤ levels
-  alone_under t children e q = under t (alone_is Q t children e q)
+  alone_under t children e q = under t (All-head Q (Element t) [] (subst (All Q) e q))
 
   -- one element that counts for an ident
   referred_kept : (key : List ℕ) → Same Q (IsOne counts (element key)) (IsMatched g marks (reference key))

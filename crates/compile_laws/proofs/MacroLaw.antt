@@ -1,4 +1,4 @@
--- The macro law: what a macro admits is what its pattern matches, at as many levels as the library holds components.
+-- The macro law: what a macro admits is what its pattern matches. As many levels as the library holds components are enough.
 use Rattle.std.proofs.Common.{◌≡◌, ◌↔◌, ℕ, zero, suc, Bool, true, false, List, Some, cond, refl, sym, subst, ◌∙◌, length}
 use Rattle.std.proofs.lemmas.Bool.{false≢true}
 use Rattle.std.proofs.lemmas.Option.{same_Some}
@@ -33,6 +33,7 @@ use Rattle.compile_laws.proofs.HeldDefines.{macro_law}
 use Rattle.compile_laws.proofs.OfferLaw.{named_held}
 use Rattle.compile_laws.proofs.Ranked.{each_ranked, of_macros}
 use Rattle.compile_laws.proofs.ChildLaws.{none_matched}
+use Rattle.compile_laws.proofs.Monotone.{monotone}
 use Rattle.compile_laws.proofs.Pieces.{Same, trans}
 
 -- it breaks no rule
@@ -125,9 +126,27 @@ module _ (library : Library) (none : BreaksNone library) (P : ℕ → List ℕ �
           let at = macro_found library ident holds in
           each_ranked library macros_of macro_key of_macros (λ other loop. none (macro_key other) 14 (reaches_itself other loop)) P step ident (component.Macro at.0) at.1
 
+module _ (library : Library) (none : BreaksNone library) (counts : Marking Label) where
+  -- so many levels are enough for the macro of an ident
+  abbrev AreEnough : ℕ → List ℕ → Type 0
+  AreEnough levels ident = (w : List Node) (any : ℕ) → MacroAdmits any library counts ident w → MacroAdmits levels library counts ident w
+
+  held_enough : (levels : ℕ) (ident : List ℕ) (part : OtherPart) → IsMacroAt library ident part
+      → ((other : List ℕ) → StandsIn (named_in part.content) (macro_key other) → AreEnough levels other) → AreEnough (suc levels) ident
+  held_enough levels ident part held more w zero a = absurd a
+  held_enough levels ident part held more w (suc any) a = (admits_content library counts levels ident part held w).1
+      (monotone library counts (MacroAdmits any library counts) (MacroAdmits levels library counts) part.content (λ other s v. more other s v any) w
+      ((admits_content library counts any ident part held w).0 a))
+
+  -- as many as the library holds components are enough for each
+  pub levels_enough : (ident : List ℕ) → AreEnough (length library.parts) ident
+  levels_enough = by_levels library none AreEnough (λ levels ident lacks w any a. absurd (unheld_admits library counts any ident w lacks a)) held_enough
+
 module _ (library : Library) (start : List (List ℕ)) (g : Grammar) (is : IsGrammarOf library start g) (f : IsFormedLibrary library) (none : BreaksNone library) (counts : Marking Label)
     (marks : Marking (List ℕ)) (Q : Node → Type 0) (kept : AreLeavesKept library is.conditions is.members g counts marks Q) where
   -- the law holds of each macro
   pub macro_kept : (ident : List ℕ) → IsKeptBy library start g is f none counts marks Q (IsOfMacro library counts) ident
-  macro_kept = by_levels library none (IsKept library start g is f none counts marks Q) (unheld_kept library start g is f none counts marks Q)
-      (held_kept library start g is f none counts marks Q kept)
+  macro_kept ident w q =
+      let levels = by_levels library none (IsKept library start g is f none counts marks Q) (unheld_kept library start g is f none counts marks Q)
+      (held_kept library start g is f none counts marks Q kept) ident w q in
+      (λ a. levels.0 (levels_enough library none counts ident w a.0 a.1), λ m. (length library.parts, levels.1 m))

@@ -11,7 +11,7 @@ use Rattle.odd_text.specs.declared.key.Key.{Key}
 use Rattle.odd_text.specs.declared.offence.Offence.{Offence}
 use Rattle.odd_tree.specs.declared.tree.Tree.{Tree}
 use Rattle.odd_chain.proofs.Files.{of_chain, whole}
-use Rattle.odd_chain.proofs.Merged.{as_many, one_docs}
+use Rattle.odd_chain.proofs.Declared.{as_many, one_docs}
 use Rattle.odd_chain.specs.Base.{StandsFor, moved}
 use Rattle.odd_chain.specs.Files.{AreDeclared, ChainOffends, Gives, IsChainRefusal, more, none, of_doc, of_form}
 use Rattle.odd_chain.specs.Offences.{OffendsIn, of_item, of_library}

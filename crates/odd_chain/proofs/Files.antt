@@ -1,10 +1,10 @@
 -- The first offence of a chain, by what its files declare, and its one outcome.
-use Rattle.std.proofs.Common.{◌≡◌, ◌≤◌, ℕ, suc, Bool, List, [], ◌∷◌, ◌++◌, length, inl, inr, refl, sym, ap, subst, ◌∙◌, append_assoc, arith, length-append, append-nil, ◌<◌, ◌^◌}
+use Rattle.std.proofs.Common.{◌≡◌, ◌≤◌, ◌⊎◌, ⊎_elim, ℕ, suc, Bool, List, [], ◌∷◌, ◌++◌, length, inl, inr, refl, sym, ap, subst, ◌∙◌, append_assoc, arith, length-append, append-nil, ◌<◌}
 use Rattle.std.specs.declared.cmp.Ordering.{Ordering}
 use Rattle.std.specs.declared.cmp.Ordering.TheVariants.{Less, Equal, Greater}
 use Rattle.odd_decls.proofs.ReadWith.{declared_sound}
 use Rattle.odd_decls.specs.Declares.{Declares}
-use Rattle.odd_decls.specs.Offences.{HasOffence}
+use Rattle.odd_decls.specs.Offences.{HasOffence, IsRefusal}
 use Rattle.odd_text.proofs.SetOf.{turned}
 use Rattle.odd_library.proofs.OffenceOrder.{neither_after}
 use Rattle.odd_library.specs.declared.library.Library.{Library}
@@ -18,20 +18,11 @@ use Rattle.odd_text.specs.declared.key.Key.{Key}
 use Rattle.odd_text.specs.declared.offence.Offence.{Offence}
 use Rattle.odd_text.proofs.InList.{nothing_stands}
 use Rattle.odd_tree.specs.declared.tree.Tree.{Tree}
-use Rattle.odd_chain.proofs.Merged.{DeclareFirst, as_many, first_declared, no_more_declared, stands_after, number_within, one_docs}
+use Rattle.odd_chain.proofs.Declared.{DeclareFirst, as_many, first_declared, no_more_declared, one_docs, stands_after}
+use Rattle.odd_chain.proofs.MergedDocs.{HaveNone, last_or_before, none_or_last, number_within, offends_more}
 use Rattle.odd_chain.specs.Files.{AreDeclared, ChainOffends, Gives, IsChainRefusal, of_doc, of_form}
 use Rattle.odd_chain.specs.Offences.{OffendsIn, of_item, of_library}
 use Rattle.odd_chain.specs.Order.{ComesNotAfter, IsFirst, Position, form, IsNotLater, held, item, offence_at}
-use Rattle.odd_chain.specs.Reading.{IsBrokenAfter, HasFewDocs, IsChainOf}
-use Rattle.odd_chain.specs.declared.chain.Chain.{Chain}
-use Rattle.odd_chain.specs.declared.chain.Chain.TheVariants as chain
-
--- an offence of docs is one of these and more
-offends_more : (docs upto later : List OddDoc) (file : ℕ) (at : Position) → docs ≡ upto ++ later → OffendsIn upto file at → OffendsIn docs file at
-offends_more docs upto later _ _ e (of_item before doc after library parts is offends) =
-    of_item before doc (after ++ later) library (e ∙ ap (λ ds. ds ++ later) parts ∙ append_assoc before (doc ∷ after) later) is offends
-offends_more docs upto later _ _ e (of_library before doc after library parts is breaks) =
-    of_library before doc (after ++ later) library (e ∙ ap (λ ds. ds ++ later) parts ∙ append_assoc before (doc ∷ after) later) is breaks
 
 -- the docs up to one with an offence
 record UpTo (docs : List OddDoc) (file : ℕ) (at : Position) : Type 0 where
@@ -109,44 +100,81 @@ module _ {aside : Bool} where
           nothing_stands t (made.0, later, made.2)
       unoffended _ _ (of_doc {at} upto later others e declared h) = sound (length upto) at (of_docs trees docs (whole trees docs are) upto later others (length upto) at e declared h)
 
-  -- where a file has an offence of form, and those before it declare docs
-  abbrev pub broken : (trees : List Tree) (docs : List OddDoc) (o : Offence) → IsBrokenAfter aside trees docs o → DeclareFirst aside trees docs
-  broken trees docs o b = record {
-    files = b.earlier;
-    rest = b.tree ∷ b.later;
-    parts = b.parts;
-    declared = b.declared;
-    end = λ t later e doc d. (let same : t ≡ b.tree = cc in declared_sound b.tree aside doc (subst (λ x. Declares x aside doc) same d) b.refused.is_one.place o.rule b.refused.is_one.offends);
-  }
-
-  -- and none of these has an offence, its first one is that of the chain
-  pub form_refused : (trees : List Tree) (docs : List OddDoc) (o : Offence) → IsBrokenAfter aside trees docs o → ((file : ℕ) (at : Position) → OffendsIn docs file at → ⊥)
-      → IsChainRefusal aside trees o
-  form_refused trees docs o b sound = record {
+  -- where the last file has an offence of form, and those before it declare docs that have none, its first one is that of the chain
+  pub form_refused : (trees : List Tree) (t : Tree) (docs : List OddDoc) (file : ℕ) (o : Offence) → AreDeclared aside trees docs → HaveNone docs → file ≡ suc (length trees)
+      → IsRefusal t aside file o → IsChainRefusal aside (trees ++ t ∷ []) o
+  form_refused trees t docs file o are none number refused = record {
     at = at;
-    told = λ n. record { file = o.file; who = b.refused.is_one.placed n; rule = o.rule };
-    is_one = subst (λ n. ChainOffends aside trees n at) (sym b.refused.is_one.in_file) (of_form b.earlier b.tree b.later b.parts b.refused.is_one.offends);
+    told = λ n. record { file = o.file; who = refused.is_one.placed n; rule = o.rule };
+    is_one = subst (λ n. ChainOffends aside (trees ++ t ∷ []) n at) (sym (refused.is_one.in_file ∙ number)) (of_form trees t [] refl refused.is_one.offends);
     first = first;
   }
     where
       at : Position
-      at = form b.refused.is_one.place o.rule
+      at = form refused.is_one.place o.rule
 
-      -- another offence of form is of the same file, or of a later one
-      own_or_later : (before between later : List Tree) (t : Tree) (place rule : ℕ) → before ≡ b.earlier ++ between → b.tree ∷ b.later ≡ between ++ t ∷ later
-          → HasOffence t aside place rule → ComesNotAfter o.file at (suc (length before)) (form place rule)
-      own_or_later before [] later t place rule e is h =
-          let file : o.file ≡ suc (length before) = omega (arith, b.refused.is_one.in_file, ap length e, length-append {A = Tree}) in
-          let same : t ≡ b.tree = cc in
-          inr (file, b.refused.first place rule (subst (λ x. HasOffence x aside place rule) same h))
-      own_or_later before (u ∷ between) later t place rule e is h = inl (omega (arith, b.refused.is_one.in_file, ap length e, length-append {A = Tree}))
+      first_ones : DeclareFirst aside (trees ++ t ∷ []) docs
+      first_ones = record {
+        files = trees;
+        rest = t ∷ [];
+        parts = refl;
+        declared = are;
+        end = λ u later e doc d. (let same : u ≡ t = cc in declared_sound t aside doc (subst (λ x. Declares x aside doc) same d) refused.is_one.place o.rule refused.is_one.offends);
+      }
 
-      first : (other : ℕ) (others : Position) → ChainOffends aside trees other others → ComesNotAfter o.file at other others
-      first _ _ (of_form {place} {rule} before t later e h) =
-          let made = after_declared trees docs (broken trees docs o b) before later t place rule e h in
-          own_or_later before made.0 later t place rule made.1 made.2 h
+      -- another offence of form is of the same file
+      own : (before between later : List Tree) (u : Tree) (place rule : ℕ) → before ≡ trees ++ between → t ∷ [] ≡ between ++ u ∷ later → HasOffence u aside place rule
+          → ComesNotAfter o.file at (suc (length before)) (form place rule)
+      own before [] later u place rule e is h =
+          let number : o.file ≡ suc (length before) = omega (arith, refused.is_one.in_file, number, ap length e, length-append {A = Tree}) in
+          let same : u ≡ t = cc in
+          inr (number, refused.first place rule (subst (λ x. HasOffence x aside place rule) same h))
+      own before (v ∷ []) later u place rule e is h = absurd cc
+      own before (v ∷ w ∷ between) later u place rule e is h = absurd cc
+
+      first : (other : ℕ) (others : Position) → ChainOffends aside (trees ++ t ∷ []) other others → ComesNotAfter o.file at other others
+      first _ _ (of_form {place} {rule} before u later e h) =
+          let made = after_declared (trees ++ t ∷ []) docs first_ones before later u place rule e h in
+          own before made.0 later u place rule made.1 made.2 h
       first _ _ (of_doc {at} upto later others e declared h) =
-          absurd (sound (length upto) at (of_docs trees docs (broken trees docs o b) upto later others (length upto) at e declared h))
+          absurd (none (length upto) at (of_docs (trees ++ t ∷ []) docs first_ones upto later others (length upto) at e declared h))
+
+  -- an offence of files with one more is one of theirs, or that of a file behind them
+  theirs_or_behind : (trees : List Tree) (t : Tree) (file : ℕ) (at : Position) → ChainOffends aside (trees ++ t ∷ []) file at → ChainOffends aside trees file at ⊎ (length trees < file)
+  theirs_or_behind trees t _ _ (of_form earlier u later parts h) = ⊎_elim
+      (λ last. inr (omega (arith, ap length last.1)))
+      (λ more. inl (of_form earlier u more.0 more.1 h))
+      (last_or_before trees earlier later t u parts)
+  theirs_or_behind trees t _ _ (of_doc {at} upto later docs parts are o) = by (none_or_last later)
+    where
+      by : (later ≡ []) ⊎ ((before : List Tree) × (x : Tree) × (later ≡ before ++ x ∷ [])) → ChainOffends aside trees (length upto) at ⊎ (length trees < length upto)
+      by (inl none) =
+          let all : trees ++ t ∷ [] ≡ upto = parts ∙ ap (λ ts. upto ++ ts) none ∙ append-nil upto in
+          inr (omega (arith, ap length all, length-append trees (t ∷ [])))
+      by (inr last) =
+          let shown : trees ++ t ∷ [] ≡ (upto ++ last.0) ++ last.1 ∷ [] = parts ∙ ap (λ ts. upto ++ ts) last.2 ∙ sym (append_assoc upto last.0 (last.1 ∷ [])) in
+          ⊎_elim
+          (λ same. inl (of_doc upto last.0 docs same.1 are o))
+          (λ more. absurd (omega (arith, ap length more.2, length-append more.0 (t ∷ []))))
+          (last_or_before trees (upto ++ last.0) [] t last.1 shown)
+
+  -- the number of an offence is that of a file
+  number_of_file : (trees : List Tree) (file : ℕ) (at : Position) → ChainOffends aside trees file at → file ≤ length trees
+  number_of_file trees _ _ (of_form earlier u later parts h) = omega (arith, ap length parts, length-append earlier (u ∷ later))
+  number_of_file trees _ _ (of_doc upto later docs parts are o) = omega (arith, ap length parts, length-append upto later)
+
+  -- the first offence of files is that of these and one more
+  pub refused_more : (trees : List Tree) (t : Tree) (o : Offence) → IsChainRefusal aside trees o → IsChainRefusal aside (trees ++ t ∷ []) o
+  refused_more trees t o r = record {
+    at = r.at;
+    told = r.told;
+    is_one = stays o.file r.at r.is_one;
+    first = λ other others h. ⊎_elim (λ theirs. r.first other others theirs) (λ behind. inl (omega (arith, behind, number_of_file trees o.file r.at r.is_one))) (theirs_or_behind trees t other others h);
+  }
+    where
+      stays : (file : ℕ) (at : Position) → ChainOffends aside trees file at → ChainOffends aside (trees ++ t ∷ []) file at
+      stays _ _ (of_form earlier u later parts h) = of_form earlier u (later ++ t ∷ []) (ap (λ ts. ts ++ t ∷ []) parts ∙ append_assoc earlier (u ∷ later) (t ∷ [])) h
+      stays _ _ (of_doc upto later docs parts are h) = of_doc upto (later ++ t ∷ []) docs (ap (λ ts. ts ++ t ∷ []) parts ∙ append_assoc upto later (t ∷ [])) are h
 
 -- where neither of two keys with a rule comes after the other, they are one
 neither_behind : (r s : ℕ) (k l : Key) → IsNotBehind r k s l → IsNotBehind s l r k → (r ≡ s) × (k ≡ l)
@@ -191,8 +219,3 @@ module _ {aside : Bool} where
   -- which it does not where it is refused
   pub refused_gives_none : (trees : List Tree) (o : Offence) (l : Library) → IsChainRefusal aside trees o → Gives aside trees l → ⊥
   refused_gives_none trees o l r g = g.unoffended o.file r.at r.is_one
-
--- there are no more docs than files
-pub few_docs : (aside : Bool) (chain : Chain) (trees : List Tree) → IsChainOf aside chain trees → length trees < 2 ^ 32 → HasFewDocs chain
-few_docs aside (chain.Whole docs) trees are few = omega (arith, as_many trees docs are)
-few_docs aside (chain.Broken docs offence) trees after few = omega (arith, as_many after.earlier docs after.declared, ap length after.parts, length-append {A = Tree})

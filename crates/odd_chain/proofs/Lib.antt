@@ -1,7 +1,9 @@
 pub mod Asides
 pub mod Based
+pub mod Chained
+pub mod Declared
 pub mod Files
-pub mod Merged
+pub mod MergedDocs
 pub mod NothingBroken
 pub mod Spelling
 pub mod WithAside

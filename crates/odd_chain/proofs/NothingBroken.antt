@@ -1,5 +1,5 @@
 -- A library that holds nothing breaks no rule.
-use Rattle.std.proofs.Common.{◌≡◌, ℕ, List, [], Some, sym, ap, ◌∙◌}
+use Rattle.std.proofs.Common.{◌≡◌, ℕ, List, None, Some, sym, ◌∙◌}
 use Rattle.std.specs.FinMap.{find}
 use Rattle.odd_attributes.specs.declared.att_def.AttDef.{AttDef}
 use Rattle.odd_graph.specs.Graph.{Chained}
@@ -12,10 +12,10 @@ use Rattle.odd_meaning.specs.Rules.{Breaks, contradicts, datatype_not_held, data
 use Rattle.odd_text.specs.Key.{key_cmp}
 use Rattle.odd_text.specs.declared.key.Key.{Key}
 
-module _ (library : Library) (empty : library.parts ≡ []) where
+module _ (library : Library) (empty : (key : Key) → find key_cmp key library.parts ≡ None) where
   -- it holds nothing at a key
   not_held : (key : Key) (part : Component) → find key_cmp key library.parts ≡ Some part → ⊥
-  not_held key part held = let none = sym held ∙ ap (find key_cmp key) empty in cc
+  not_held key part held = let none = sym held ∙ empty key in cc
 
   -- nothing leads on
   not_linked : (keys_of : Component → List Key) (key other : Key) → Chained (IsLinked keys_of library) key other → ⊥

@@ -1,40 +1,49 @@
 -- What is kept of the files of a chain that are read so far.
-use Rattle.std.specs.Prelude.{◌≡◌, ◌<◌, ◌^◌, ℕ, suc, Bool, List, ◌∷◌, ◌++◌, length, All}
+use Rattle.std.specs.Prelude.{◌≡◌, ℕ, Bool, List, length, min}
+use Rattle.odd_text.specs.Count.{last_count}
 use Rattle.odd_text.specs.declared.key.Key.{Key}
 use Rattle.odd_text.specs.declared.offence.Offence.{Offence}
 use Rattle.odd_text.specs.declared.offence.Who.TheVariants as who
 use Rattle.odd_tree.specs.declared.tree.Tree.{Tree}
-use Rattle.odd_decls.specs.Offences.{IsRefusal}
-use Rattle.odd_library.specs.Formed.{IsFormedDoc}
+use Rattle.odd_library.specs.Formed.{IsFormedLibrary}
 use Rattle.odd_library.specs.declared.library.Library.{Library}
 use Rattle.odd_library.specs.declared.odd.OddDoc.{OddDoc}
 use Rattle.odd_meaning.specs.Rules.{Breaks, IsFirstBreak}
-use Rattle.odd_chain.specs.Files.{AreDeclared}
+use Rattle.odd_modes.specs.After.{IsLibraryAfter}
+use Rattle.odd_chain.specs.Files.{AreDeclared, IsChainRefusal, all_asides}
+use Rattle.odd_chain.specs.Offences.{OffendsIn}
+use Rattle.odd_chain.specs.Order.{Position, form, held, item}
 use Rattle.odd_chain.specs.declared.chain.Chain.{Chain}
 use Rattle.odd_chain.specs.declared.chain.Chain.TheVariants as chain
+use Rattle.odd_chain.specs.declared.chain.Merged.{Merged}
 
--- the files before the first with an offence of form declare the docs, and this is its first
-pub record IsBrokenAfter (aside : Bool) (trees : List Tree) (docs : List OddDoc) (offence : Offence) : Type 0 where
-  pub earlier : List Tree
-  pub tree : Tree
-  pub later : List Tree
-  pub parts : trees ≡ earlier ++ tree ∷ later
-  pub declared : AreDeclared aside earlier docs
-  pub refused : IsRefusal tree aside (suc (length earlier)) offence
+-- of so many docs it is one of the library after the last
+abbrev pub IsOfLast : ℕ → ℕ → Position → Type 0
+IsOfLast count file (form place rule) = ⊥
+IsOfLast count file (item place rule) = ⊥
+IsOfLast count file (held key rule) = file ≡ count
+
+-- the library is that after docs, and these have no offence but of it
+pub record IsMerged (docs : List OddDoc) (library : Library) : Type 0 where
+  pub after : IsLibraryAfter docs library
+  pub of_last : (file : ℕ) (at : Position) → OffendsIn docs file at → IsOfLast (length docs) file at
+
+-- the same of the docs that files declare, of which there are so many, with so many constraints taken out
+pub record AreMerged (aside : Bool) (trees : List Tree) (made : Merged) : Type 0 where
+  pub docs : List OddDoc
+  pub declared : AreDeclared aside trees docs
+  pub merged : IsMerged docs made.library
+  pub numbered : made.files ≡ length trees
+  pub counted : made.asides ≡ min (all_asides docs) last_count
 
 abbrev pub IsChainOf : Bool → Chain → List Tree → Type 0
-IsChainOf aside (chain.Whole docs) trees = AreDeclared aside trees docs
-IsChainOf aside (chain.Broken docs offence) trees = IsBrokenAfter aside trees docs offence
+IsChainOf aside (chain.Whole made) trees = AreMerged aside trees made
+IsChainOf aside (chain.Broken offence) trees = IsChainRefusal aside trees offence
 
--- each doc of a chain without an offence of form is formed
-abbrev pub AreFormedDocs : Chain → Type 0
-AreFormedDocs (chain.Whole docs) = All IsFormedDoc docs
-AreFormedDocs (chain.Broken docs offence) = Unit {0}
-
--- the docs of a chain, fewer than a file's number can tell
-abbrev pub HasFewDocs : Chain → Type 0
-HasFewDocs (chain.Whole docs) = length docs < 2 ^ 32
-HasFewDocs (chain.Broken docs offence) = length docs < 2 ^ 32
+-- what is kept is formed
+abbrev pub IsFormedChain : Chain → Type 0
+IsFormedChain (chain.Whole made) = IsFormedLibrary made.library
+IsFormedChain (chain.Broken offence) = Unit {0}
 
 -- the first offence of the library after a file
 pub record IsFirstOfLibrary (library : Library) (file : ℕ) (offence : Offence) : Type 0 where

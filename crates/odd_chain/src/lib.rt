@@ -6,6 +6,6 @@ mod chain;
 mod merging;
 mod printing;
 
-pub use chain::{Chain, ChainRefusal};
+pub use chain::{Chain, Merged};
 pub use merging::{OddDocs, merge};
 pub use printing::print_odd;

@@ -8,7 +8,7 @@ ghost use Rattle.odd_chain.specs.Offences.{OffendsIn};
 ghost use Rattle.odd_chain.specs.Order.{IsFirst, Position};
 ghost use Rattle.odd_chain.specs.Reading.{IsFirstOfLibrary};
 
-use odd_classes::{LibraryRefusal, check_library};
+use odd_classes::{Checked, LibraryRefusal, check};
 use odd_library::{Library, OddDoc, OddRefusal};
 use odd_modes::step_into;
 use odd_text::{Offence, Seq, Who};
@@ -32,20 +32,27 @@ pub fn merge(alloc: Global, docs: &OddDocs) -> Result<Library, OddRefusal>
     let mut library = Library::empty(alloc)?;
     let mut file = 0u32;
     for doc in docs.as_slice() {
+        checked_after(alloc, &library, file)?;
         file += 1;
         library = step_into(alloc, library, doc, file)?;
-        check(alloc, &library, file)?;
     }
+    checked_after(alloc, &library, file)?;
     Ok(library)
 }
 
-// Whether the library after a doc breaks a rule.
-fn check(alloc: Global, library: &Library, file: u32) -> Result<(), OddRefusal>
+/// The library after so many docs, with what was found when it was checked. Offence is answered for the first rule that it breaks.
+/// NoMemory is answered for want of memory.
+pub fn checked_after<'a>(
+    alloc: Global,
+    library: &'a Library,
+    file: u32,
+) -> Result<Checked<'a>, OddRefusal>
+    ensures same { IfOk result (λ checked. checked ≡ library.now) }
     ensures sound { IsOk result → (key : AKey) (rule : ℕ) → Breaks library.now key rule → ⊥ }
     ensures offence { (offence : AnOffence) → result ≡ Err (OddRefusal.Offence offence) → IsFirstOfLibrary library.now file offence }
 {
-    match check_library(alloc, library) {
-        Ok(()) => Ok(()),
+    match check(alloc, library) {
+        Ok(checked) => Ok(checked),
         Err(LibraryRefusal::Rule { key, rule }) => {
             let who = Who::Part(key);
             Err(OddRefusal::Offence(Offence { file, who, rule }))

@@ -1,7 +1,7 @@
--- What is answered of an element, and the first elements that break a rule.
+-- What is answered of each element, and the first that breaks a rule.
 use Rattle.std.proofs.Common.{◌≡◌, ◌≢◌, ◌≤◌, ◌⊎◌, ◌↔◌, inl, inr, ⊎_elim, ℕ, Bool, List, Option, Some, None, get_or, refl, sym, ap, subst, arith, ◌∙◌}
 use Rattle.std.proofs.lemmas.Bool.{cases_lt}
-use Rattle.std.proofs.lemmas.Option.{same_Some}
+use Rattle.std.proofs.lemmas.Option.{get_or_from_slice_get, same_Some}
 use Rattle.std.specs.Cmp.{tied_itself}
 use Rattle.std.specs.FinMap.{find, is_sorted}
 use Rattle.std.specs.Prelude.{IsTrue}
@@ -10,7 +10,8 @@ use Rattle.odd_library.specs.Odd.{element_key}
 use Rattle.odd_library.specs.declared.library.Component.{Component}
 use Rattle.odd_library.specs.declared.library.Library.{Library}
 use Rattle.odd_meaning.specs.Offering.{Clashes, edits_of}
-use Rattle.odd_meaning.specs.Rules.{BreaksWithin, Contradicts, BreaksOffering, IsFirstBreak, IsLeastOffering, IsNotBehind, SharesName, has_clash, has_one_name, reaches_loop, contradicts, datatype_not_held, datatype_reaches_itself, macro_not_held, mixes_data, of_attributes, own_member, reaches_itself, shares_name}
+use Rattle.odd_meaning.specs.Links.{class_key}
+use Rattle.odd_meaning.specs.Rules.{Breaks, BreaksWithin, Contradicts, BreaksOffering, IsFirstBreak, IsLeastOffering, IsNotBehind, SharesName, has_clash, has_one_name, reaches_loop, contradicts, datatype_not_held, datatype_reaches_itself, macro_not_held, mixes_data, of_attributes, own_member, reaches_itself, shares_name}
 use Rattle.odd_offers.proofs.TableOf.{offers_held}
 use Rattle.odd_offers.specs.Tables.{ClashesBy, IsInherited, Table}
 use Rattle.odd_text.specs.Key.{key_cmp}
@@ -19,11 +20,10 @@ use Rattle.odd_text.specs.declared.key.Key.{Key}
 use Rattle.odd_classes.proofs.Linked.{held}
 use Rattle.odd_classes.proofs.Places.{entry_held, held_at, places_rise}
 use Rattle.odd_classes.proofs.Scanning.{entry_got, one_entry}
-use Rattle.odd_classes.specs.Inheriting.{IsElementAt}
-use Rattle.odd_classes.specs.Offered.{Finds, IsAsked, IsEarlier, IsFirstPlace, IsRight, IsRightRule, ReachesLoop, IsSuchAt, OnlySharesName}
+use Rattle.odd_classes.specs.Offered.{AreAnswers, HasAnswer, IsAnswer, IsFirstBreaking, IsRight, IsRightRule, ReachesLoop}
 use Rattle.odd_classes.specs.Placing.{IsEntryAt, IsPlaceOf}
-use Rattle.odd_classes.specs.declared.offering.Asked.{Asked}
-use Rattle.odd_classes.specs.declared.offering.Found.{Found}
+use Rattle.odd_classes.specs.declared.answers.Answer.{Answer}
+use Rattle.odd_classes.specs.declared.answers.Answer.TheVariants as answer
 
 module _ (library : Library) (element : List ℕ) (part : Component) (inherited : Table) (held : find key_cmp (element_key element) library.parts ≡ Some part) (all : IsInherited library part inherited) where
   -- whether what is inherited clashes tells whether the element contradicts itself
@@ -34,70 +34,10 @@ module _ (library : Library) (element : List ℕ) (part : Component) (inherited 
         λ c. told.1 (c.ident, subst (λ (p : Component). Clashes library p c.ident) (same_Some c.part part (sym c.held ∙ held)) c.clashes),
       )
 
--- the earlier of two places
-least_place : (Passed Is : ℕ → Type 0) (found : Option ℕ) (place : ℕ) (made : Option ℕ) → IsFirstPlace Passed Is found → Is place → IsEarlier found place made
-    → IsFirstPlace (λ p. Passed p ⊎ (place ≡ p)) Is made
-least_place Passed Is found place made first is (inl h) = subst (IsFirstPlace (λ p. Passed p ⊎ (place ≡ p)) Is) (sym h.0) (is, λ p passed such. ⊎_elim (λ earlier. before found first h.1 p earlier such) (λ same. omega (arith, same)) passed)
-  where
-    before : (f : Option ℕ) → IsFirstPlace Passed Is f → ((n : ℕ) → f ≡ Some n → place ≤ n) → (p : ℕ) → Passed p → Is p → place ≤ p
-    before None none below p passed such = absurd (none p passed such)
-    before (Some n) some below p passed such = let le = below n refl in let more = some.1 p passed such in omega (arith, le, more)
-least_place Passed Is found place made first is (inr h) =
-    let was : IsFirstPlace Passed Is (Some h.0) = subst (IsFirstPlace Passed Is) h.1 first in
-    subst (IsFirstPlace (λ p. Passed p ⊎ (place ≡ p)) Is) (sym h.2) (was.0, λ p passed such. ⊎_elim (λ earlier. was.1 p earlier such) (λ same. omega (arith, same, h.3)) passed)
-
--- a place that is not such changes nothing
-same_place : (Passed Is : ℕ → Type 0) (found : Option ℕ) (place : ℕ) → IsFirstPlace Passed Is found → (Is place → ⊥) → IsFirstPlace (λ p. Passed p ⊎ (place ≡ p)) Is found
-same_place Passed Is None place first not = λ p passed such. ⊎_elim (λ h. first p h such) (λ same. not (subst Is (sym same) such)) passed
-same_place Passed Is (Some found) place first not = (first.0, λ p passed such. ⊎_elim (λ h. first.1 p h such) (λ same. absurd (not (subst Is (sym same) such))) passed)
-
--- of other places the same
-pub places_agree : (Passed Others Is : ℕ → Type 0) (found : Option ℕ) → ((p : ℕ) → Others p → Is p → Passed p) → IsFirstPlace Passed Is found → IsFirstPlace Others Is found
-places_agree Passed Others Is None to first = λ p passed such. first p (to p passed such) such
-places_agree Passed Others Is (Some found) to first = (first.0, λ p passed such. first.1 p (to p passed such) such)
-
--- the first places among others are those among these, where each that is such is one of them
-pub finds_agree : (library : Library) (Passed Others : ℕ → Type 0) (found : Found) → ((p : ℕ) (element : List ℕ) → IsPlaceOf library.parts p (element_key element) → Others p → Passed p)
-    → Finds library Passed found → Finds library Others found
-finds_agree library Passed Others found to finds = record {
-  contradicts = places_agree Passed Others (IsSuchAt library (Contradicts library)) found.contradicts (λ p others such. to p such.0 such.1 others) finds.contradicts;
-  shares_name = places_agree Passed Others (IsSuchAt library (OnlySharesName library)) found.shares_name (λ p others such. to p such.0 such.1 others) finds.shares_name;
-}
-
 module _ (library : Library) where
   -- at one place stands one element
   pub one_element : (place : ℕ) (one other : List ℕ) → IsPlaceOf library.parts place (element_key one) → IsPlaceOf library.parts place (element_key other) → one ≡ other
   one_element place one other a b = ap (λ (k : Key). k.ident) (one_entry library.parts place (element_key one) (element_key other) a.0 b.0 a.1 b.1).0
-
-  module _ (Passed : ℕ → Type 0) (found : Found) (finds : Finds library Passed found) (place : ℕ) (element : List ℕ) (here : IsPlaceOf library.parts place (element_key element)) where
-    such : (Is : List ℕ → Type 0) → Is element → IsSuchAt library Is place
-    such Is is = (element, here, is)
-
-    not_such : (Is : List ℕ → Type 0) → (Is element → ⊥) → IsSuchAt library Is place → ⊥
-    not_such Is not s = not (subst Is (one_element place s.0 element s.1 here) s.2)
-
-    -- an element that contradicts itself is found
-    pub found_contradicting : (made : Option ℕ) → IsEarlier found.contradicts place made → Contradicts library element
-        → Finds library (λ p. Passed p ⊎ (place ≡ p)) (record { contradicts = made; shares_name = found.shares_name })
-    found_contradicting made earlier is = record {
-      contradicts = least_place Passed (IsSuchAt library (Contradicts library)) found.contradicts place made finds.contradicts (such (Contradicts library) is) earlier;
-      shares_name = same_place Passed (IsSuchAt library (OnlySharesName library)) found.shares_name place finds.shares_name (not_such (OnlySharesName library) (λ o. o.0 is));
-    }
-
-    -- and so is one of which two attributes have one name
-    pub found_sharing : (made : Option ℕ) → IsEarlier found.shares_name place made → OnlySharesName library element
-        → Finds library (λ p. Passed p ⊎ (place ≡ p)) (record { contradicts = found.contradicts; shares_name = made })
-    found_sharing made earlier is = record {
-      contradicts = same_place Passed (IsSuchAt library (Contradicts library)) found.contradicts place finds.contradicts (not_such (Contradicts library) is.0);
-      shares_name = least_place Passed (IsSuchAt library (OnlySharesName library)) found.shares_name place made finds.shares_name (such (OnlySharesName library) is) earlier;
-    }
-
-    -- one that breaks neither rule is not
-    pub found_none : (Contradicts library element → ⊥) → (SharesName library element → ⊥) → Finds library (λ p. Passed p ⊎ (place ≡ p)) found
-    found_none agrees apart = record {
-      contradicts = same_place Passed (IsSuchAt library (Contradicts library)) found.contradicts place finds.contradicts (not_such (Contradicts library) agrees);
-      shares_name = same_place Passed (IsSuchAt library (OnlySharesName library)) found.shares_name place finds.shares_name (not_such (OnlySharesName library) (λ o. apart o.1));
-    }
 
   -- who breaks one of the two rules
   data ByOffer : Key → ℕ → Type 0 where
@@ -125,9 +65,6 @@ module _ (library : Library) where
       let there = held_at library.parts (element_key element) found.0 found.1 in
       (there.0, (found.0, there.1))
 
-  element_at : (place : ℕ) (element : List ℕ) → IsPlaceOf library.parts place (element_key element) → IsElementAt library place
-  element_at place element p = (element, p.0, p.1)
-
   module _ (up : IsTrue (is_sorted key_cmp library.parts)) where
     -- of two places the keys stand in the same order
     keys_follow : (place other : ℕ) (one two : Key) → place ≤ other → IsPlaceOf library.parts place one → IsPlaceOf library.parts other two → key_cmp one two ≢ Greater
@@ -142,55 +79,107 @@ module _ (library : Library) where
               cc
         ]
 
-    -- the first that contradicts itself is the first offence
-    pub first_contradicting : (first : ℕ) → IsFirstPlace (IsElementAt library) (IsSuchAt library (Contradicts library)) (Some first) → (key : Key) → IsPlaceOf library.parts first key
-        → IsFirstBreak (BreaksWithin 15 16 library) key 15
-    first_contradicting first is key here =
-        let same : element_key is.0.0 ≡ key = (one_entry library.parts first (element_key is.0.0) key is.0.1.0 here.0 is.0.1.1 here.1).0 in
-        subst (λ k. IsFirstBreak (BreaksWithin 15 16 library) k 15) same (record {
-          is_one = (contradicts is.0.0 is.0.2, omega arith, omega arith);
-          first = λ other rule breaks. elim (sort other rule breaks) as (λ k r o. IsNotBehind 15 (element_key is.0.0) r k) [
-            | contradicting element c ↦
-                let there = contradicting_at element c in
-                inr (refl, keys_follow first there.0 (element_key is.0.0) (element_key element) (is.1 there.0 (element_at there.0 element there.1) (element, there.1, c)) is.0.1 there.1)
-            | sharing element s ↦ inl (omega arith)
-          ];
-        })
+  module _ (answers : List (Option Answer)) (are : AreAnswers library answers) where
+    -- of whom it is answered that it contradicts itself does
+    contradicts_at : (place : ℕ) → HasAnswer answers place (answer.Breaks 15) → (element : List ℕ) × IsPlaceOf library.parts place (element_key element) × Contradicts library element
+    contradicts_at place has =
+        let right = are.right place (answer.Breaks 15) has in
+        (right.0, right.1, ⊎_elim (λ is. is.1) (λ is. let no = is.0 in absurd (omega (arith, no))) right.2)
 
-    module _ (agrees : (element : List ℕ) → Contradicts library element → ⊥) where
-      -- where none does, the first that shares a name is
-      pub first_sharing : (first : ℕ) → IsFirstPlace (IsElementAt library) (IsSuchAt library (OnlySharesName library)) (Some first) → (key : Key) → IsPlaceOf library.parts first key
-          → IsFirstBreak (BreaksWithin 15 16 library) key 16
-      first_sharing first is key here =
-          let same : element_key is.0.0 ≡ key = (one_entry library.parts first (element_key is.0.0) key is.0.1.0 here.0 is.0.1.1 here.1).0 in
-          subst (λ k. IsFirstBreak (BreaksWithin 15 16 library) k 16) same (record {
-            is_one = (shares_name is.0.0 is.0.2.1, omega arith, omega arith);
-            first = λ other rule breaks. elim (sort other rule breaks) as (λ k r o. IsNotBehind 16 (element_key is.0.0) r k) [
-              | contradicting element c ↦ absurd (agrees element c)
-              | sharing element s ↦
-                  let there = sharing_at element s in
-                  inr (refl, keys_follow first there.0 (element_key is.0.0) (element_key element) (is.1 there.0 (element_at there.0 element there.1) (element, there.1, (agrees element, s))) is.0.1 there.1)
-            ];
-          })
+    shares_at : (place : ℕ) → HasAnswer answers place (answer.Breaks 16) → (element : List ℕ) × IsPlaceOf library.parts place (element_key element) × SharesName library element
+    shares_at place has =
+        let right = are.right place (answer.Breaks 16) has in
+        (right.0, right.1, ⊎_elim (λ is. let no = is.0 in absurd (omega (arith, no))) (λ is. is.2) right.2)
 
-      -- and where none does either, there is none
-      pub none_offends : IsFirstPlace (IsElementAt library) (IsSuchAt library (OnlySharesName library)) None → (key : Key) (rule : ℕ) → BreaksWithin 15 16 library key rule → ⊥
-      none_offends none key rule breaks = elim (sort key rule breaks) as (λ k r o. ⊥) [
-        | contradicting element c ↦ agrees element c
-        | sharing element s ↦ let there = sharing_at element s in none there.0 (element_at there.0 element there.1) (element, there.1, (agrees element, s))
-      ]
+    -- what is taken at the place of an element that reaches no class which is a member of itself is right of it
+    pub answer_taken : (place : ℕ) (element : List ℕ) → IsPlaceOf library.parts place (element_key element) → (ReachesLoop library (element_key element) → ⊥) → (taken d : Option Answer)
+        → taken ≡ get_or answers place d → (made : Answer) × (taken ≡ Some made) × IsRight library element made
+    answer_taken place element here none taken d is =
+        let made = are.each place element here none in
+        let right = are.right place made.0 made.1 in
+        (made.0, is ∙ get_or_from_slice_get answers place (Some made.0) d made.1, subst (λ e. IsRight library e made.0) (one_element place right.0 element right.1 here) right.2)
 
-    -- where no place is found, none contradicts itself
-    pub none_contradicts : IsFirstPlace (IsElementAt library) (IsSuchAt library (Contradicts library)) None → (element : List ℕ) → Contradicts library element → ⊥
-    none_contradicts none element c = let there = contradicting_at element c in none there.0 (element_at there.0 element there.1) (element, there.1, c)
+    module _ (unlooped : (key : Key) → Breaks library key 13 → ⊥) where
+      -- each element has an answer
+      pub answered : (place : ℕ) (element : List ℕ) → IsPlaceOf library.parts place (element_key element) → (made : Answer) × HasAnswer answers place made × IsRight library element made
+      answered place element here =
+          let made = are.each place element here (λ r. unlooped (class_key r.0) (own_member r.0 r.2)) in
+          let right = are.right place made.0 made.1 in
+          (made.0, made.1, subst (λ e. IsRight library e made.0) (one_element place right.0 element right.1 here) right.2)
+
+      -- and the one that contradicts itself this
+      has_contradicting : (element : List ℕ) → Contradicts library element → (place : ℕ) × IsPlaceOf library.parts place (element_key element) × HasAnswer answers place (answer.Breaks 15)
+      has_contradicting element c =
+          let there = contradicting_at element c in
+          let made = answered there.0 element there.1 in
+          (there.0, there.1, by there.0 made.0 made.1 made.2)
+        where
+          by : (place : ℕ) (made : Answer) → HasAnswer answers place made → IsRight library element made → HasAnswer answers place (answer.Breaks 15)
+          by place (answer.Offers givens) has right = absurd (right.0 c)
+          by place (answer.Breaks rule) has right = ⊎_elim (λ is. subst (λ r. HasAnswer answers place (answer.Breaks r)) is.0 has) (λ is. absurd (is.1 c)) right
+
+      has_sharing : (element : List ℕ) → (Contradicts library element → ⊥) → SharesName library element → (place : ℕ) × IsPlaceOf library.parts place (element_key element) × HasAnswer answers place (answer.Breaks 16)
+      has_sharing element agrees s =
+          let there = sharing_at element s in
+          let made = answered there.0 element there.1 in
+          (there.0, there.1, by there.0 made.0 made.1 made.2)
+        where
+          by : (place : ℕ) (made : Answer) → HasAnswer answers place made → IsRight library element made → HasAnswer answers place (answer.Breaks 16)
+          by place (answer.Offers givens) has right = absurd (right.1 s)
+          by place (answer.Breaks rule) has right = ⊎_elim (λ is. absurd (agrees is.1)) (λ is. subst (λ r. HasAnswer answers place (answer.Breaks r)) is.0 has) right
+
+      -- where no place is found, none contradicts itself
+      pub none_contradicts : IsFirstBreaking answers 15 None → (element : List ℕ) → Contradicts library element → ⊥
+      none_contradicts none element c = let there = has_contradicting element c in none there.0 there.2
+
+      module _ (agrees : (element : List ℕ) → Contradicts library element → ⊥) where
+        -- where no place is found for the other rule either, there is no offence
+        pub none_shares : IsFirstBreaking answers 16 None → (element : List ℕ) → SharesName library element → ⊥
+        none_shares none element s = let there = has_sharing element (agrees element) s in none there.0 there.2
+
+        pub none_offends : IsFirstBreaking answers 16 None → (key : Key) (rule : ℕ) → BreaksWithin 15 16 library key rule → ⊥
+        none_offends none key rule breaks = elim (sort key rule breaks) as (λ k r o. ⊥) [
+          | contradicting element c ↦ agrees element c
+          | sharing element s ↦ none_shares none element s
+        ]
+
+      module _ (up : IsTrue (is_sorted key_cmp library.parts)) where
+        -- the first that contradicts itself is the first offence
+        pub first_contradicting : (first : ℕ) → IsFirstBreaking answers 15 (Some first) → (key : Key) → IsPlaceOf library.parts first key → IsFirstBreak (BreaksWithin 15 16 library) key 15
+        first_contradicting first is key here =
+            let at = contradicts_at first is.0 in
+            let same : element_key at.0 ≡ key = (one_entry library.parts first (element_key at.0) key at.1.0 here.0 at.1.1 here.1).0 in
+            subst (λ k. IsFirstBreak (BreaksWithin 15 16 library) k 15) same (record {
+              is_one = (contradicts at.0 at.2, omega arith, omega arith);
+              first = λ other rule breaks. elim (sort other rule breaks) as (λ k r o. IsNotBehind 15 (element_key at.0) r k) [
+                | contradicting element c ↦ let there = has_contradicting element c in inr (refl, keys_follow up first there.0 (element_key at.0) (element_key element) (is.1 there.0 there.2) at.1 there.1)
+                | sharing element s ↦ inl (omega arith)
+              ];
+            })
+
+        -- where none does, the first that shares a name is
+        pub first_sharing : ((element : List ℕ) → Contradicts library element → ⊥) → (first : ℕ) → IsFirstBreaking answers 16 (Some first) → (key : Key) → IsPlaceOf library.parts first key
+            → IsFirstBreak (BreaksWithin 15 16 library) key 16
+        first_sharing agrees first is key here =
+            let at = shares_at first is.0 in
+            let same : element_key at.0 ≡ key = (one_entry library.parts first (element_key at.0) key at.1.0 here.0 at.1.1 here.1).0 in
+            subst (λ k. IsFirstBreak (BreaksWithin 15 16 library) k 16) same (record {
+              is_one = (shares_name at.0 at.2, omega arith, omega arith);
+              first = λ other rule breaks. elim (sort other rule breaks) as (λ k r o. IsNotBehind 16 (element_key at.0) r k) [
+                | contradicting element c ↦ absurd (agrees element c)
+                | sharing element s ↦
+                    let there = has_sharing element (agrees element) s in
+                    inr (refl, keys_follow up first there.0 (element_key at.0) (element_key element) (is.1 there.0 there.2) at.1 there.1)
+              ];
+            })
 
 -- what is asked of the component that is read at a place is asked of the entry there, and answered right
-pub right_at : (library : Library) (es : List (Key × Component)) (place : ℕ) (ident : List ℕ) (part : Component) (table : Table) (answer : Asked) (d : Key × Component) → IsTrue (is_sorted key_cmp library.parts) → es ≡ library.parts
-    → IsEntryAt library.parts place (element_key ident) part → IsInherited library part table → IsAsked (get_or es place d).1 table answer → IsRight library ident answer
-right_at library es place ident part table answer d up same entry all asked =
+pub right_at : (library : Library) (es : List (Key × Component)) (place : ℕ) (ident : List ℕ) (part : Component) (table : Table) (made : Answer) (d : Key × Component) → IsTrue (is_sorted key_cmp library.parts) → es ≡ library.parts
+    → IsEntryAt library.parts place (element_key ident) part → IsInherited library part table → IsAnswer (get_or es place d).1 table made → IsRight library ident made
+right_at library es place ident part table made d up same entry all of =
     let held = entry_held library.parts up place (element_key ident) part entry in
     let read : get_or es place d ≡ (element_key ident, part) = ap (λ xs. get_or xs place d) same ∙ entry_got library.parts place (element_key ident) part d entry in
-    subst (λ (e : Key × Component). IsAsked e.1 table answer) read asked library ident held all
+    subst (λ (e : Key × Component). IsAnswer e.1 table made) read of library ident held all
 
 module _ (library : Library) (element : List ℕ) where
   -- where it reaches no loop and breaks neither of the two rules, it breaks none on what it offers

@@ -46,6 +46,13 @@ module _ (library : Library) where
           pub before_data : NoneWithin 17 17 → NoneBefore 18
           before_data no_class = none_so_far 17 17 before_classes no_class
 
+          -- and where none of them found any, none is
+          pub none_at_all : NoneWithin 17 17 → NoneWithin 18 18 → (key : Key) (rule : ℕ) → Breaks library key rule → ⊥
+          none_at_all no_class no_data key rule breaks = none_so_far 18 18 (before_data no_class) no_data key rule breaks (last breaks)
+            where
+              last : {rule : ℕ} → Breaks library key rule → rule < 19
+              last breaks = grind arith
+
   -- the first of these rules is the first of all
   pub first_of_all : (low high : ℕ) → NoneBefore low → (key : Key) (rule : ℕ) → IsFirstBreak (BreaksWithin low high library) key rule → IsFirstBreak (Breaks library) key rule
   first_of_all low high before key rule is = record {

@@ -1,20 +1,22 @@
 -- What is given at each ident, as a list of what is made of it, as of offers.
-use Rattle.std.proofs.Common.{◌≡◌, ℕ, List, [], ◌∷◌, ◌++◌, Some, T, map, refl, sym, ap, subst, ◌∙◌}
+use Rattle.std.proofs.Common.{◌≡◌, ℕ, List, [], ◌∷◌, ◌++◌, None, Some, T, map, refl, sym, ap, subst, ◌∙◌}
 use Rattle.std.proofs.lemmas.Cmp.{nat_list_cmp_total}
 use Rattle.std.specs.FinMap.{find, is_sorted, slice_cmp-IsAntisymmetric, nat_cmp-IsAntisymmetric}
-use Rattle.std.specs.Prelude.{IsTrue}
+use Rattle.std.specs.Prelude.{IsTrue, MatchOption}
 use Rattle.std.specs.declared.cmp.Ordering.{Ordering}
 use Rattle.std.specs.declared.cmp.Ordering.TheVariants.{Less}
 use Rattle.odd_text.specs.Sorted.{AreRising, IsSet}
+use Rattle.odd_library.specs.Odd.{element_key}
 use Rattle.odd_library.specs.declared.library.Library.{Library}
 use Rattle.odd_offers.proofs.Named.{cut_map, found_in, rise_in}
 use Rattle.odd_offers.specs.Answers.{AreGivensOf}
 use Rattle.odd_offers.specs.declared.given.Given.{Given}
 use Rattle.odd_text.proofs.Entries.{as_T, found_contained}
+use Rattle.odd_text.specs.Key.{key_cmp}
 use Rattle.odd_text.specs.Text.{text_cmp}
 use Rattle.odd_text.proofs.InList.{map_stands, standing, stands_map}
 use Rattle.odd_text.specs.Standing.{StandsIn}
-use Rattle.odd_classes.specs.Offered.{IsOfferOfOne, offer_cmp, offers_of}
+use Rattle.odd_classes.specs.Offered.{AreOffersIn, IsOfferOfOne, offer_cmp, offers_of}
 use Rattle.odd_classes.specs.declared.offering.Offer.{Offer}
 
 -- what is made of each entry, in an order in which it rises as the keys do
@@ -53,3 +55,9 @@ pub offers_set : (library : Library) (element : List ℕ) (givens : List (List �
 offers_set library element givens are =
     made_set offer_of offer_cmp (λ one other less. less) givens are.rising (IsOfferOfOne library element) (λ e found. (are.each e.0 e.1).0 found)
     (λ item offered. let given : Given = record { def = item.def; giver = item.giver } in ((item.ident, given), (are.each item.ident given).1 offered, refl))
+
+-- so of an element that has an entry in the table of what each offers
+pub listed_offers : (library : Library) (element : List ℕ) (table : List (List ℕ × List (List ℕ × Given))) (givens : List (List ℕ × Given)) → AreOffersIn library table
+    → find text_cmp element table ≡ Some givens → IsSet offer_cmp (IsOfferOfOne library element) (offers_of givens)
+listed_offers library element table givens are found =
+    offers_set library element givens (subst (λ f. MatchOption f (find key_cmp (element_key element) library.parts ≡ None) (AreGivensOf library element)) found (are element))

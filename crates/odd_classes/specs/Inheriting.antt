@@ -47,13 +47,13 @@ AreReady library arrows order at tables = (before after node next : ℕ) (class 
 pub record Sweeps (library : Library) (s : Inheriting) (at : ℕ) : Type 0 where
   pub entries : s.entries.now ≡ library.parts
   pub rising : IsTrue (is_sorted key_cmp library.parts)
-  pub graph : IsGraphOf classes_of library.parts s.arrows.items
-  pub order : IsOrder s.arrows.items s.order.items
-  pub each : (node : ℕ) → IsApart s.arrows.items node → Contains s.order.items node ⊎ (length s.arrows.items ≤ node)
-  pub last : AreLastUses s.arrows.items s.order.items s.last.items
+  pub graph : IsGraphOf classes_of library.parts s.arrows.now
+  pub order : IsOrder s.arrows.now s.order.items
+  pub each : (node : ℕ) → IsApart s.arrows.now node → Contains s.order.items node ⊎ (length s.arrows.now ≤ node)
+  pub last : AreLastUses s.arrows.now s.order.items s.last.items
   pub of_all : length s.tables.items ≡ length library.parts
   pub exact : AreTablesOf library s.tables.items
-  pub ready : AreReady library s.arrows.items s.order.items at s.tables.items
+  pub ready : AreReady library s.arrows.now s.order.items at s.tables.items
 
 -- the tables of these nodes
 abbrev pub AreTablesAt : List (Option Table) → List ℕ → List Table → Type 0

@@ -1,3 +1,4 @@
+pub mod Checking
 pub mod DataFacts
 pub mod Inheriting
 pub mod Leading

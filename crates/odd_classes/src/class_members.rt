@@ -6,14 +6,14 @@ ghost use Rattle.odd_library.specs.Odd.{element_key as the_element_key};
 ghost use Rattle.odd_library.specs.declared.library.Component.TheVariants as the_component;
 ghost use Rattle.odd_library.specs.declared.library.ElementPart.{ElementPart as AnElementPart};
 ghost use Rattle.odd_meaning.specs.Classes.{IsElementOf, IsMember};
-ghost use Rattle.odd_meaning.specs.Links.{class_key as the_class_key};
+ghost use Rattle.odd_meaning.specs.Links.{class_key as the_class_key, classes_of};
 ghost use Rattle.odd_text.specs.Standing.{StandsIn};
-ghost use Rattle.odd_classes.specs.Placing.{IsEntryAt, IsIdentAt};
+ghost use Rattle.odd_classes.specs.Placing.{IsEntryAt, IsGraphOf, IsIdentAt};
 
-use crate::graph::{graph_by, place_of, turned_by};
+use crate::graph::{place_of, turned_by};
 use crate::links::Link;
 use crate::offering::element_key;
-use odd_graph::{reached, unmarked};
+use odd_graph::{Nodes, reached, unmarked};
 use odd_library::{Component, Library};
 use odd_text::{Key, Kind, NoMemory, Text, TryCopy, Words, sorted};
 use std::alloc::Global;
@@ -36,18 +36,23 @@ pub fn members(alloc: Global, library: &Library, class: &Text) -> Result<Words, 
 }
 
 /// The idents of the held classes that an element is a member of, by its own memberships or through classes of classes (TEI
-/// Guidelines, the chapter Documentation Elements), in rising order, each once; none where the element is not held. The only
-/// error is NoMemory, for want of memory.
-pub fn memberships(alloc: Global, library: &Library, element: &Text) -> Result<Words, NoMemory>
+/// Guidelines, the chapter Documentation Elements), in rising order, each once; none where the element is not held. The graph is
+/// that of the library by classes. The only error is NoMemory, for want of memory.
+pub fn memberships(
+    alloc: Global,
+    library: &Library,
+    arrows: &[Nodes],
+    element: &Text,
+) -> Result<Words, NoMemory>
+    requires { IsGraphOf classes_of library.now.parts arrows.now }
     ensures { IfOk result (IsSet text_cmp (λ class. IsMember library.now class (the_element_key element.now))) }
 {
     let entries = library.parts.entries();
     let Some(place) = place_of(entries, &element_key(alloc, element)?) else {
         return Ok(Words::new(alloc));
     };
-    let arrows = graph_by(alloc, Link::Classes, entries)?;
-    let mut marks = unmarked(alloc, arrows.as_slice())?;
-    let nodes = reached(alloc, arrows.as_slice(), place, &mut marks)?;
+    let mut marks = unmarked(alloc, arrows)?;
+    let nodes = reached(alloc, arrows, place, &mut marks)?;
     let idents = idents_among(alloc, entries, nodes.as_slice())?;
     sorted(alloc, idents)
 }

@@ -1,11 +1,12 @@
-ghost use Rattle.std.specs.Prelude.{◌≡◌, ℕ, Err, IsOk};
+ghost use Rattle.std.specs.Prelude.{◌≡◌, ℕ, Err, IfOk, IsOk};
 ghost use Rattle.odd_text.specs.declared.key.Key.{Key as AKey};
+ghost use Rattle.odd_meaning.specs.Links.{classes_of, macros_of};
 ghost use Rattle.odd_meaning.specs.Rules.{Breaks, BreaksByCycle, IsFirstBreak};
-ghost use Rattle.odd_classes.specs.Placing.{IsFirstAmong, LeadsToItself};
+ghost use Rattle.odd_classes.specs.Placing.{IsFirstAmong, IsGraphOf, LeadsToItself, keys_by};
 
 use crate::graph::graph_by;
 use crate::links::Link;
-use odd_graph::first_on_cycle;
+use odd_graph::{Nodes, first_on_cycle};
 use odd_library::Library;
 use odd_text::{Key, NoMemory, TryCopy};
 use std::alloc::Global;
@@ -30,22 +31,50 @@ pub fn check_cycles(alloc: Global, library: &Library) -> Result<(), CycleRefusal
     ensures none { IsOk result → (key : AKey) (rule : ℕ) → BreaksByCycle library.now key rule → ⊥ }
     ensures first { (key : AKey) (rule : ℕ) → result ≡ Err (CycleRefusal.Loop key rule) → IsFirstBreak (BreaksByCycle library.now) key rule }
 {
-    check_link(alloc, library, Link::Classes, OWN_MEMBER)?;
-    check_link(alloc, library, Link::Macros, REACHES_ITSELF)?;
-    check_link(alloc, library, Link::Datatypes, REACHES_ITSELF)
+    acyclic(alloc, library)?;
+    Ok(())
 }
 
-/// Loop is answered for the first class of a library, by ident, that is a member of itself (rule 13). NoMemory is answered for
-/// want of memory.
-pub fn check_own_members(alloc: Global, library: &Library) -> Result<(), CycleRefusal>
+/// The graphs of a library without a cycle.
+#[derive(Drop)]
+pub struct Graphs {
+    /// By the classes that a component is said to be a member of.
+    pub classes: Vec<Nodes>,
+    /// By the macros that its content names.
+    pub macros: Vec<Nodes>,
+}
+
+/// The graphs of a library, or Loop as `check_cycles` answers it.
+pub fn acyclic(alloc: Global, library: &Library) -> Result<Graphs, CycleRefusal>
+    ensures classes { IfOk result (λ graphs. IsGraphOf classes_of library.now.parts graphs.classes.items) }
+    ensures macros { IfOk result (λ graphs. IsGraphOf macros_of library.now.parts graphs.macros.items) }
+    ensures none { IsOk result → (key : AKey) (rule : ℕ) → BreaksByCycle library.now key rule → ⊥ }
+    ensures first { (key : AKey) (rule : ℕ) → result ≡ Err (CycleRefusal.Loop key rule) → IsFirstBreak (BreaksByCycle library.now) key rule }
+{
+    let classes = acyclic_by(alloc, library, Link::Classes, OWN_MEMBER)?;
+    let macros = acyclic_by(alloc, library, Link::Macros, REACHES_ITSELF)?;
+    acyclic_by(alloc, library, Link::Datatypes, REACHES_ITSELF)?;
+    Ok(Graphs { classes, macros })
+}
+
+/// The graph of a library by classes. Loop is answered for the first class, by ident, that is a member of itself (rule 13). NoMemory
+/// is answered for want of memory.
+pub fn acyclic_classes(alloc: Global, library: &Library) -> Result<Vec<Nodes>, CycleRefusal>
+    ensures graph { IfOk result (λ arrows. IsGraphOf classes_of library.now.parts arrows.items) }
     ensures none { IsOk result → (key : AKey) → Breaks library.now key 13 → ⊥ }
     ensures first { (key : AKey) (rule : ℕ) → result ≡ Err (CycleRefusal.Loop key rule) → IsFirstAmong (λ other. Breaks library.now other 13) key }
 {
-    check_link(alloc, library, Link::Classes, OWN_MEMBER)
+    acyclic_by(alloc, library, Link::Classes, OWN_MEMBER)
 }
 
-// Whether a component leads to itself by a link.
-fn check_link(alloc: Global, library: &Library, link: Link, rule: u8) -> Result<(), CycleRefusal>
+// The graph of a library by a link, where no component leads to itself by it.
+fn acyclic_by(
+    alloc: Global,
+    library: &Library,
+    link: Link,
+    rule: u8,
+) -> Result<Vec<Nodes>, CycleRefusal>
+    ensures graph { IfOk result (λ arrows. IsGraphOf (keys_by link) library.now.parts arrows.items) }
     ensures none { IsOk result → (key : AKey) → LeadsToItself link library.now key → ⊥ }
     ensures first { (key : AKey) (given : ℕ) → result ≡ Err (CycleRefusal.Loop key given) → IsFirstAmong (LeadsToItself link library.now) key }
     ensures rule { (key : AKey) (given : ℕ) → result ≡ Err (CycleRefusal.Loop key given) → given ≡ rule }
@@ -53,14 +82,14 @@ fn check_link(alloc: Global, library: &Library, link: Link, rule: u8) -> Result<
     let entries = library.parts.entries();
     let arrows = graph_by(alloc, link, entries)?;
     let Some(place) = first_on_cycle(alloc, arrows.as_slice())? else {
-        return Ok(());
+        return Ok(arrows);
     };
     match library.parts.key(place) {
         Some(key) => Err(CycleRefusal::Loop {
             key: key.copy(alloc)?,
             rule,
         }),
-        None => Ok(()),
+        None => Ok(arrows),
     }
 }
 

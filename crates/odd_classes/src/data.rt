@@ -8,12 +8,12 @@ ghost use Rattle.odd_meaning.specs.Rules.{Breaks, BreaksWithin, IsFirstBreak};
 ghost use Rattle.odd_content.specs.Formed.{once};
 ghost use Rattle.odd_content.specs.declared.content.Content.{Macro};
 ghost use Rattle.odd_classes.specs.DataFacts.{AreFactsOf, HasFacts, HasFactsOfParts, IsMixedPart};
+ghost use Rattle.odd_classes.specs.Ranking.{IsMacroOrder};
 
-use crate::macro_order::in_macro_order;
 use crate::rules::LibraryRefusal;
 use odd_content::{Content, Contents};
 use odd_library::{Component, Library};
-use odd_text::{Kind, NoMemory, Text, TryCopy};
+use odd_text::{Kind, NoMemory, Text, TryCopy, Words};
 use rng_types::Bounds;
 use std::alloc::Global;
 use std::collections::BTreeMap;
@@ -32,13 +32,14 @@ type MacroFacts = BTreeMap<Text, DataFacts>;
 const MIXES_DATA: u8 = 18;
 
 /// Rule is answered for the first element, or else the first macro, whose content reaches data and is not data content (rule 18). No
-/// macro of the library reaches itself. NoMemory is answered for want of memory.
-pub fn check_data(alloc: Global, library: &Library) -> Result<(), LibraryRefusal>
-    requires { (key : AKey) → Breaks library.now key 14 → ⊥ }
+/// macro of the library reaches itself, and they are given in their order. NoMemory is answered for want of memory.
+pub fn check_data(alloc: Global, library: &Library, order: &Words) -> Result<(), LibraryRefusal>
+    requires acyclic { (key : AKey) → Breaks library.now key 14 → ⊥ }
+    requires order { IsMacroOrder library.now order.now }
     ensures none { IsOk result → (key : AKey) (rule : ℕ) → BreaksWithin 18 18 library.now key rule → ⊥ }
     ensures first { (key : AKey) (rule : ℕ) → result ≡ Err (LibraryRefusal.Rule key rule) → IsFirstBreak (BreaksWithin 18 18 library.now) key rule }
 {
-    let macros = macro_facts(alloc, library)?;
+    let macros = macro_facts(alloc, library, order)?;
     for (key, part) in library.parts.entries() {
         if is_mixed(part, &macros) {
             let key = key.copy(alloc)?;
@@ -67,12 +68,13 @@ fn is_mixed(part: &Component, macros: &MacroFacts) -> bool
 }
 
 // What holds of each held macro, each after those that its content names.
-fn macro_facts(alloc: Global, library: &Library) -> Result<MacroFacts, NoMemory>
-    requires { (key : AKey) → Breaks library.now key 14 → ⊥ }
+fn macro_facts(alloc: Global, library: &Library, order: &Words) -> Result<MacroFacts, NoMemory>
+    requires acyclic { (key : AKey) → Breaks library.now key 14 → ⊥ }
+    requires order { IsMacroOrder library.now order.now }
     ensures { IfOk result (λ facts. AreFactsOf library.now facts.entries) }
 {
     let mut facts = BTreeMap::new(alloc);
-    for ident in in_macro_order(alloc, library)?.as_slice() {
+    for ident in order.as_slice() {
         if let Some(Component::Macro(part)) = library.find_by(Kind::Macro, ident) {
             let of_it = facts_of(&part.content, &facts);
             keep(&mut facts, ident.copy(alloc)?, of_it)?;

@@ -1,9 +1,9 @@
 ghost use Rattle.std.specs.Prelude.{◌≡◌, ◌<◌, ◌+◌, None, IfOk, IsTrue, OnOk, get_or, if◌then◌else◌, length, replicate};
 ghost use Rattle.odd_library.specs.declared.library.Library.{Library as ALibrary};
+ghost use Rattle.odd_meaning.specs.Links.{classes_of};
 ghost use Rattle.odd_classes.specs.Inheriting.{AreLastUses, AreLeft, AreTablesAt, IsStep, IsUsedAt, Sweeps};
+ghost use Rattle.odd_classes.specs.Placing.{IsGraphOf};
 
-use crate::graph::graph_by;
-use crate::links::Link;
 use odd_graph::{Nodes, ordered};
 use odd_library::{Component, Library};
 use odd_offers::{Table, own_table, united};
@@ -15,7 +15,7 @@ use std::alloc::Global;
 #[derive(Drop)]
 pub struct Inheriting<'a> {
     entries: &'a [(Key, Component)],
-    arrows: Vec<Nodes>,
+    arrows: &'a [Nodes],
     order: Vec<usize>,
     // for each entry the last place in the order at which one stands that is a member of it
     last: Vec<usize>,
@@ -30,14 +30,18 @@ pub struct Inherited {
 }
 
 impl<'a> Inheriting<'a> {
-    /// The entries of a library, of which none was gone through.
-    pub fn new(alloc: Global, library: &'a Library) -> Result<Inheriting<'a>, NoMemory>
+    /// The entries of a library, of which none was gone through, with its graph by classes.
+    pub fn new(
+        alloc: Global,
+        library: &'a Library,
+        arrows: &'a [Nodes],
+    ) -> Result<Inheriting<'a>, NoMemory>
+        requires { IsGraphOf classes_of library.now.parts arrows.now }
         ensures { IfOk result (λ s. Sweeps library.now s 0) }
     {
         let entries = library.parts.entries();
-        let arrows = graph_by(alloc, Link::Classes, entries)?;
-        let order = ordered(alloc, arrows.as_slice())?;
-        let last = last_uses(alloc, arrows.as_slice(), order.as_slice())?;
+        let order = ordered(alloc, arrows)?;
+        let last = last_uses(alloc, arrows, order.as_slice())?;
         let tables = no_tables(alloc, entries.len())?;
         Ok(Inheriting {
             entries,
@@ -66,12 +70,15 @@ impl<'a> Inheriting<'a> {
         ensures order { OnOk result (self.new.order.items ≡ self.old.order.items) }
     {
         let place = self.order[at];
-        let nodes = self.arrows[place].as_slice();
-        let tables = taken(alloc, &mut self.tables, nodes, self.last.as_slice(), at)?;
-        let table = united(alloc, tables)?;
         let Some((key, part)) = self.entries.get(place) else {
             unreachable!()
         };
+        let Some(nodes) = self.arrows.get(place) else {
+            unreachable!()
+        };
+        let last = self.last.as_slice();
+        let tables = taken(alloc, &mut self.tables, nodes.as_slice(), last, at)?;
+        let table = united(alloc, tables)?;
         match key.kind {
             Kind::Element => Ok(Some(Inherited { place, table })),
             Kind::Class => {

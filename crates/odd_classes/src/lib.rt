@@ -3,6 +3,8 @@
 //! offer, and on data.
 #![tactic(auto)]
 
+mod answers;
+mod checked;
 mod class_members;
 mod cycles;
 mod data;
@@ -16,10 +18,10 @@ mod offer_lists;
 mod offering;
 mod rules;
 
-pub use class_members::{members, memberships};
+pub use checked::{Checked, check};
+pub use class_members::members;
 pub use cycles::{CycleRefusal, check_cycles};
-pub use macro_order::in_macro_order;
 pub use member_lists::{MemberTable, TableRefusal, member_table};
-pub use offer_lists::{OfferTable, offer_table};
+pub use offer_lists::OfferTable;
 pub use offering::{Offer, OfferRefusal, Offers, offered};
-pub use rules::{LibraryRefusal, check_library};
+pub use rules::LibraryRefusal;

@@ -6,16 +6,15 @@ ghost use Rattle.odd_text.specs.Text.{text_cmp};
 ghost use Rattle.odd_text.specs.declared.key.Key.{Key as AKey};
 ghost use Rattle.odd_graph.specs.Graph.{StandOnce};
 ghost use Rattle.odd_meaning.specs.Classes.{AreMembers, Members, members_count};
+ghost use Rattle.odd_meaning.specs.Links.{classes_of};
 ghost use Rattle.odd_meaning.specs.Rules.{Breaks};
 ghost use Rattle.odd_classes.specs.Listing.{AreListed, AreListsOf, HasListed, IsModelAt, IsTableOf};
-ghost use Rattle.odd_classes.specs.Placing.{IsFirstAmong};
+ghost use Rattle.odd_classes.specs.Placing.{IsFirstAmong, IsGraphOf};
 
 use crate::class_members::is_element;
-use crate::cycles::{CycleRefusal, check_own_members};
-use crate::graph::graph_by;
+use crate::cycles::{CycleRefusal, acyclic_classes};
 use crate::leading::leading_to_models;
-use crate::links::Link;
-use odd_graph::{reached, unmarked};
+use odd_graph::{Nodes, reached, unmarked};
 use odd_library::{Component, Library};
 use odd_text::{Key, Kind, Map, NoMemory, Text, TryCopy, Words};
 use std::alloc::Global;
@@ -80,29 +79,53 @@ pub fn member_table(
     ensures more_unlooped { result ≡ Err TableRefusal.More → (key : AKey) → Breaks library.now key 13 → ⊥ }
     ensures more { result ≡ Err TableRefusal.More → (members : Members) → AreMembers library.now members → limit < members_count members library.now }
 {
-    match check_own_members(alloc, library) {
-        Ok(()) => {}
+    let arrows = match acyclic_classes(alloc, library) {
+        Ok(arrows) => arrows,
         Err(CycleRefusal::Loop { key, rule: _ }) => return Err(TableRefusal::Loop { key }),
         Err(CycleRefusal::NoMemory) => return Err(TableRefusal::NoMemory),
+    };
+    match table_within(alloc, library, arrows.as_slice(), limit)? {
+        Some(table) => Ok(table),
+        None => Err(TableRefusal::More),
     }
+}
+
+/// The same of a library of which no class is a member of itself, with its graph by classes; None where the lists together hold more
+/// than `limit` idents. The only error is NoMemory, for want of memory.
+pub fn table_within(
+    alloc: Global,
+    library: &Library,
+    arrows: &[Nodes],
+    limit: usize,
+) -> Result<Option<MemberTable>, NoMemory>
+    requires { IsGraphOf classes_of library.now.parts arrows.now }
+    ensures members { IfOk result (λ given. IfSome given (λ table. AreMembers library.now (λ class. find text_cmp class table))) }
+    ensures within { IfOk result (λ given. IfSome given (λ table. members_count (λ class. find text_cmp class table) library.now ≤ limit)) }
+    ensures more { result ≡ Ok None → (members : Members) → AreMembers library.now members → limit < members_count members library.now }
+{
     let entries = library.parts.entries();
-    let Some(lists) = listed(alloc, library, limit)? else {
-        return Err(TableRefusal::More);
+    let Some(lists) = listed(alloc, library, arrows, limit)? else {
+        return Ok(None);
     };
     let lists = table_of(alloc, entries, lists)?;
-    Ok(MemberTable { lists })
+    Ok(Some(MemberTable { lists }))
 }
 
 // For each entry of a library the members of the class that it is, where it is one of type `model`, and else none. None where
 // they are more than the limit. No arrow is followed that leads to no such class: so a chain of other classes costs an element no step.
-fn listed(alloc: Global, library: &Library, limit: usize) -> Result<Option<Vec<Words>>, NoMemory>
+fn listed(
+    alloc: Global,
+    library: &Library,
+    arrows: &[Nodes],
+    limit: usize,
+) -> Result<Option<Vec<Words>>, NoMemory>
+    requires { IsGraphOf classes_of library.now.parts arrows.now }
     ensures lists { IfOk result (λ given. IfSome given (λ lists. AreListsOf library.now lists.items)) }
     ensures within { IfOk result (λ given. IfSome given (λ lists. sum_by length lists.items ≤ limit)) }
     ensures more { result ≡ Ok None → (lists : List (List (List ℕ))) × AreListed library.now lists × (limit < sum_by length lists) }
 {
     let entries = library.parts.entries();
-    let graph = graph_by(alloc, Link::Classes, entries)?;
-    let arrows = leading_to_models(alloc, entries, graph.as_slice())?;
+    let arrows = leading_to_models(alloc, entries, arrows)?;
     let mut marks = unmarked(alloc, arrows.as_slice())?;
     let mut lists = no_lists(alloc, entries.len())?;
     let mut left = limit;

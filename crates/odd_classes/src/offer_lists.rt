@@ -1,18 +1,17 @@
-ghost use Rattle.std.specs.Prelude.{◌≡◌, ℕ, List, None, IfOk, IsTrue, replicate};
+ghost use Rattle.std.specs.Prelude.{◌≡◌, ◌<◌, ℕ, List, Err, IfOk, IsOk, IsTrue, length};
 ghost use Rattle.std.specs.FinMap.{find, is_sorted};
 ghost use Rattle.std.specs.Option.{option_copied};
 ghost use Rattle.odd_text.specs.Key.{key_cmp};
 ghost use Rattle.odd_text.specs.Text.{text_cmp};
 ghost use Rattle.odd_text.specs.declared.key.Key.{Key as AKey};
-ghost use Rattle.odd_library.specs.Odd.{element_key as the_element_key};
-ghost use Rattle.odd_meaning.specs.Rules.{Breaks};
-ghost use Rattle.odd_offers.specs.Answers.{AreGivensOf};
-ghost use Rattle.odd_classes.specs.Inheriting.{IsInheritedAt};
+ghost use Rattle.odd_meaning.specs.Links.{classes_of};
+ghost use Rattle.odd_meaning.specs.Rules.{Breaks, BreaksWithin, IsFirstBreak};
 ghost use Rattle.odd_classes.specs.Offered.{AreAtElements, AreByIdent, AreOffersIn};
-ghost use Rattle.odd_classes.specs.Placing.{IsPlaceOf};
+ghost use Rattle.odd_classes.specs.Placing.{IsGraphOf, IsPlaceOf};
 
-use crate::inheriting::{Inherited, Inheriting};
-use crate::offering::{Asked, offered_by};
+use crate::answers::{Answer, CONTRADICTS, SHARES_NAME, answers, first_breaking};
+use crate::rules::LibraryRefusal;
+use odd_graph::Nodes;
 use odd_library::{Component, Library};
 use odd_offers::Givens;
 use odd_text::{Key, Map, NoMemory, Text, TryCopy};
@@ -44,61 +43,59 @@ impl OfferTable {
 }
 
 /// The attributes that each element of a library offers, of several givers the least (TEI Guidelines, the chapter Documentation
-/// Elements). The library must break none of the rules on libraries. The only error is NoMemory, for want of memory.
-pub fn offer_table(alloc: Global, library: &Library) -> Result<OfferTable, NoMemory>
-    requires { (key : AKey) (rule : ℕ) → Breaks library.now key rule → ⊥ }
-    ensures { IfOk result (AreOffersIn library.now) }
+/// Elements), with the graph of the library by classes, of which none is a member of itself. Rule is answered for the first element that
+/// inherits different definitions of an attribute that it does not itself set or delete (rule 15), and where there is none for the
+/// first of which two attributes have one name in documents (rule 16). NoMemory is answered for want of memory.
+pub fn check_offers(
+    alloc: Global,
+    library: &Library,
+    arrows: &[Nodes],
+) -> Result<OfferTable, LibraryRefusal>
+    requires unlooped { (key : AKey) → Breaks library.now key 13 → ⊥ }
+    requires graph { IsGraphOf classes_of library.now.parts arrows.now }
+    ensures offers { IfOk result (AreOffersIn library.now) }
+    ensures none { IsOk result → (key : AKey) (rule : ℕ) → BreaksWithin 15 16 library.now key rule → ⊥ }
+    ensures first { (key : AKey) (rule : ℕ) → result ≡ Err (LibraryRefusal.Rule key rule) → IsFirstBreak (BreaksWithin 15 16 library.now) key rule }
 {
     let entries = library.parts.entries();
-    let mut places = no_givens(alloc, entries.len())?;
-    let mut holders = Inheriting::new(alloc, library)?;
-    for at in 0..holders.len() {
-        if let Some(inherited) = holders.step(alloc, at)? {
-            let place = inherited.place;
-            places[place] = Some(givens_at(alloc, library, inherited)?);
-        }
+    let answers = answers(alloc, library, arrows)?;
+    if let Some(place) = first_breaking(answers.as_slice(), CONTRADICTS) {
+        return Err(refusal_at(alloc, library, place, CONTRADICTS)?);
     }
-    let givens = by_ident(alloc, entries, places)?;
+    if let Some(place) = first_breaking(answers.as_slice(), SHARES_NAME) {
+        return Err(refusal_at(alloc, library, place, SHARES_NAME)?);
+    }
+    let givens = by_ident(alloc, entries, answers)?;
     Ok(OfferTable { givens })
 }
 
-// So many places without offers.
-fn no_givens(alloc: Global, count: usize) -> Result<Vec<Option<Givens>>, NoMemory>
-    ensures { IfOk result (λ places. places.items ≡ replicate count None) }
+// The refusal of the component at a place.
+fn refusal_at(
+    alloc: Global,
+    library: &Library,
+    place: usize,
+    rule: u8,
+) -> Result<LibraryRefusal, NoMemory>
+    requires { place < length library.now.parts }
+    ensures { IfOk result (λ made. (key : AKey) → IsPlaceOf library.now.parts place key → made ≡ LibraryRefusal.Rule key rule) }
 {
-    let mut places = Vec::new(alloc);
-    for _ in 0..count {
-        places.push(None)?;
-    }
-    Ok(places)
+    let key = library.parts.entries()[place].0.copy(alloc)?;
+    Ok(LibraryRefusal::Rule { key, rule })
 }
 
-// What the element at a place offers.
-fn givens_at(alloc: Global, library: &Library, inherited: Inherited) -> Result<Givens, NoMemory>
-    requires none { (key : AKey) (rule : ℕ) → Breaks library.now key rule → ⊥ }
-    requires inherited { IsInheritedAt library.now inherited }
-    ensures { IfOk result (λ givens. (element : List ℕ) → IsPlaceOf library.now.parts inherited.place (the_element_key element) → AreGivensOf library.now element givens) }
-{
-    let part = &library.parts.entries()[inherited.place].1;
-    match offered_by(alloc, part, inherited.table)? {
-        Asked::Offers(givens) => Ok(givens),
-        Asked::Contradicts | Asked::SharesName => unreachable!(),
-    }
-}
-
-// What is given at the places of elements, by their idents.
+// What is offered at the places of elements, by their idents.
 fn by_ident(
     alloc: Global,
     entries: &[(Key, Component)],
-    places: Vec<Option<Givens>>,
+    answers: Vec<Option<Answer>>,
 ) -> Result<Map<Text, Givens>, NoMemory>
     requires rising { IsTrue (is_sorted key_cmp entries.now) }
-    requires elements { AreAtElements entries.now places.items }
-    ensures { IfOk result (AreByIdent entries.now places.items) }
+    requires elements { AreAtElements entries.now answers.items }
+    ensures { IfOk result (AreByIdent entries.now answers.items) }
 {
     let mut made = Map::new(alloc);
-    for (place, givens) in places.into_iter().enumerate() {
-        if let Some(givens) = givens {
+    for (place, answer) in answers.into_iter().enumerate() {
+        if let Some(Answer::Offers(givens)) = answer {
             made.put(entries[place].0.ident.copy(alloc)?, givens)?;
         }
     }

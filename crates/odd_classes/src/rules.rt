@@ -4,13 +4,11 @@ ghost use Rattle.odd_text.specs.Standing.{StandsIn};
 ghost use Rattle.odd_library.specs.declared.library.ClassPart.{ClassPart as AClassPart};
 ghost use Rattle.odd_library.specs.declared.library.Component.TheVariants as the_component;
 ghost use Rattle.odd_meaning.specs.Links.{named_by};
-ghost use Rattle.odd_meaning.specs.Rules.{Breaks, BreaksWithin, IsFirstBreak};
+ghost use Rattle.odd_meaning.specs.Rules.{BreaksWithin, IsFirstBreak};
 ghost use Rattle.odd_classes.specs.Placing.{IsWrong, kind_of, rule_of};
 
-use crate::cycles::{CycleRefusal, check_cycles};
-use crate::data::check_data;
+use crate::cycles::CycleRefusal;
 use crate::links::named;
-use crate::offering::check_offers;
 use odd_library::{Component, Library};
 use odd_text::{Key, Kind, NoMemory, Text, TryCopy};
 use std::alloc::Global;
@@ -58,26 +56,8 @@ impl WrongReference {
     }
 }
 
-/// Whether a library breaks one of its rules: 11, a content names a macro that is not held; 12, a component names a datatype that
-/// is not held, in its content or in an attribute that it sets or changes; 13, a class is a member of itself; 14, a macro or a
-/// datatype reaches itself; 15, an element inherits different definitions of an attribute that it does not itself set or delete;
-/// 16, two attributes of an element have one name in documents; 17, a content names a class of type `atts`; 18, the content of an
-/// element or a macro reaches data and is not data content. Rule is answered for the first offence by rule, then by kind
-/// (element, class, macro, datatype) and then by ident. NoMemory is answered for want of memory.
-pub fn check_library(alloc: Global, library: &Library) -> Result<(), LibraryRefusal>
-    ensures none { IsOk result → (key : AKey) (rule : ℕ) → Breaks library.now key rule → ⊥ }
-    ensures first { (key : AKey) (rule : ℕ) → result ≡ Err (LibraryRefusal.Rule key rule) → IsFirstBreak (Breaks library.now) key rule }
-{
-    check_names(alloc, library, WrongReference::MacroNotHeld)?;
-    check_names(alloc, library, WrongReference::DatatypeNotHeld)?;
-    check_cycles(alloc, library)?;
-    check_offers(alloc, library)?;
-    check_names(alloc, library, WrongReference::OfAttributes)?;
-    check_data(alloc, library)
-}
-
-// Whether a component names what it may not.
-fn check_names(
+/// Rule is answered for the first component that names what it may not. NoMemory is answered for want of memory.
+pub fn check_names(
     alloc: Global,
     library: &Library,
     wrong: WrongReference,

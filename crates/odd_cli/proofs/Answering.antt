@@ -4,8 +4,7 @@ use Rattle.std.proofs.lemmas.List.{length-take-le, take-append-drop}
 use Rattle.std.proofs.lemmas.Result.{IfErr-weaker, IfOk-weaker}
 use Rattle.std.specs.Prelude.{Bool, true, false, IfErr, IfOk, IsTrue, OnOk}
 use Rattle.odd_base.specs.Shelf.{FileMap, Held, LeavesSuffix, NotHeld}
-use Rattle.odd_chain.proofs.Files.{few_docs}
-use Rattle.odd_chain.specs.Reading.{AreFormedDocs, IsChainOf, HasFewDocs}
+use Rattle.odd_chain.specs.Reading.{IsChainOf, IsFormedChain}
 use Rattle.odd_chain.specs.declared.chain.Chain.{Chain}
 use Rattle.odd_text.specs.Count.{next_count}
 use Rattle.odd_text.proofs.InList.{begins, ends}
@@ -38,7 +37,7 @@ module _ {aside : Bool} (holds : Option FileMap) (names : List (List ℕ)) (i : 
   -- a chain with the tree of the next file
   pub chain_with : (tree : Tree) (chain made : Chain) → IsChainRead aside holds (take i names) chain → IsTreeRead holds name tree
       → ((trees : List Tree) (first end : ℕ) → IsFormed first end tree → IsChainOf aside chain trees → suc i ≡ suc (length trees) → IsChainOf aside made (trees ++ tree ∷ []))
-      → ((first end : ℕ) → IsFormed first end tree → AreFormedDocs chain → AreFormedDocs made) → IsChainRead aside holds (take (i + 1) names) made
+      → ((first end : ℕ) → IsFormed first end tree → IsFormedChain chain → IsFormedChain made) → IsChainRead aside holds (take (i + 1) names) made
   chain_with tree chain made r t with_one stay = record {
     trees = r.trees ++ tree ∷ [];
     is_chain = with_one r.trees 0 (length t.bytes) t.formed r.is_chain (ap suc (sym (read_so_far r)));
@@ -171,9 +170,6 @@ named_none words asked aside names s n m = let no = names_one words (gives (aske
 
 module _ (holds : Option FileMap) (words : List (List ℕ)) (asked : Task) (aside : Bool) (names : List (List ℕ)) (chain : Chain) (n : NamesFiles words (gives (asked, aside, names)))
     (r : IsChainRead aside holds names chain) where
-  pub few_read : HasFewDocs chain
-  few_read = few_docs aside chain r.trees r.is_chain (omega (arith, r.many, named_few words asked aside names n))
-
   pub text_comes : (files : FileMap) → holds ≡ Some files → (t : Result Answer Status)
       → IfOk t (λ answer. (trees : List Tree) → IsChainOf aside chain trees → length names ≡ length trees → TreesComeTo asked aside trees (gives answer.text))
       → IfOk t (λ answer. Reply words files answer.text status.Done)

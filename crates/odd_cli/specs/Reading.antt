@@ -4,7 +4,7 @@ use Rattle.odd_base.specs.Shelf.{FileMap, Held}
 use Rattle.odd_tree.specs.Formed.{IsFormed}
 use Rattle.odd_tree.specs.Spelled.{GivesTree}
 use Rattle.odd_tree.specs.declared.tree.Tree.{Tree}
-use Rattle.odd_chain.specs.Reading.{AreFormedDocs, IsChainOf}
+use Rattle.odd_chain.specs.Reading.{IsChainOf, IsFormedChain}
 use Rattle.odd_chain.specs.declared.chain.Chain.{Chain}
 use Rattle.odd_cli.specs.declared.status.LimitKind.TheVariants as limit
 use Rattle.odd_cli.specs.declared.status.Status.{Status}
@@ -25,7 +25,7 @@ pub record IsChainRead (aside : Bool) (holds : Option FileMap) (names : List (Li
   pub trees : List Tree
   pub is_chain : IsChainOf aside chain trees
   pub many : length trees ≡ length names
-  pub formed : AreFormedDocs chain
+  pub formed : IsFormedChain chain
   pub given : (files : FileMap) → holds ≡ Some files → GiveTrees files names trees
 
 -- a file of this number gave no tree

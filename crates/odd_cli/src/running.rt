@@ -4,8 +4,9 @@ ghost use Rattle.odd_base.specs.Shelf.{FileMap, Held, LeavesSuffix, NotHeld};
 ghost use Rattle.odd_base.specs.Sink.{IsPartWritten};
 ghost use Rattle.odd_tree.specs.Formed.{IsFormed as IsFormedTree};
 ghost use Rattle.odd_tree.specs.declared.tree.Tree.{Tree as ATree};
-ghost use Rattle.odd_chain.specs.Files.{AreDeclared};
-ghost use Rattle.odd_chain.specs.Reading.{AreFormedDocs, HasFewDocs, IsChainOf};
+ghost use Rattle.odd_chain.specs.Files.{AreDeclared, ChainOffends};
+ghost use Rattle.odd_chain.specs.Order.{Position};
+ghost use Rattle.odd_chain.specs.Reading.{IsChainOf, IsFormedChain};
 ghost use Rattle.odd_library.specs.declared.odd.OddDoc.{OddDoc as ADoc};
 ghost use Rattle.odd_cli.specs.Note.{note_text};
 ghost use Rattle.odd_cli.specs.Outcome.{answers, gives};
@@ -135,8 +136,7 @@ fn answer_of(
     aside: bool,
     files: u32,
 ) -> Result<Answer, Status>
-    requires few { HasFewDocs chain }
-    requires formed { AreFormedDocs chain }
+    requires { IsFormedChain chain }
     ensures ok { IfOk result (λ answer. (trees : List ATree) → IsChainOf aside chain trees → files ≡ length trees → TreesComeTo (told task.entry) aside trees (gives answer.text)) }
     ensures serves { IfOk result (λ answer. (trees : List ATree) → IsChainOf aside chain trees → ServesTrees (told task.entry) aside trees answer.text) }
     ensures asides { IfOk result (λ answer. (trees : List ATree) → IsChainOf aside chain trees → AsidesOfTrees aside trees answer.asides) }
@@ -152,9 +152,12 @@ fn answer_of(
 
 // How many constraints were taken out of the files of a chain, where they are.
 fn asides_of(chain: &Chain, aside: bool) -> Option<u64>
-    ensures { (trees : List ATree) (docs : List ADoc) → IsChainOf aside chain.now trees → AreDeclared aside trees docs → AsidesOfTrees aside trees result }
+    ensures { (trees : List ATree) (docs : List ADoc) → IsChainOf aside chain.now trees → ((file : ℕ) (at : Position) → ChainOffends aside trees file at → ⊥) → AreDeclared aside trees docs → AsidesOfTrees aside trees result }
 {
-    if aside { Some(chain.asides()) } else { None }
+    match chain {
+        Chain::Whole(merged) if aside => Some(merged.asides),
+        Chain::Whole(_) | Chain::Broken(_) => None,
+    }
 }
 
 // The files of the chain that the words name.
@@ -191,7 +194,10 @@ fn read_chain<F: Shelf>(
     ensures last_ended { (files : FileMap) → F.holds shelf.old ≡ Some files → names.now ≢ [] → OnOk result (F.rest shelf.new ≡ Some []) }
     ensures goes_on { GoesOn F.holds F.steady F.faults F.begins F.reads shelf.old shelf.new }
 {
-    let mut chain = Chain::new(alloc);
+    let mut chain = match Chain::new(alloc) {
+        Ok(chain) => chain,
+        Err(NoMemory) => return Err(Status::NoMemory),
+    };
     let mut file = 0u32;
     for name in names {
         file += 1;
@@ -240,11 +246,11 @@ fn with_file(
     aside: bool,
 ) -> Result<Chain, Status>
     ensures ok { IfOk result (λ made. (tree : ATree) × (read ≡ Ok tree) × ((trees : List ATree) (first end : ℕ) → IsFormedTree first end tree → IsChainOf aside chain trees → file ≡ suc (length trees) → IsChainOf aside made (trees ++ tree ∷ []))) }
-    ensures formed { (first end : ℕ) → IfOk read (IsFormedTree first end) → AreFormedDocs chain → IfOk result AreFormedDocs }
+    ensures formed { (first end : ℕ) → IfOk read (IsFormedTree first end) → IsFormedChain chain → IfOk result IsFormedChain }
     ensures err { IfErr result (λ status. (read ≡ Err status) ⊎ (status ≡ Status.NoMemory)) }
 {
     let tree = read?;
-    match chain.with(alloc, &tree, file, aside) {
+    match chain.with(alloc, tree, file, aside) {
         Ok(made) => Ok(made),
         Err(NoMemory) => Err(Status::NoMemory),
     }

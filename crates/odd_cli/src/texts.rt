@@ -4,7 +4,7 @@ ghost use Rattle.odd_meaning.specs.Rules.{Breaks};
 ghost use Rattle.odd_tree.specs.declared.tree.Tree.{Tree as ATree};
 ghost use Rattle.odd_chain.specs.Base.{SpellsBase};
 ghost use Rattle.odd_chain.specs.Files.{Gives};
-ghost use Rattle.odd_chain.specs.Reading.{AreFormedDocs, HasFewDocs, IsChainOf};
+ghost use Rattle.odd_chain.specs.Reading.{IsChainOf, IsFormedChain};
 ghost use Rattle.odd_library.specs.Formed.{IsFormedLibrary};
 ghost use Rattle.odd_library.specs.declared.library.Library.{Library as ALibrary};
 ghost use Rattle.odd_emit.specs.Components.{merged_odd};
@@ -18,8 +18,9 @@ ghost use Rattle.compile_core.specs.Account.{IsAccount};
 
 use crate::status::{LimitKind, Status};
 use crate::words::Task;
-use compile_core::{CompileRefusal, compile, explain};
-use odd_chain::{Chain, ChainRefusal, print_odd};
+use compile_core::{CompileRefusal, compile_checked, explain_checked};
+use odd_chain::{Chain, print_odd};
+use odd_classes::Checked;
 use odd_library::{Library, OddRefusal};
 use odd_text::{NoMemory, Offence, Text};
 use rng_emit::print_rng;
@@ -32,37 +33,39 @@ pub fn text_of_chain(
     task: Task<'_>,
     files: u32,
 ) -> Result<Text, Status>
-    requires few { HasFewDocs chain }
-    requires formed { AreFormedDocs chain }
+    requires { IsFormedChain chain }
     ensures ok { IfOk result (λ text. (aside : Bool) (trees : List ATree) → IsChainOf aside chain trees → files ≡ length trees → TreesComeTo (told task.entry) aside trees (gives text)) }
     ensures serves { IfOk result (λ text. (aside : Bool) (trees : List ATree) → IsChainOf aside chain trees → ServesTrees (told task.entry) aside trees text) }
     ensures whole { IfOk result (λ text. (aside : Bool) (trees : List ATree) → IsChainOf aside chain trees → (library : ALibrary) × Gives aside trees library) }
     ensures err { IfErr result (λ status. (aside : Bool) (trees : List ATree) → IsChainOf aside chain trees → files ≡ length trees → IsReplied status → TreesComeTo (told task.entry) aside trees (answers status)) }
     ensures of_trees { IfErr result IsOfTrees }
 {
-    match chain.library(alloc) {
+    let merged = match chain {
+        Chain::Whole(merged) => merged,
+        Chain::Broken(offence) => return Err(Status::Refused(offence)),
+    };
+    match merged.checked(alloc) {
         Ok(library) => text_of_library(alloc, &library, task, files),
-        Err(ChainRefusal::Offence(offence)) => Err(Status::Refused(offence)),
-        Err(ChainRefusal::NoMemory) => Err(Status::NoMemory),
+        Err(OddRefusal::Offence(offence)) => Err(Status::Refused(offence)),
+        Err(OddRefusal::NoMemory) => Err(Status::NoMemory),
     }
 }
 
-// What is written of the library after so many files, which breaks no rule.
+// What is written of the library after so many files.
 fn text_of_library(
     alloc: Global,
-    library: &Library,
+    library: &Checked<'_>,
     task: Task<'_>,
     files: u32,
 ) -> Result<Text, Status>
-    requires unbroken { (key : AKey) (rule : ℕ) → Breaks library.now key rule → ⊥ }
-    requires formed { IsFormedLibrary library.now }
+    requires { IsFormedLibrary library.now }
     ensures ok { IfOk result (λ text. HasText (told task.entry) files library.now (gives text)) }
     ensures serves { IfOk result (Serves (told task.entry) library.now) }
     ensures err { IfErr result (λ status. IsReplied status → HasText (told task.entry) files library.now (answers status)) }
     ensures of_trees { IfErr result IsOfTrees }
 {
     match task {
-        Task::Merge => merged_odd_of(alloc, library),
+        Task::Merge => merged_odd_of(alloc, library.library()),
         Task::Compile => schema_of(alloc, library, files),
         Task::Explain(ident) => account_of(alloc, library, ident, files),
     }
@@ -82,16 +85,15 @@ fn merged_odd_of(alloc: Global, library: &Library) -> Result<Text, Status>
     }
 }
 
-// The schema of the library after so many files, which breaks no rule, or the start word that is no held element.
-fn schema_of(alloc: Global, library: &Library, files: u32) -> Result<Text, Status>
-    requires unbroken { (key : AKey) (rule : ℕ) → Breaks library.now key rule → ⊥ }
-    requires formed { IsFormedLibrary library.now }
+// The schema of the library after so many files, or the start word that is no held element.
+fn schema_of(alloc: Global, library: &Checked<'_>, files: u32) -> Result<Text, Status>
+    requires { IsFormedLibrary library.now }
     ensures ok { IfOk result (λ text. HasText task_is.compile files library.now (gives text)) }
     ensures accepts { IfOk result (AcceptsAdmitted library.now) }
     ensures err { IfErr result (λ status. IsReplied status → HasText task_is.compile files library.now (answers status)) }
     ensures of_trees { IfErr result IsOfTrees }
 {
-    let grammar = match compile(alloc, library, &library.start) {
+    let grammar = match compile_checked(alloc, library, &library.library().start) {
         Ok(grammar) => grammar,
         Err(CompileRefusal::Offence(offence)) => {
             return Err(Status::Refused(in_file(offence, files)));
@@ -106,13 +108,17 @@ fn schema_of(alloc: Global, library: &Library, files: u32) -> Result<Text, Statu
 }
 
 // The account of the element at an ident, or the offence that none is held there.
-fn account_of(alloc: Global, library: &Library, ident: &Text, files: u32) -> Result<Text, Status>
-    requires unbroken { (key : AKey) (rule : ℕ) → Breaks library.now key rule → ⊥ }
+fn account_of(
+    alloc: Global,
+    library: &Checked<'_>,
+    ident: &Text,
+    files: u32,
+) -> Result<Text, Status>
     ensures ok { IfOk result (IsAccount library.now ident.now) }
     ensures err { IfErr result (λ status. IsReplied status → HasAccount ident.now files library.now (answers status)) }
     ensures of_trees { IfErr result IsOfTrees }
 {
-    match explain(alloc, library, ident) {
+    match explain_checked(alloc, library, ident) {
         Ok(text) => Ok(text),
         Err(OddRefusal::Offence(offence)) => Err(Status::Refused(in_file(offence, files))),
         Err(OddRefusal::NoMemory) => Err(Status::NoMemory),

@@ -1,5 +1,5 @@
 -- What a content admits in a library, for any marking of the children. No pattern is spoken of.
-use Rattle.std.specs.Prelude.{◌≡◌, ◌⊎◌, ◌≤◌, ℕ, zero, suc, false, List, [], ◌∷◌, length, Option, Some, None, IsTrue}
+use Rattle.std.specs.Prelude.{◌≡◌, ◌⊎◌, ◌≤◌, ℕ, zero, suc, false, List, [], ◌∷◌, Option, Some, None, IsTrue}
 use Rattle.std.specs.FinMap.{find}
 use Rattle.std.specs.List.{list_any}
 use Rattle.odd_text.specs.Key.{key_cmp}
@@ -73,18 +73,9 @@ MacroAdmits zero library m key w = ⊥
 MacroAdmits (suc levels) library m key w =
     (part : OtherPart) × (find key_cmp (macro_key key) library.parts ≡ Some (component.Macro part)) × AdmitsBy (MacroAdmits levels library m) library m part.content w
 
--- Where no macro comes back to itself, which a rule on libraries asks, no more of them stand in one another than the library holds components.
+-- which is the least such relation
 abbrev pub IsOfMacro : Library → Marking Label → Macros
-IsOfMacro library m = MacroAdmits (length library.parts) library m
-
--- a relation in which each held macro admits at least what its content does, where the macros in it admit what they do in the relation
-abbrev pub IsClosed : Library → Marking Label → Macros → Type 0
-IsClosed library m macros = (key : List ℕ) (part : OtherPart) (w : List Node) → find key_cmp (macro_key key) library.parts ≡ Some (component.Macro part)
-    → AdmitsBy macros library m part.content w → macros key w
-
--- the least such relation, in which no levels are counted
-abbrev pub LeastMacros : Library → Marking Label → List ℕ → List Node → Type 1
-LeastMacros library m key w = (macros : Macros) → IsClosed library m macros → macros key w
+IsOfMacro library m key w = (levels : ℕ) × MacroAdmits levels library m key w
 
 abbrev pub Admits : Library → Marking Label → Content → List Node → Type 0
 Admits library m = AdmitsBy (IsOfMacro library m) library m

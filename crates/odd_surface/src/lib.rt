@@ -68,14 +68,14 @@ pub mod modes {
 /// What users find in `odd_classes`.
 pub mod classes {
     pub use odd_classes::{
-        CycleRefusal, MemberTable, Offer, OfferRefusal, Offers, TableRefusal, check_cycles,
-        member_table, members, offered,
+        Checked, CycleRefusal, LibraryRefusal, MemberTable, Offer, OfferRefusal, Offers,
+        TableRefusal, check, check_cycles, member_table, members, offered,
     };
 }
 
 /// What users find in `odd_chain`.
 pub mod chain {
-    pub use odd_chain::{OddDocs, merge, print_odd};
+    pub use odd_chain::{Chain, Merged, OddDocs, merge, print_odd};
 }
 
 /// What users find in `rng_emit`.
@@ -85,7 +85,7 @@ pub mod emit {
 
 /// What users find in `compile_core`.
 pub mod compiling {
-    pub use compile_core::{CompileRefusal, compile, explain};
+    pub use compile_core::{CompileRefusal, compile, compile_checked, explain, explain_checked};
 }
 
 /// What users find in `odd_cli`.

@@ -4,15 +4,17 @@ use crate::attributes::{AttEdit, AttEdits};
 use crate::base::{
     Calls, Files, Key, Kind, MemShelf, Name, NoMemory, Shelf, ShelfFault, Table, Text, Words,
 };
+use crate::classes::{check, check_cycles};
 use crate::cli::{Command, Job, read_words};
-use crate::compiling::{CompileRefusal, compile};
+use crate::compiling::{CompileRefusal, compile, explain};
 use crate::content::Content;
-use crate::decls::{ClassMarks, Component, ElementPart, Library, Membership, Mode, Spec};
+use crate::decls::{
+    ClassMarks, Component, ElementPart, Library, Membership, Mode, OddRefusal, Spec,
+};
 use crate::emit::print_rng;
 use crate::modes::edit;
 use crate::patterns::{Children, Pat, Pool};
 use crate::reader::{escape_text, escape_value};
-use odd_classes::check_library;
 use std::alloc::Global;
 use std::test::Fail;
 
@@ -138,7 +140,7 @@ fn words_say_a_job(rt: HostRuntime) -> Result<(), Fail> {
 
 // The schema of a library without a start word.
 fn schema(alloc: Global, library: &Library) -> Result<Text, NoMemory> {
-    if check_library(alloc, library).is_err() {
+    if check(alloc, library).is_err() {
         return Text::from_str(alloc, "broken");
     }
     match compile(alloc, library, &Words::new(alloc)) {
@@ -152,5 +154,25 @@ fn schema(alloc: Global, library: &Library) -> Result<Text, NoMemory> {
 fn a_schema_of_no_start_word_allows_nothing(rt: HostRuntime) -> Result<(), Fail> {
     let schema = schema(rt.alloc(), &Library::empty(rt.alloc())?)?;
     assert!(rt; schema.as_str().contains("<start>\n<notAllowed/>\n</start>"));
+    Ok(())
+}
+
+// What is answered where the account of an element is asked for that is not held.
+fn rule_of_no_account(alloc: Global, library: &Library) -> Result<u8, NoMemory> {
+    if check(alloc, library).is_err() {
+        return Ok(0);
+    }
+    match explain(alloc, library, &Text::from_str(alloc, "a")?) {
+        Ok(_) => Ok(0),
+        Err(OddRefusal::Offence(offence)) => Ok(offence.rule),
+        Err(OddRefusal::NoMemory) => Err(NoMemory),
+    }
+}
+
+#[test]
+fn a_library_that_holds_nothing_has_no_cycle_and_no_account(rt: HostRuntime) -> Result<(), Fail> {
+    let library = Library::empty(rt.alloc())?;
+    assert!(rt; check_cycles(rt.alloc(), &library).is_ok());
+    assert_eq!(rt; rule_of_no_account(rt.alloc(), &library)?, 21);
     Ok(())
 }

@@ -19,51 +19,53 @@ pub returns-in_err-before-clause-too_large : goal.returns-in_err-before-clause-t
 returns-in_err-before-clause-too_large c = λ e holds.
     let library = c.args.library.now in
     let conditions = c.in_ok-conditions.conditions in
-    let set = c.in_ok-conditions.ensures.set in
+    let set = rw c.library-held.ensures.same at c.in_ok-conditions.ensures.set in
     let small : length conditions + 1 < 2 ^ 64 = search rules in
-    let exist = members_exist library c.requires in
+    let exist = members_exist library c.library-held.ensures.unbroken in
     let defines = defines_exist conditions set.rising small in
     let too = refused_for _ c.in_err-before.field-0.0 c.from_residual-in_err-before.ensures.1 e in
     let over = subst (λ r. HasTakenSet (IsConditionDefine conditions) c.take.new.self c.condition_defines.new.budget (Err r)) too c.in_err-before.ensures.taken defines.0 defines.1 in
-    large_text library c.args.start.now conditions (c.in_ok-conditions.ensures.rising refl) holds set exist.0 (offers_in c.in_ok-offers.offers) defines.0 exist.1 (all_offers library c.in_ok-offers.offers c.in_ok-offers.ensures) defines.1 (omega (arith, over, c.in_ok-take.ensures.taken))
+    large_text library c.args.start.now conditions (rw c.library-held.ensures.same at (c.in_ok-conditions.ensures.rising refl)) holds set exist.0 (offers_in c.offers-offers.result.now) defines.0 exist.1 (all_offers library c.offers-offers.result.now c.offers-offers.ensures) defines.1 (omega (arith, over, c.in_ok-take.ensures.taken))
 
 pub returns-in_err-members-clause-too_large : goal.returns-in_err-members-clause-too_large
 returns-in_err-members-clause-too_large c = λ e holds.
     let given = err_from_is_err_and c.from_residual-in_err-members.result c.from_residual-in_err-members.ensures.1 in
-    too_many c.args.library.now c.args.start.now c.in_ok-conditions.conditions (offers_in c.in_ok-offers.offers) c.in_ok-before.before (c.in_ok-conditions.ensures.rising refl) c.requires
-    c.in_ok-conditions.ensures.set (all_offers c.args.library.now c.in_ok-offers.offers c.in_ok-offers.ensures) c.in_ok-before.ensures.set holds (c.in_err-members.ensures.more (cc (given.1, given.2, e)))
+    too_many c.args.library.now c.args.start.now c.in_ok-conditions.conditions (offers_in c.offers-offers.result.now) c.in_ok-before.before (rw c.library-held.ensures.same at (c.in_ok-conditions.ensures.rising refl)) c.library-held.ensures.unbroken
+    (rw c.library-held.ensures.same at c.in_ok-conditions.ensures.set) (all_offers c.args.library.now c.offers-offers.result.now c.offers-offers.ensures) c.in_ok-before.ensures.set holds (c.in_err-members.ensures.more (cc (given.1, given.2, e)))
 
 pub returns-in_err-start-clause-too_large : goal.returns-in_err-start-clause-too_large
 returns-in_err-start-clause-too_large c = λ e holds.
     let wanted = references_pattern c.args.start.now in
     let too = refused_for _ c.in_err-start.field-0.0 c.from_residual-in_err-start.ensures.1 e in
     let over = subst (λ r. IsMadeWithin pattern_elements wanted c.condition_defines.new.budget c.references_pattern.new.budget (Err r)) too c.in_err-start.ensures in
-    large_text c.args.library.now c.args.start.now c.in_ok-conditions.conditions (c.in_ok-conditions.ensures.rising refl) holds c.in_ok-conditions.ensures.set (listed_in c.in_ok-members.members) (offers_in c.in_ok-offers.offers)
-    c.in_ok-before.before c.in_ok-members.ensures.members (all_offers c.args.library.now c.in_ok-offers.offers c.in_ok-offers.ensures) c.in_ok-before.ensures.set (omega (arith, over, c.in_ok-take.ensures.taken, c.in_ok-before.ensures.taken))
+    large_text c.args.library.now c.args.start.now c.in_ok-conditions.conditions (rw c.library-held.ensures.same at (c.in_ok-conditions.ensures.rising refl)) holds (rw c.library-held.ensures.same at c.in_ok-conditions.ensures.set) (listed_in c.in_ok-members.members) (offers_in c.offers-offers.result.now)
+    c.in_ok-before.before c.in_ok-members.ensures.members (all_offers c.args.library.now c.offers-offers.result.now c.offers-offers.ensures) c.in_ok-before.ensures.set (omega (arith, over, c.in_ok-take.ensures.taken, c.in_ok-before.ensures.taken))
 
 pub returns-in_err-defines-clause-too_large : goal.returns-in_err-defines-clause-too_large
 returns-in_err-defines-clause-too_large c = λ e holds.
     let library = c.args.library.now in
     let conditions = c.in_ok-conditions.conditions in
     let members = listed_in c.in_ok-members.members in
-    let offers = offers_in c.in_ok-offers.offers in
+    let offers = offers_in c.offers-offers.result.now in
     let elements = sum_by define_elements (component_defines library conditions members offers) in
     let too = refused_for _ c.in_err-defines.field-0.0 c.from_residual-in_err-defines.ensures.1 e in
-    let over = subst (λ r. HasTaken {X = List Define} elements c.references_pattern.new.budget c.library_defines.new.budget (Err r)) too c.in_err-defines.ensures.taken in
-    large_text library c.args.start.now conditions (c.in_ok-conditions.ensures.rising refl) holds c.in_ok-conditions.ensures.set members offers c.in_ok-before.before c.in_ok-members.ensures.members
-    (all_offers library c.in_ok-offers.offers c.in_ok-offers.ensures) c.in_ok-before.ensures.set (omega (arith, over, c.in_ok-take.ensures.taken, c.in_ok-before.ensures.taken, c.in_ok-start.ensures.1))
+    let taken = subst (λ l. HasTaken {X = List Define} (sum_by define_elements (component_defines l conditions members offers)) c.references_pattern.new.budget c.library_defines.new.budget
+    (Err c.in_err-defines.field-0.0)) c.library-held.ensures.same c.in_err-defines.ensures.taken in
+    let over = subst (λ r. HasTaken {X = List Define} elements c.references_pattern.new.budget c.library_defines.new.budget (Err r)) too taken in
+    large_text library c.args.start.now conditions (rw c.library-held.ensures.same at (c.in_ok-conditions.ensures.rising refl)) holds (rw c.library-held.ensures.same at c.in_ok-conditions.ensures.set) members offers c.in_ok-before.before c.in_ok-members.ensures.members
+    (all_offers library c.offers-offers.result.now c.offers-offers.ensures) c.in_ok-before.ensures.set (omega (arith, over, c.in_ok-take.ensures.taken, c.in_ok-before.ensures.taken, c.in_ok-start.ensures.1))
 
 pub returns-clause-grammar : goal.returns-clause-grammar
 returns-clause-grammar c =
-    let grammar = made c.args.library.now c.in_ok-conditions.conditions (listed_in c.in_ok-members.members) (offers_in c.in_ok-offers.offers) c.in_ok-before.before
-    (c.in_ok-conditions.ensures.rising refl) c.in_ok-before.ensures.set c.in_ok-members.ensures.members (all_offers c.args.library.now c.in_ok-offers.offers c.in_ok-offers.ensures) c.args.start.now
-    c.in_ok-conditions.ensures.set in
-    subst (IsGrammarOf c.args.library.now c.args.start.now) (λ i. record { start = sym c.in_ok-start.ensures.0 i; defines = sym c.in_ok-defines.ensures.defines i }) grammar
+    let grammar = made c.args.library.now c.in_ok-conditions.conditions (listed_in c.in_ok-members.members) (offers_in c.offers-offers.result.now) c.in_ok-before.before
+    (rw c.library-held.ensures.same at (c.in_ok-conditions.ensures.rising refl)) c.in_ok-before.ensures.set c.in_ok-members.ensures.members (all_offers c.args.library.now c.offers-offers.result.now c.offers-offers.ensures) c.args.start.now
+    (rw c.library-held.ensures.same at c.in_ok-conditions.ensures.set) in
+    subst (IsGrammarOf c.args.library.now c.args.start.now) (λ i. record { start = sym c.in_ok-start.ensures.0 i; defines = sym (rw c.library-held.ensures.same at c.in_ok-defines.ensures.defines) i }) grammar
 
 pub returns-clause-within : goal.returns-clause-within
 returns-clause-within c =
-    let parts = component_defines c.args.library.now c.in_ok-conditions.conditions (listed_in c.in_ok-members.members) (offers_in c.in_ok-offers.offers) in
-    let whole = ap (λ ds. text_nodes (record { start = c.in_ok-start.start; defines = ds })) c.in_ok-defines.ensures.defines in
+    let parts = component_defines c.args.library.now c.in_ok-conditions.conditions (listed_in c.in_ok-members.members) (offers_in c.offers-offers.result.now) in
+    let whole = ap (λ ds. text_nodes (record { start = c.in_ok-start.start; defines = ds })) (rw c.library-held.ensures.same at c.in_ok-defines.ensures.defines) in
     let text = text_parts c.in_ok-start.start c.in_ok-before.before parts in
     let begins = ap pattern_elements c.in_ok-start.ensures.0 in
-    omega (arith, whole, text, begins, c.in_ok-take.ensures.taken, c.in_ok-before.ensures.taken, c.in_ok-start.ensures.1, c.in_ok-defines.ensures.taken)
+    omega (arith, whole, text, begins, c.in_ok-take.ensures.taken, c.in_ok-before.ensures.taken, c.in_ok-start.ensures.1, rw c.library-held.ensures.same at c.in_ok-defines.ensures.taken)

@@ -15,10 +15,9 @@ returns c =
     let entries = c.entries-entries.ensures in
     let place = rw (entries.all, c.in_ok-element_key.ensures) at c.in-Some.ensures in
     let here = (place c.in-Some.place).0 refl in
-    let graph = rw entries.all at c.in_ok-arrows.ensures in
-    let among = rw (entries.all, c.as_slice-3.ensures.value) at c.in_ok-idents.ensures in
-    let reached = rw c.as_slice-2.ensures.value at c.in_ok-nodes.ensures.nodes in
-    let classes = classes_reached _ _ entries.rising _ _ graph here in
+    let among = rw (entries.all, c.as_slice.ensures.value) at c.in_ok-idents.ensures in
+    let reached = c.in_ok-nodes.ensures.nodes in
+    let classes = classes_reached _ _ entries.rising _ _ c.requires here in
     IfOk-weaker _ _ _
     (λ words. set_same text_cmp _ _ words (λ ident.
     (λ s. let m = (among ident).0 s in (classes ident).0 (m.0, m.1, (reached m.0).0 m.2), λ e. let m = (classes ident).1 e in (among ident).1 (m.0, m.1, (reached m.0).1 m.2))))

@@ -5,7 +5,7 @@ use Rattle.odd_text.specs.Map.{SetsOnly}
 use Rattle.odd_text.specs.Text.{text_cmp}
 use Rattle.odd_classes.proofs.MacroFacts.{IsMacro, facts_all, facts_more, facts_none, facts_same}
 use Rattle.odd_classes.specs.Ranking.{IsMacroOrder}
-use Rattle.odd_classes.proofs.data.macro_facts.Goals.{in-Some-Macro+in_ok-copy+in_ok-keep, in-Some+in-Element-1, in-None-3}
+use Rattle.odd_classes.proofs.data.macro_facts.Goals.{in-Some-Macro+in_ok-copy+in_ok-keep, in-Some+in-Element-1, in-None-1}
 use Rattle.odd_classes.proofs.data.macro_facts.Goals as goal
 
 pub loop-ident-init : goal.loop-ident-init
@@ -15,7 +15,7 @@ pub loop-ident-preserved : goal.loop-ident-preserved
 loop-ident-preserved c =
     let library = c.args.library.now in
     let idents = c.as_slice-ident-items.result.now in
-    let order : IsMacroOrder library idents = rw c.as_slice-ident-items.ensures c.in_ok-in_macro_order.ensures in
+    let order : IsMacroOrder library idents = rw c.as_slice-ident-items.ensures c.requires.order in
     let i = c.loop-ident.ident-index in
     let ident = c.ident-item.result in
     elim c.match-find_by.branch [
@@ -28,7 +28,7 @@ loop-ident-preserved c =
       | in-Some+in-Element-1 w ↦
           let none : (part : OtherPart) → IsMacro library ident part → ⊥ = λ part held. grind (arith, common_steps) in
           rw w.facts-is (facts_same library idents order i ident c.loop-ident.facts.entries c.loop-ident.invariant c.loop-ident-test.true c.ident-item.is none)
-      | in-None-3 w ↦
+      | in-None-1 w ↦
           let none : (part : OtherPart) → IsMacro library ident part → ⊥ = λ part held. grind (arith, common_steps) in
           rw w.facts-is (facts_same library idents order i ident c.loop-ident.facts.entries c.loop-ident.invariant c.loop-ident-test.true c.ident-item.is none)
     ]
@@ -36,5 +36,5 @@ loop-ident-preserved c =
 pub returns : goal.returns
 returns c =
     let idents = c.as_slice-ident-items.result.now in
-    let order : IsMacroOrder c.args.library.now idents = rw c.as_slice-ident-items.ensures c.in_ok-in_macro_order.ensures in
-    facts_all c.args.library.now c.requires idents order c.loop-ident.ident-index c.loop-ident.facts.entries c.loop-ident-test.false c.loop-ident.invariant
+    let order : IsMacroOrder c.args.library.now idents = rw c.as_slice-ident-items.ensures c.requires.order in
+    facts_all c.args.library.now c.requires.acyclic idents order c.loop-ident.ident-index c.loop-ident.facts.entries c.loop-ident-test.false c.loop-ident.invariant

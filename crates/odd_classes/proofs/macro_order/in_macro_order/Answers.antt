@@ -11,8 +11,8 @@ pub loop-place-preserved : goal.loop-place-preserved
 loop-place-preserved c =
     let library = c.args.library.now in
     let up = c.entries.ensures.rising in
-    let graph = rw c.entries.ensures.all at c.in_ok-arrows.ensures in
-    let order = rw (c.as_slice.ensures.value, ← c.as_slice-place-items.ensures.value) at c.in_ok-order.ensures.order in
+    let graph = c.requires in
+    let order = rw (← c.as_slice-place-items.ensures.value) at c.in_ok-order.ensures.order in
     let within = c.loop-place-test.true in
     let at = get_or_default c.as_slice-place-items.result.now c.loop-place.place-index 0 _ within in
     elim c.match-key.branch [
@@ -29,7 +29,7 @@ loop-place-preserved c =
 
 pub returns : goal.returns
 returns c =
-    let graph = rw c.entries.ensures.all at c.in_ok-arrows.ensures in
-    let order = rw (c.as_slice.ensures.value, ← c.as_slice-place-items.ensures.value) at c.in_ok-order.ensures.order in
-    let each = rw (c.as_slice.ensures.value, ← c.as_slice-place-items.ensures.value) at c.in_ok-order.ensures.each in
+    let graph = c.requires in
+    let order = rw (← c.as_slice-place-items.ensures.value) at c.in_ok-order.ensures.order in
+    let each = rw (← c.as_slice-place-items.ensures.value) at c.in_ok-order.ensures.each in
     all_ordered c.args.library.now c.entries.ensures.rising _ graph _ order _ _ each c.loop-place-test.false c.loop-place.invariant

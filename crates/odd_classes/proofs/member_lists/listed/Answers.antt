@@ -12,7 +12,7 @@ use Rattle.odd_classes.proofs.member_lists.listed.Goals as goal
 pub loop-place-init : goal.loop-place-init
 loop-place-init c =
     let none = none_listed c.args.library.now.parts c.in_ok-arrows.arrows.items _ (rw c.entries-entries.ensures.all at c.in_ok-lists.ensures) in
-    (rw c.as_slice-2.ensures.value at c.in_ok-marks.ensures, none.0, omega (arith, none.1))
+    (rw c.as_slice.ensures.value at c.in_ok-marks.ensures, none.0, omega (arith, none.1))
 
 pub reached-requires : goal.reached-requires
 reached-requires c = rw c.as_slice-then-is_element.ensures.value c.loop-place.invariant.0
@@ -25,8 +25,8 @@ returns-in_default-clause-more c =
     let nodes = rw c.as_slice-then-is_element.ensures.value at c.in_ok-classes.ensures.nodes in
     let has = rw (all, c.as_slice-then-is_element-2.ensures.value) at c.in_ok-count.ensures.listed in
     let more = element_more _ _ _ _ c.loop-place.invariant.1 up _ there (c.is_element.ensures.0 c.if-is_element.true) _ _ nodes has in
-    let alike = rw (all, c.as_slice.ensures.value) at c.in_ok-arrows.ensures in
-    λ _. (_, are_listed c.args.library.now up _ (rw all at c.in_ok-graph.ensures) _ _ (listed_alike _ _ _ _ _ alike more), omega (arith, c.in_ok-count.ensures.count, c.in_default.ensures, c.loop-place.invariant.2))
+    let alike = rw all at c.in_ok-arrows.ensures in
+    λ _. (_, are_listed c.args.library.now up _ c.requires _ _ (listed_alike _ _ _ _ _ alike more), omega (arith, c.in_ok-count.ensures.count, c.in_default.ensures, c.loop-place.invariant.2))
 
 pub loop-place-preserved : goal.loop-place-preserved
 loop-place-preserved c =
@@ -50,8 +50,8 @@ loop-place-preserved c =
 pub returns-clause-lists : goal.returns-clause-lists
 returns-clause-lists c =
     let all = c.entries-entries.ensures.all in
-    let alike = rw (all, c.as_slice.ensures.value) at c.in_ok-arrows.ensures in
-    all_listed c.args.library.now c.entries-entries.ensures.rising _ (rw all at c.in_ok-graph.ensures) _ _ (listed_alike _ _ _ _ _ alike c.loop-place.invariant.1) (rw all at c.loop-place-test.false)
+    let alike = rw all at c.in_ok-arrows.ensures in
+    all_listed c.args.library.now c.entries-entries.ensures.rising _ c.requires _ _ (listed_alike _ _ _ _ _ alike c.loop-place.invariant.1) (rw all at c.loop-place-test.false)
 
 pub returns-clause-within : goal.returns-clause-within
 returns-clause-within c = omega (arith, c.loop-place.invariant.2)

@@ -1,6 +1,6 @@
-use Rattle.std.proofs.Common.{◌≡◌, ◌++◌}
+use Rattle.std.proofs.Common.{◌≡◌, take}
 use Rattle.odd_classes.specs.Offered.{offers_of}
 use Rattle.odd_classes.proofs.offering.offers_of.Given as goal
 
 abbrev pub invariant-loop-ident : goal.invariant-loop-ident
-invariant-loop-ident l = l.made ++ offers_of l.ident-iterator.rest.items ≡ offers_of l.fn.givens
+invariant-loop-ident l = l.made ≡ offers_of (take l.ident-index l.ident-items)

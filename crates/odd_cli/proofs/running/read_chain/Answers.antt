@@ -15,7 +15,7 @@ use Rattle.odd_cli.proofs.running.read_chain.Goals as goal
 pub loop-name-init : goal.loop-name-init
 loop-name-init g c = record {
   numbered = refl;
-  read = record { trees = []; is_chain = c.new-chain.ensures.empty c.args.aside; many = refl; formed = c.new-chain.ensures.formed; given = λ files h. GiveTrees.none };
+  read = record { trees = []; is_chain = c.in-Ok.ensures.empty c.args.aside; many = refl; formed = c.in-Ok.ensures.formed; given = λ files h. GiveTrees.none };
   begun = refl;
   few_reads = omega arith;
   whole = λ files h file first last. absurd (omega arith);
@@ -26,16 +26,16 @@ loop-name-init g c = record {
 pub loop-name-preserved : goal.loop-name-preserved
 loop-name-preserved g c =
     let inv = c.loop-name.invariant in
-    let made = c.in-Ok.ensures.ok in
+    let made = c.in-Ok-with_file.ensures.ok in
     let read = c.read_file-read.ensures in
     let begun = read.begins ∙ ap next_count inv.begun ∙ next_counted (g.F.Shelf.begins c.args.shelf.now) c.loop-name.name-index in
     let ended = λ (files : FileMap) (h : g.F.Shelf.holds c.args.shelf.now ≡ Some files). IfOk-at_ok (λ t. _) made.1 (read.to_the_end files (inv.goes_on.0 ∙ h)) in
     let later = goes_later g.F.Shelf.holds g.F.Shelf.steady g.F.Shelf.faults g.F.Shelf.begins g.F.Shelf.reads g.F.Shelf.rest c.args.shelf.now c.loop-name.shelf _ inv.goes_on read.goes_on in
     record {
       numbered = omega arith;
-      read = chain_with (g.F.Shelf.holds c.args.shelf.now) c.args.names.now c.loop-name.name-index c.name-item.result c.loop-name-test.true c.name-item.is made.0 c.loop-name.chain c.in-Ok.made inv.read
+      read = chain_with (g.F.Shelf.holds c.args.shelf.now) c.args.names.now c.loop-name.name-index c.name-item.result c.loop-name-test.true c.name-item.is made.0 c.loop-name.chain c.in-Ok-with_file.made inv.read
           (tree_read _ _ c.name-item.result c.read_file-read.result made.0 inv.goes_on.0 made.1 read.ok) (λ trees first end f of e. made.2 trees first end f of (omega (arith, e, inv.numbered)))
-          (λ first end f of. c.in-Ok.ensures.formed first end (subst (λ (r : Result Tree Status). IfOk r (IsFormed first end)) (sym made.1) f) of);
+          (λ first end f of. c.in-Ok-with_file.ensures.formed first end (subst (λ (r : Result Tree Status). IfOk r (IsFormed first end)) (sym made.1) f) of);
       begun = begun;
       few_reads = omega (arith, read.few_reads, inv.few_reads);
       whole = λ files h. whole_more g.F.Shelf.holds g.F.Shelf.steady g.F.Shelf.faults g.F.Shelf.begins g.F.Shelf.reads g.F.Shelf.rest c.loop-name.name-index c.args.shelf.now c.loop-name.shelf _
@@ -44,31 +44,31 @@ loop-name-preserved g c =
       goes_on = later;
     }
 
-pub returns-in-Err-clause-err : goal.returns-in-Err-clause-err
-returns-in-Err-clause-err g c = λ files h replied.
+pub returns-in-Err-with_file-clause-err : goal.returns-in-Err-with_file-clause-err
+returns-in-Err-with_file-clause-err g c = λ files h replied.
     let inv = c.loop-name.invariant in
     let number : c.loop-name.file + 1 ≡ suc c.loop-name.name-index = omega (arith, inv.numbered) in
     stops_next (g.F.Shelf.holds c.args.shelf.now) c.args.names.now c.loop-name.name-index c.name-item.result c.loop-name-test.true c.name-item.is c.loop-name.chain files h inv.read
-    c.read_file-read.result c.in-Err.status
-    (subst (λ n. IfErr c.read_file-read.result (λ t. IsReplied t → FileStops files c.name-item.result n t)) number (c.read_file-read.ensures.err files (inv.goes_on.0 ∙ h))) c.in-Err.ensures.err replied
+    c.read_file-read.result c.in-Err-with_file.status
+    (subst (λ n. IfErr c.read_file-read.result (λ t. IsReplied t → FileStops files c.name-item.result n t)) number (c.read_file-read.ensures.err files (inv.goes_on.0 ∙ h))) c.in-Err-with_file.ensures.err replied
 
-pub returns-in-Err-clause-read_place : goal.returns-in-Err-clause-read_place
-returns-in-Err-clause-read_place g c = λ files number h is.
+pub returns-in-Err-with_file-clause-read_place : goal.returns-in-Err-with_file-clause-read_place
+returns-in-Err-with_file-clause-read_place g c = λ files number h is.
     let inv = c.loop-name.invariant in
     let read = c.read_file-read.ensures in
-    let own = own_fault c.read_file-read.result c.in-Err.status (c.loop-name.file + 1) number read.of_file c.in-Err.ensures.err (cc) in
+    let own = own_fault c.read_file-read.result c.in-Err-with_file.status (c.loop-name.file + 1) number read.of_file c.in-Err-with_file.ensures.err (cc) in
     faults_next (g.F.Shelf.holds c.args.shelf.now) c.args.names.now c.loop-name.name-index c.name-item.result c.loop-name-test.true c.name-item.is c.loop-name.chain files number _ _ h inv.read
     (omega (arith, own.1, inv.numbered)) (λ bytes held. read.suffix files bytes number (inv.goes_on.0 ∙ h) held own.0)
     (λ steady. read.not_held files number (inv.goes_on.0 ∙ h) (subst IsTrue (sym inv.goes_on.1) steady) own.0)
 
-pub returns-in-Err-clause-begins_err : goal.returns-in-Err-clause-begins_err
-returns-in-Err-clause-begins_err g c =
+pub returns-in-Err-with_file-clause-begins_err : goal.returns-in-Err-with_file-clause-begins_err
+returns-in-Err-with_file-clause-begins_err g c =
     let inv = c.loop-name.invariant in
     let read = c.read_file-read.ensures in
     let number : c.loop-name.file + 1 ≡ c.loop-name.name-index + 1 = omega (arith, inv.numbered) in (
       c.loop-name.name-index + 1,
       omega (arith, c.loop-name-test.true),
-      subst (λ n. IsOfFile n c.in-Err.status) number (of_next c.read_file-read.result c.in-Err.status (c.loop-name.file + 1) read.of_file c.in-Err.ensures.err),
+      subst (λ n. IsOfFile n c.in-Err-with_file.status) number (of_next c.read_file-read.result c.in-Err-with_file.status (c.loop-name.file + 1) read.of_file c.in-Err-with_file.ensures.err),
       read.begins ∙ ap next_count inv.begun ∙ next_counted (g.F.Shelf.begins c.args.shelf.now) c.loop-name.name-index,
       omega (arith, read.few_reads, inv.few_reads),
     )

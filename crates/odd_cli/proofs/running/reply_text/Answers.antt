@@ -7,11 +7,8 @@ use Rattle.odd_cli.specs.Reply.{NamesFiles, answered, file_bytes}
 use Rattle.odd_cli.specs.Running.{AreReadWhole, GoesOn, counted}
 use Rattle.odd_cli.specs.declared.status.LimitKind.TheVariants as limit
 use Rattle.odd_cli.specs.declared.status.Status.TheVariants as status
-use Rattle.odd_cli.proofs.Answering.{asides_told, begun_on_err, begun_stopped, fault_placed, few_read, named_answer, named_asks, named_job, named_many, named_none, named_usage, on_any, status_comes, stop_comes, text_comes, text_serves, usage_named}
+use Rattle.odd_cli.proofs.Answering.{asides_told, begun_on_err, begun_stopped, fault_placed, named_answer, named_asks, named_job, named_many, named_none, named_usage, on_any, status_comes, stop_comes, text_comes, text_serves, usage_named}
 use Rattle.odd_cli.proofs.running.reply_text.Goals as goal
-
-pub answer_of-requires-clause-few : goal.answer_of-requires-clause-few
-answer_of-requires-clause-few g c = few_read _ c.args.words.now (told c.in-Ok.asked.task) c.in-Ok.asked.aside c.in-Ok.asked.chain.now c.in-Ok-read_chain.chain c.in-Ok.ensures.ok c.in-Ok-read_chain.ensures.ok
 
 pub returns-in-Err-clause-err : goal.returns-in-Err-clause-err
 returns-in-Err-clause-err g c = λ files h replied. answered (inl c.in-Err.ensures.err)

@@ -7,7 +7,7 @@ use Rattle.odd_cli.proofs.texts.schema_of.Goals as goal
 
 pub returns-in-Err-Offence-clause-err : goal.returns-in-Err-Offence-clause-err
 returns-in-Err-Offence-clause-err c =
-    let refused = c.in-Err-Offence.ensures.offence c.in-Err-Offence.offence (ap Err c.in-Err-Offence.field-0-is) in
+    let refused = rw c.library.ensures.same at (c.in-Err-Offence.ensures.offence c.in-Err-Offence.offence (ap Err c.in-Err-Offence.field-0-is)) in
     let moved = rw c.in-Err-Offence.field-0-is at c.in_file.ensures in
     let same : c.in_file.result ≡ start_offence c.args.files refused.word = λ n. record {
       file = moved.file n;
@@ -18,20 +18,20 @@ returns-in-Err-Offence-clause-err c =
 
 pub returns-in-Err-TooLarge-clause-err : goal.returns-in-Err-TooLarge-clause-err
 returns-in-Err-TooLarge-clause-err c =
-    let large = c.in-Err-TooLarge.ensures.too_large (ap Err c.in-Err-TooLarge.field-0-is) in
+    let large = rw c.library.ensures.same at (c.in-Err-TooLarge.ensures.too_large (ap Err c.in-Err-TooLarge.field-0-is)) in
     λ replied. inr (c.args.library.now, HasStart.start_held large.holds_start, HasSchema.too_large large)
 
 pub returns-in-Ok-print_rng-clause-ok : goal.returns-in-Ok-print_rng-clause-ok
 returns-in-Ok-print_rng-clause-ok c = (
   c.args.library.now,
-  HasStart.start_held (c.in-Ok.ensures.held refl),
-  HasSchema.schema c.in-Ok.grammar (record { holds_start = c.in-Ok.ensures.held refl; is_grammar = c.in-Ok.ensures.grammar; within = c.in-Ok.ensures.within })
-      (subst (IsSchemaText c.args.library.now c.args.library.now.start) (sym c.in-Ok-print_rng.ensures.text) c.in-Ok.ensures.text),
+  HasStart.start_held (rw c.library.ensures.same at (c.in-Ok.ensures.held refl)),
+  HasSchema.schema c.in-Ok.grammar (record { holds_start = rw c.library.ensures.same at (c.in-Ok.ensures.held refl); is_grammar = rw c.library.ensures.same at c.in-Ok.ensures.grammar; within = c.in-Ok.ensures.within })
+      (subst (IsSchemaText c.args.library.now c.args.library.now.start) (sym c.in-Ok-print_rng.ensures.text) (rw c.library.ensures.same at c.in-Ok.ensures.text)),
 )
 
 pub returns-in-Ok-print_rng-clause-accepts : goal.returns-in-Ok-print_rng-clause-accepts
 returns-in-Ok-print_rng-clause-accepts c = record {
   grammar = c.in-Ok.grammar;
-  denotes = c.in-Ok-print_rng.ensures.denotes (c.in-Ok.ensures.plain c.requires.formed);
-  accepts = c.in-Ok.ensures.accepts c.requires.formed;
+  denotes = c.in-Ok-print_rng.ensures.denotes (c.in-Ok.ensures.plain c.requires);
+  accepts = rw c.library.ensures.same at (c.in-Ok.ensures.accepts c.requires);
 }

@@ -12,7 +12,7 @@ returns-in-Merge-clause-ok c =
     let library = c.args.library.now in
     IfOk-weaker c.merged_odd_of.result _ _ (λ text e. subst (λ task. HasText (told task) c.args.files library (gives text)) (sym c.in-Merge.is)
     (subst (λ t. HasMergedOdd library (gives t)) (sym e) HasMergedOdd.printed))
-    c.merged_odd_of.ensures.ok
+    (rw c.library.ensures.same at c.merged_odd_of.ensures.ok)
 
 pub returns-in-Explain-clause-ok : goal.returns-in-Explain-clause-ok
 returns-in-Explain-clause-ok c =

@@ -1,6 +1,5 @@
 use Rattle.std.proofs.Common.{◌≡◌, ◌<◌, ℕ, List, Some, get_or, [], length, ⊎_elim, sym, ap, subst, arith, ◌∙◌}
 use Rattle.std.proofs.Math.ListN.{length-set}
-use Rattle.std.proofs.lemmas.List.{get_or_default}
 use Rattle.std.proofs.lemmas.Option.{slice_get-get_or}
 use Rattle.odd_library.specs.Odd.{element_key}
 use Rattle.odd_meaning.specs.Links.{class_key}
@@ -23,12 +22,6 @@ node_here order at node within is = slice_get-get_or order at node within ∙ ap
 kinds_apart : (key : Key) (one other : Kind) (ident : List ℕ) → key.kind ≡ one → key ≡ record { kind = other; ident = ident } → one ≡ other
 kinds_apart key one other ident is same = sym is ∙ ap (λ (k : Key). k.kind) same
 
-pub index-requires : goal.index-requires
-index-requires c =
-    let sw = c.requires.sweeps.1 in
-    let within = sw.order.within c.index-place.result.now (c.args.at, c.requires.within, sym c.index-place.ensures) in
-    omega (arith, within)
-
 pub unreachable-requires : goal.unreachable-requires
 unreachable-requires c =
     let sw = c.requires.sweeps.1 in
@@ -46,7 +39,7 @@ returns-in-Element-clause-sweeps c = λ library sw.
     let place = c.index-place.result.now in
     let here = node_here c.args.self.now.order.items c.args.at place c.requires.within c.index-place.ensures in
     let entry = subst (λ es. IsEntryAt es place c.in-Some.field-0.now.0 c.in-Some.field-0.now.1) sw.entries (found_here c.args.self.now.entries.now place c.in-Some.field-0.now c.in-Some.ensures.lookup.3) in
-    let left = subst (λ l. AreLeft l c.args.at c.args.self.now.tables.items c.taken.new.tables.items) c.as_slice.ensures.value c.in_ok-tables.ensures.left in
+    let left = subst (λ l. AreLeft l c.args.at c.args.self.now.tables.items c.taken.new.tables.items) c.as_slice-last.ensures.value c.in_ok-tables.ensures.left in
     record {
       entries = sw.entries;
       rising = sw.rising;
@@ -57,7 +50,7 @@ returns-in-Element-clause-sweeps c = λ library sw.
       of_all = c.in_ok-tables.ensures.length ∙ sw.of_all;
       exact = left_exact library c.args.self.now.last.items c.args.at c.args.self.now.tables.items c.taken.new.tables.items left sw.exact;
       ready =
-          passed_ready library c.args.self.now.arrows.items c.args.self.now.order.items c.args.self.now.last.items sw.order c.args.at place here c.in-Some.field-0.now.0 c.in-Some.field-0.now.1 entry
+          passed_ready library c.args.self.now.arrows.now c.args.self.now.order.items c.args.self.now.last.items sw.order c.args.at place here c.in-Some.field-0.now.0 c.in-Some.field-0.now.1 entry
           c.args.self.now.tables.items c.taken.new.tables.items sw.last left sw.ready
           (λ class same. let no = kinds_apart c.in-Some.field-0.now.0 kind.Element kind.Class class c.in-Element.is same in cc);
     }
@@ -69,9 +62,9 @@ returns-in-Element-clause-told c = λ library sw.
     let part = c.in-Some.field-0.now.1 in
     let here = node_here c.args.self.now.order.items c.args.at place c.requires.within c.index-place.ensures in
     let entry = subst (λ es. IsEntryAt es place key part) sw.entries (found_here c.args.self.now.entries.now place c.in-Some.field-0.now c.in-Some.ensures.lookup.3) in
-    let arrows = c.args.self.now.arrows.items in
+    let arrows = c.args.self.now.arrows.now in
     let within = sw.order.within place (c.args.at, c.requires.within, sym c.index-place.ensures) in
-    let nodes = c.as_slice-nodes.ensures ∙ c.index.ensures ∙ get_or_default arrows place _ [] within in
+    let nodes = c.as_slice.ensures ∙ c.in-Some-get.ensures.lookup.3.1 [] in
     let are = subst (λ ns. AreTablesAt c.args.self.now.tables.items ns c.in_ok-tables.tables.items) nodes c.in_ok-tables.ensures.made in (
       here,
       (
@@ -90,15 +83,15 @@ returns-in_ok-table-in-Class-clause-sweeps c = λ library sw.
     let part = c.in-Some.field-0.now.1 in
     let here = node_here c.args.self.now.order.items c.args.at place c.requires.within c.index-place.ensures in
     let entry = subst (λ es. IsEntryAt es place key part) sw.entries (found_here c.args.self.now.entries.now place c.in-Some.field-0.now c.in-Some.ensures.lookup.3) in
-    let left = subst (λ l. AreLeft l c.args.at c.args.self.now.tables.items c.taken.new.tables.items) c.as_slice.ensures.value c.in_ok-tables.ensures.left in
-    let arrows = c.args.self.now.arrows.items in
+    let left = subst (λ l. AreLeft l c.args.at c.args.self.now.tables.items c.taken.new.tables.items) c.as_slice-last.ensures.value c.in_ok-tables.ensures.left in
+    let arrows = c.args.self.now.arrows.now in
     let order = c.args.self.now.order.items in
     let last = c.args.self.now.last.items in
     let old = c.args.self.now.tables.items in
     let new = c.taken.new.tables.items in
     let table = c.in_ok-table-in-Class.table in
     let within = sw.order.within place (c.args.at, c.requires.within, sym c.index-place.ensures) in
-    let nodes = c.as_slice-nodes.ensures ∙ c.index.ensures ∙ get_or_default arrows place _ [] within in
+    let nodes = c.as_slice.ensures ∙ c.in-Some-get.ensures.lookup.3.1 [] in
     let are = subst (λ ns. AreTablesAt old ns c.in_ok-tables.tables.items) nodes c.in_ok-tables.ensures.made in
     let inherits = inherited library arrows sw.graph order sw.order old sw.exact c.args.at place here key part entry sw.ready c.in_ok-tables.tables.items are c.in_ok-table.table c.in_ok-table.ensures in
     let is_class : key ≡ class_key key.ident = ap (λ k. record { kind = k; ident = key.ident }) c.in-Class.is in
@@ -135,7 +128,7 @@ returns-in-Macro-clause-sweeps c = λ library sw.
     let place = c.index-place.result.now in
     let here = node_here c.args.self.now.order.items c.args.at place c.requires.within c.index-place.ensures in
     let entry = subst (λ es. IsEntryAt es place c.in-Some.field-0.now.0 c.in-Some.field-0.now.1) sw.entries (found_here c.args.self.now.entries.now place c.in-Some.field-0.now c.in-Some.ensures.lookup.3) in
-    let left = subst (λ l. AreLeft l c.args.at c.args.self.now.tables.items c.taken.new.tables.items) c.as_slice.ensures.value c.in_ok-tables.ensures.left in
+    let left = subst (λ l. AreLeft l c.args.at c.args.self.now.tables.items c.taken.new.tables.items) c.as_slice-last.ensures.value c.in_ok-tables.ensures.left in
     record {
       entries = sw.entries;
       rising = sw.rising;
@@ -146,7 +139,7 @@ returns-in-Macro-clause-sweeps c = λ library sw.
       of_all = c.in_ok-tables.ensures.length ∙ sw.of_all;
       exact = left_exact library c.args.self.now.last.items c.args.at c.args.self.now.tables.items c.taken.new.tables.items left sw.exact;
       ready =
-          passed_ready library c.args.self.now.arrows.items c.args.self.now.order.items c.args.self.now.last.items sw.order c.args.at place here c.in-Some.field-0.now.0 c.in-Some.field-0.now.1 entry
+          passed_ready library c.args.self.now.arrows.now c.args.self.now.order.items c.args.self.now.last.items sw.order c.args.at place here c.in-Some.field-0.now.0 c.in-Some.field-0.now.1 entry
           c.args.self.now.tables.items c.taken.new.tables.items sw.last left sw.ready
           (λ class same.
           ⊎_elim (λ k. let no = kinds_apart c.in-Some.field-0.now.0 kind.Macro kind.Class class k same in cc)
