@@ -6,6 +6,7 @@ ghost use Rattle.odd_modes.specs.After.{spec_at};
 ghost use Rattle.odd_modes.specs.Index.{kept_at, put_over};
 ghost use Rattle.odd_modes.specs.Layering.{AreBelow, AreKeyed, AreRising, is_at, is_below as the_first_is_below, last_of, specs_of, still_to_put, waiting};
 
+use crate::lent::Lent;
 use crate::references::References;
 use crate::sweeping::Act;
 use odd_library::{Entry, Library, Spec};
@@ -13,15 +14,15 @@ use odd_text::{Key, Keyed, NoMemory, Table, TryCopy};
 use std::alloc::Global;
 
 /// What a file does at keys.
-pub type Layer = Table<Key, Act<Spec>>;
+pub type Layer<'a> = Table<Key, Act<Lent<'a>>>;
 
 /// What a file does to a library, by key: its declarations are put, and what else its references refer to is kept.
-pub fn layer_of(
+pub fn layer_of<'a>(
     alloc: Global,
     library: &Library,
     references: &References<'_>,
-    entries: &[Entry],
-) -> Result<Layer, NoMemory>
+    entries: &'a [Entry],
+) -> Result<Layer<'a>, NoMemory>
     ensures { IfOk result (λ layer. (key : AKey) → find key_cmp key layer ≡ put_over (spec_at entries.now key) (kept_at references.now key (find key_cmp key library.now.parts))) }
 {
     let mut specs = specs_by_key(alloc, entries)?;
@@ -72,10 +73,10 @@ fn keyed_specs<'a>(
 }
 
 // Puts the declarations below a key. The list has the first to be put last.
-fn put_below(
+fn put_below<'a>(
     alloc: Global,
-    layer: &mut Layer,
-    specs: &mut Vec<&Spec>,
+    layer: &mut Layer<'a>,
+    specs: &mut Vec<&'a Spec>,
     key: &Key,
 ) -> Result<(), NoMemory>
     requires { IsTrue (is_sorted key_cmp (waiting layer.old (still_to_put specs.old.items))) }
@@ -90,7 +91,11 @@ fn put_below(
 }
 
 // Puts all declarations. The list has the first to be put last.
-fn put_all(alloc: Global, layer: &mut Layer, specs: &mut Vec<&Spec>) -> Result<(), NoMemory>
+fn put_all<'a>(
+    alloc: Global,
+    layer: &mut Layer<'a>,
+    specs: &mut Vec<&'a Spec>,
+) -> Result<(), NoMemory>
     requires { IsTrue (is_sorted key_cmp (waiting layer.old (still_to_put specs.old.items))) }
     ensures { OnOk result (layer.new ≡ waiting layer.old (still_to_put specs.old.items)) }
 {
@@ -101,7 +106,11 @@ fn put_all(alloc: Global, layer: &mut Layer, specs: &mut Vec<&Spec>) -> Result<(
 }
 
 // Puts the next declaration, where it is the last at its key.
-fn put_next(alloc: Global, layer: &mut Layer, specs: &mut Vec<&Spec>) -> Result<(), NoMemory>
+fn put_next<'a>(
+    alloc: Global,
+    layer: &mut Layer<'a>,
+    specs: &mut Vec<&'a Spec>,
+) -> Result<(), NoMemory>
     requires some { 0 < vec_len specs.old }
     requires rising { IsTrue (is_sorted key_cmp (waiting layer.old (still_to_put specs.old.items))) }
     ensures same { OnOk result (waiting layer.new (still_to_put specs.new.items) ≡ waiting layer.old (still_to_put specs.old.items)) }
@@ -115,7 +124,7 @@ fn put_next(alloc: Global, layer: &mut Layer, specs: &mut Vec<&Spec>) -> Result<
         return Ok(());
     }
     let key = spec.key.copy(alloc)?;
-    layer.push(key, Act::Put(spec.copy(alloc)?))
+    layer.push(key, Act::Put(Lent::of(spec)))
 }
 
 // Whether the next declaration is below a key.

@@ -5,6 +5,7 @@
 mod editing;
 mod faults;
 mod layer;
+mod lent;
 mod named;
 mod references;
 mod selecting;

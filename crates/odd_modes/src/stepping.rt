@@ -12,11 +12,11 @@ ghost use Rattle.odd_modes.specs.Offences.{IsFirstOffence, Offends};
 ghost use Rattle.odd_modes.specs.Swept.{swept_at};
 
 use crate::faults::first_fault;
-use crate::layer::layer_of;
+use crate::layer::{Layer, layer_of};
 use crate::references::References;
-use crate::sweeping::{Act, sweep};
-use odd_library::{Library, OddDoc, OddRefusal, Parts, Spec};
-use odd_text::{Key, NoMemory, Steps, Table, TryCopy};
+use crate::sweeping::sweep;
+use odd_library::{Library, OddDoc, OddRefusal, Parts};
+use odd_text::{NoMemory, Steps, TryCopy};
 use std::alloc::Global;
 use std::marker::Brand;
 use std::sync::ledger::{Blank, Ledger};
@@ -84,8 +84,8 @@ fn parts_after(
 }
 
 // The acts laid over the parts, with no count kept.
-fn swept(alloc: Global, parts: Parts, layer: Table<Key, Act<Spec>>) -> Result<Parts, NoMemory>
-    ensures { IfOk result (λ made. (key : AKey) → find key_cmp key made ≡ swept_at spec_laid (find key_cmp key layer) (find key_cmp key parts)) }
+fn swept(alloc: Global, parts: Parts, layer: Layer<'_>) -> Result<Parts, NoMemory>
+    ensures { IfOk result (λ made. (key : AKey) → find key_cmp key made ≡ swept_at spec_laid (find key_cmp key layer.entry) (find key_cmp key parts)) }
 {
     counted::<Brand>(alloc, parts, layer, Blank::new(1))
 }
@@ -94,13 +94,13 @@ fn swept(alloc: Global, parts: Parts, layer: Table<Key, Act<Spec>>) -> Result<Pa
 fn counted<L: Ledger>(
     alloc: Global,
     parts: Parts,
-    layer: Table<Key, Act<Spec>>,
+    layer: Layer<'_>,
     blank: Blank,
 ) -> Result<Parts, NoMemory>
     requires name { blank.name ≡ L.name }
     requires parts { blank.parts ≡ L.parts }
     requires some { 0 < blank.parts }
-    ensures { IfOk result (λ made. (key : AKey) → find key_cmp key made ≡ swept_at spec_laid (find key_cmp key layer) (find key_cmp key parts)) }
+    ensures { IfOk result (λ made. (key : AKey) → find key_cmp key made ≡ swept_at spec_laid (find key_cmp key layer.entry) (find key_cmp key parts)) }
 {
     let mut steps = Steps::<L>::start(blank);
     sweep(alloc, parts, layer, &mut steps)
